@@ -1,0 +1,5 @@
+//! A function in Machine IR: its opcodes, operands, instructions, blocks and names.
+#![tactic(auto)]
+
+pub mod opcode;
+pub mod operand;
