@@ -1,13 +1,7 @@
-// A library with one function.
+//! The meaning of Machine IR: what each opcode gives, memory, calls, blocks and whole runs.
 #![tactic(auto)]
 
-ghost use Rattle.std.specs.Prelude.{◌≡◌};
-ghost use Rattle.gi_meaning.specs.Echo.{echo_of};
-
-// The `ensures` clause is the contract: what `echo` returns is `echo_of` of its argument, a definition
-// in `specs/Echo.antt`, which a caller's clause can cite too.
-pub fn echo(x: usize) -> usize
-    ensures { result ≡ echo_of x }
-{
-    x
+/// The number of bits in a byte.
+pub fn byte_bits() -> u16 {
+    8
 }
