@@ -1,12 +1,12 @@
 -- What an instruction does with its arguments and with what is outside the registers. It knows no virtual
 -- register: reading the arguments and writing the results is the step's.
-use Rattle.std.specs.Prelude.{◌≡◌, ℕ, ◌+◌, ◌-◌, ◌*◌, ◌/◌, ◌%◌, ◌^◌, ◌<◌, List, [], ◌∷◌, ◌++◌, length, map, Option, Some, None, Bool, cond, ◌&&◌, ◌||◌, not, nat_lt, nat_le, ◌==◌, if◌then◌else◌, ◌⊎◌, slice_get, ℤ}
+use Rattle.std.specs.Prelude.{◌≡◌, ℕ, ◌+◌, ◌-◌, ◌*◌, ◌/◌, ◌%◌, ◌^◌, ◌<◌, List, [], ◌∷◌, ◌++◌, length, map, Option, Some, None, Bool, cond, ◌&&◌, ◌||◌, not, nat_lt, nat_le, ◌==◌, if◌then◌else◌, ◌⊎◌, slice_get}
 use Rattle.gi_llt.specs.Bits.{wrapped, unsigned, sign_extended}
 use Rattle.gi_llt.specs.Llt.{width_of}
 use Rattle.gi_mir.specs.declared.operand.MemOp.{MemOp}
 use Rattle.gi_mir.specs.declared.operand.SymbolFlag.TheVariants.{Call}
-use Rattle.gi_meaning.specs.Given.{Given, Exactly, LowBits, Undefined, IsGiven, one, in_low_bits}
-use Rattle.gi_meaning.specs.Argument.{Argument, Value, Implicit, Defined, Number, Bits, Symbol, Called, To, Test, Saved}
+use Rattle.gi_meaning.specs.Given.{Given, LowBits, Undefined, IsGiven, one, in_low_bits}
+use Rattle.gi_meaning.specs.Argument.{Argument, Value, Implicit, Defined, Number, Symbol, Called, To}
 use Rattle.gi_meaning.specs.Machine.{is_immediate}
 use Rattle.gi_meaning.specs.Memory.{Memory, loaded, stored, is_aligned}
 use Rattle.gi_meaning.specs.Routine.{computation, first_routine, InTwoWords}
@@ -51,8 +51,8 @@ AnswersWords x widths given outside answer =
 abbrev pub IsWordOf : (x width value : ℕ) → Argument → Type 0
 IsWordOf x width value argument =
     cond (nat_lt width x)
-        ((word : ℕ) × (word < 2 ^ x) × (word % 2 ^ width ≡ value) × (argument ≡ Value x word))
-        (argument ≡ Value width value)
+    ((word : ℕ) × (word < 2 ^ x) × (word % 2 ^ width ≡ value) × (argument ≡ Value x word))
+    (argument ≡ Value width value)
 
 abbrev pub ReadsAs : (x : ℕ) → Argument → Argument → Type 0
 ReadsAs x (Value width value) argument = IsWordOf x width value argument
@@ -183,9 +183,9 @@ pub record Fits (event : Event) (name : List ℕ) (words : List ℕ) (memory : M
 abbrev pub CallsGlobal : (x : ℕ) → World → (callee words : List ℕ) → (results : ℕ) → Outside → Answer → Type 0
 CallsGlobal x world callee words results outside answer =
     ((event : Event) × (slice_get world.trace outside.taken ≡ Some event) × Fits event callee words outside.memory results
-        × LeavesFree x event.results (record { memory = event.after; taken = outside.taken + 1 }) answer)
+    × LeavesFree x event.results (record { memory = event.after; taken = outside.taken + 1 }) answer)
     ⊎ (((event : Event) → slice_get world.trace outside.taken ≡ Some event → Fits event callee words outside.memory results → ⊥)
-        × (answer ≡ Asks callee words))
+    × (answer ≡ Asks callee words))
 
 -- the two operands, each low word first, stand in x10 to x13, and the results in x10 and x11
 abbrev pub are_routine_registers : List (ℕ × ℕ) → List ℕ → Bool
@@ -200,8 +200,8 @@ routine_given x place _ = Undefined
 abbrev pub CallsRoutine : (x routine : ℕ) → List (ℕ × ℕ) → List ℕ → Outside → Answer → Type 0
 CallsRoutine x routine inputs results outside answer =
     cond (are_routine_registers inputs results && nat_le (first_routine x) routine && nat_lt routine (first_routine x + 5))
-        ((words : List ℕ) × InTwoWords x (routine_given x (routine - first_routine x) inputs) words × LeavesFree x words outside answer)
-        (answer ≡ Breaks)
+    ((words : List ℕ) × InTwoWords x (routine_given x (routine - first_routine x) inputs) words × LeavesFree x words outside answer)
+    (answer ≡ Breaks)
 
 abbrev pub Calls : (x : ℕ) → World → List Argument → Outside → Answer → Type 0
 Calls x world (Symbol Call callee address ∷ rest) outside answer =

@@ -1,13 +1,13 @@
 -- What the generic operations give on values. A value of n bits is a number below 2 ^ n, and one of a pointer
 -- has the width of a register. (Generic Opcodes; Language Reference, "Binary Operations", "Bitwise Binary
 -- Operations", "Conversion Operations", "Standard C/C++ Library Intrinsics", "Bit Manipulation Intrinsics".)
-use Rattle.std.specs.Prelude.{ℕ, zero, suc, ◌+◌, ◌-◌, ◌*◌, ◌/◌, ◌%◌, ◌^◌, List, [], ◌∷◌, Bool, true, false, cond, not, ◌&&◌, ◌||◌, nat_lt, nat_le, ◌==◌, if◌then◌else◌, ℤ, pos, negsuc, ◌+ℤ◌, ◌-ℤ◌, ◌*ℤ◌, neg_ℤ, nat_abs, int_lt, int_le, int_div, int_rem, bit_and, bit_or, bit_xor}
-use Rattle.gi_llt.specs.Bits.{wrapped, signed, unsigned, sign_extended, part_of, unsigned_high_product, signed_high_product}
+use Rattle.std.specs.Prelude.{ℕ, zero, suc, ◌+◌, ◌-◌, ◌*◌, ◌/◌, ◌%◌, ◌^◌, List, [], ◌∷◌, Bool, cond, not, ◌&&◌, ◌||◌, nat_lt, nat_le, ◌==◌, if◌then◌else◌, ℤ, pos, ◌+ℤ◌, ◌-ℤ◌, ◌*ℤ◌, neg_ℤ, nat_abs, int_lt, int_le, int_div, int_rem, bit_and, bit_or}
+use Rattle.gi_llt.specs.Bits.{wrapped, signed, unsigned, sign_extended, part_of}
 use Rattle.gi_mir.specs.declared.operand.Flags.{Flags}
 use Rattle.gi_mir.specs.declared.operand.Pred.{Pred}
 use Rattle.gi_mir.specs.declared.operand.Pred.TheVariants.{Eq, Ne, Ugt, Uge, Ult, Ule, Sgt, Sge, Slt, Sle}
-use Rattle.gi_meaning.specs.Given.{Given, Exactly, LowBits, Undefined, one, free, unless_broken, in_low_bits}
-use Rattle.gi_meaning.specs.Argument.{Argument, Value, Implicit, Defined, Number, Bits, Symbol, Called, To, Test, Saved}
+use Rattle.gi_meaning.specs.Given.{Given, Exactly, LowBits, Undefined, one, free, unless_broken}
+use Rattle.gi_meaning.specs.Argument.{Argument, Value, Number, Bits, Symbol, Test}
 
 -- ══ Sums, differences and products ══
 
@@ -48,7 +48,7 @@ abbrev pub signed_quotient : Flags → (n a b : ℕ) → Given
 signed_quotient flags n a b =
     if (b == 0) || overflows_division n a b then Undefined
     else unless_broken (flags.exact && not (nat_abs (signed n a) % nat_abs (signed n b) == 0))
-        n (unsigned n (int_div (signed n a) (signed n b)))
+    n (unsigned n (int_div (signed n a) (signed n b)))
 
 abbrev pub signed_remainder : (n a b : ℕ) → Given
 signed_remainder n a b =

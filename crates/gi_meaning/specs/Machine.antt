@@ -1,12 +1,12 @@
 -- What the instructions of RISC-V compute on words of x bits, x being 32 or 64.
 -- (RISC-V unprivileged ISA, RV32I, RV64I and M: "Integer Computational Instructions", "Multiplication
 -- Operations", "Division Operations".)
-use Rattle.std.specs.Prelude.{◌≡◌, ℕ, ◌+◌, ◌-◌, ◌*◌, ◌/◌, ◌%◌, ◌^◌, ◌<◌, List, [], ◌∷◌, Bool, true, false, cond, ◌&&◌, nat_lt, nat_le, ◌==◌, if◌then◌else◌, ℤ, pos, negsuc, ◌-ℤ◌, int_lt, int_le, int_div, int_rem, bit_and, bit_or, bit_xor}
-use Rattle.gi_llt.specs.Bits.{wrapped, signed, unsigned, sign_extended, unsigned_high_product, signed_high_product}
-use Rattle.gi_mir.specs.declared.operand.SymbolFlag.TheVariants.{Plain, Call, Hi, Lo}
+use Rattle.std.specs.Prelude.{ℕ, ◌+◌, ◌-◌, ◌*◌, ◌/◌, ◌%◌, ◌^◌, List, [], ◌∷◌, Bool, false, ◌&&◌, nat_lt, ◌==◌, if◌then◌else◌, ℤ, pos, negsuc, int_lt, int_le, int_div, int_rem, bit_and, bit_or, bit_xor}
+use Rattle.gi_llt.specs.Bits.{wrapped, signed, unsigned, sign_extended}
+use Rattle.gi_mir.specs.declared.operand.SymbolFlag.TheVariants.{Hi, Lo}
 use Rattle.gi_meaning.specs.Given.{Given, Undefined, one}
-use Rattle.gi_meaning.specs.Argument.{Argument, Value, Implicit, Defined, Number, Bits, Symbol, Called, To, Test, Saved}
-use Rattle.gi_meaning.specs.Generic.{difference_of, arithmetic_shift_of, bit_of}
+use Rattle.gi_meaning.specs.Argument.{Argument, Value, Number, Symbol}
+use Rattle.gi_meaning.specs.Generic.{arithmetic_shift_of, bit_of}
 
 -- ══ On two words ══
 

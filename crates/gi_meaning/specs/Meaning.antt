@@ -1,12 +1,12 @@
 -- The table of what each opcode means.
 -- (Generic Opcodes; Machine IR's target-independent opcodes; RISC-V unprivileged ISA, RV32I, RV64I and M.)
-use Rattle.std.specs.Prelude.{ℕ, ◌+◌, ◌*◌, List, Bool, false, not, ◌==◌, nat_lt, nat_le, int_lt, int_le, bit_and, bit_xor, if◌then◌else◌, nat_abs, pos}
+use Rattle.std.specs.Prelude.{ℕ, ◌+◌, List, Bool, false, not, ◌==◌, nat_lt, nat_le, int_lt, int_le, bit_and, bit_xor, if◌then◌else◌, nat_abs, pos}
 use Rattle.gi_llt.specs.Bits.{wrapped, signed, unsigned, sign_extended, unsigned_high_product, signed_high_product}
 use Rattle.gi_mir.specs.declared.opcode.Opcode.{Opcode}
 use Rattle.gi_mir.specs.declared.opcode.Opcode.TheVariants as op
 use Rattle.gi_mir.specs.declared.operand.Flags.{Flags}
 use Rattle.gi_mir.specs.declared.operand.Pred.TheVariants.{Sgt, Slt, Ugt, Ult}
-use Rattle.gi_meaning.specs.Given.{Given, LowBits, Undefined, one, free, in_low_bits}
+use Rattle.gi_meaning.specs.Given.{Given, one, free, in_low_bits}
 use Rattle.gi_meaning.specs.Argument.{Argument}
 use Rattle.gi_meaning.specs.Generic as generic
 use Rattle.gi_meaning.specs.Machine as machine

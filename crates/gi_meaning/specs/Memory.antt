@@ -1,6 +1,6 @@
 -- Memory: a byte at each address that is there. Addresses are words of x bits, and the lowest byte comes first.
 -- (Language Reference, "Memory Access and Addressing Operations"; RISC-V unprivileged ISA, "Load and Store Instructions".)
-use Rattle.std.specs.Prelude.{ℕ, zero, suc, ◌+◌, ◌*◌, ◌/◌, ◌%◌, ◌==◌, if◌then◌else◌, Option, Some, None, option_map, Bool, cond}
+use Rattle.std.specs.Prelude.{ℕ, zero, suc, ◌+◌, ◌*◌, ◌/◌, ◌%◌, ◌==◌, if◌then◌else◌, Option, Some, None, option_map, Bool}
 use Rattle.gi_llt.specs.Bits.{wrapped}
 
 abbrev pub Memory : Type 0

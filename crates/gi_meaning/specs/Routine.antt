@@ -1,8 +1,8 @@
 -- The routines of the runtime for products, quotients and remainders of two words each.
 -- (RISC-V ELF psABI, "Procedure Calling Convention"; the names are those of libgcc's "Routines for integer arithmetic".)
-use Rattle.std.specs.Prelude.{◌≡◌, ℕ, ◌+◌, ◌*◌, ◌^◌, List, [], ◌∷◌, length, Bool, false, ◌==◌, if◌then◌else◌}
+use Rattle.std.specs.Prelude.{◌≡◌, ℕ, List, [], ◌∷◌, length, false, ◌==◌, if◌then◌else◌}
 use Rattle.gi_mir.specs.declared.operand.Flags.{Flags}
-use Rattle.gi_meaning.specs.Given.{Given, Exactly, LowBits, Undefined}
+use Rattle.gi_meaning.specs.Given.{Given, Exactly, Undefined}
 use Rattle.gi_meaning.specs.Generic.{product, unsigned_quotient, unsigned_remainder, signed_quotient, signed_remainder, parts_of}
 use Rattle.gi_meaning.specs.State.{AreWords}
 

@@ -1,6 +1,6 @@
 -- Runs of a function: steps, blocks, and whole runs of so many block entries.
 -- (MIR Format Reference Manual, "Basic Blocks"; Language Reference, "phi" and "Terminator Instructions".)
-use Rattle.std.specs.Prelude.{◌≡◌, ℕ, zero, suc, ◌+◌, ◌≤◌, List, [], ◌∷◌, ◌++◌, map, length, take, Option, Some, None, option_map, unwrap_or, Bool, true, false, cond, ◌&&◌, ◌||◌, nat_lt, ◌==◌, if◌then◌else◌, ◌⊎◌, slice_get}
+use Rattle.std.specs.Prelude.{◌≡◌, ℕ, zero, suc, ◌+◌, ◌≤◌, List, [], ◌∷◌, ◌++◌, map, take, Option, Some, None, option_map, unwrap_or, Bool, false, cond, ◌||◌, ◌==◌, if◌then◌else◌, ◌⊎◌, slice_get}
 use Rattle.gi_llt.specs.Llt.{width_of}
 use Rattle.gi_mir.specs.Data.{InstrData, BlockData, FunctionData}
 use Rattle.gi_mir.specs.Registers.{kind_of}
@@ -9,8 +9,8 @@ use Rattle.gi_mir.specs.declared.operand.Kind.TheVariants as kind
 use Rattle.gi_mir.specs.declared.operand.Operand.{Operand}
 use Rattle.gi_mir.specs.declared.operand.Operand.TheVariants as operand
 use Rattle.gi_meaning.specs.Argument.{Argument, Value, Implicit, Defined, Number, Bits, Symbol, Called, To, Test, Saved}
-use Rattle.gi_meaning.specs.State.{World, State, Outside, outside_of, start, Outcome, Returned, Going, Asking, Fails, Place, Virtual, Physical, word_in, value_in, put}
-use Rattle.gi_meaning.specs.Meaning.{Meaning, Calling, Nothing, Joining, meaning_of, is_joining}
+use Rattle.gi_meaning.specs.State.{World, State, outside_of, start, Outcome, Returned, Going, Asking, Fails, Place, Virtual, Physical, word_in, put}
+use Rattle.gi_meaning.specs.Meaning.{Meaning, Calling, Nothing, meaning_of, is_joining}
 use Rattle.gi_meaning.specs.Act.{Answer, Results, Leaves, Returns, Asks, Breaks, Act, clobbered, is_result_register}
 
 -- ══ What instructions are read in ══
@@ -119,7 +119,7 @@ StepsFrom setting world i state None progress = progress ≡ Over Fails
 StepsFrom setting world i state (Some arguments) progress =
     (answer : Answer)
     × Act setting.x world (meaning_of i.flags i.op) i.mem
-        (map (width_of_place setting) (written_places (meaning_of i.flags i.op) i.operands)) arguments (outside_of state) answer
+    (map (width_of_place setting) (written_places (meaning_of i.flags i.op) i.operands)) arguments (outside_of state) answer
     × (progress ≡ progress_of state (written_places (meaning_of i.flags i.op) i.operands) answer)
 
 abbrev pub Steps : Setting → World → InstrData → State → Progress → Type 0
