@@ -1,0 +1,12 @@
+//! Sources and sinks of bytes that tell each fault by a count.
+#![tactic(auto)]
+
+mod sinks;
+mod sources;
+
+pub use sinks::{Output, write_all};
+pub use sources::{Input, ReadError, read_all};
+
+/// A call failed; the count of faults rose in it.
+#[derive(Clone, Copy, Debug, PartialEq, Eq)]
+pub struct Failed;
