@@ -1,9 +1,11 @@
 //! Sources and sinks of bytes that tell each fault by a count.
 #![tactic(auto)]
 
+mod memory_source;
 mod sinks;
 mod sources;
 
+pub use memory_source::MemInput;
 pub use sinks::{Output, write_all};
 pub use sources::{Input, ReadError, read_all};
 

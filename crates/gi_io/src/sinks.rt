@@ -33,7 +33,7 @@ pub trait Output {
         ensures failed { OnErr result (Rose (faults self.old) (faults self.new)) }
         ensures tells_stays { tells self.new ≡ tells self.old }
         ensures tells_place_stays { tells_place self.new ≡ tells_place self.old }
-        ensures place_stays { IsTrue (tells_place self.old) → place self.new ≡ place self.old }
+        ensures place_stays { place self.new ≡ place self.old }
         ensures held_stays { IsTrue (tells self.old) → held self.new ≡ held self.old }
         ensures is_created { IsTrue (created self.new) }
         ensures at_place {
@@ -46,7 +46,7 @@ pub trait Output {
         ensures failed { OnErr result (Rose (faults self.old) (faults self.new)) }
         ensures tells_stays { tells self.new ≡ tells self.old }
         ensures tells_place_stays { tells_place self.new ≡ tells_place self.old }
-        ensures place_stays { IsTrue (tells_place self.old) → place self.new ≡ place self.old }
+        ensures place_stays { place self.new ≡ place self.old }
         ensures created_stays { created self.new ≡ created self.old }
         ensures fits { IfOk result (λ n. n ≤ length bytes.now) }
         ensures takes_some { IfOk result (λ n. 0 < length bytes.now → 0 < n) }
@@ -64,7 +64,7 @@ pub fn write_all<O: Output>(out: &mut O, bytes: &[u8]) -> Result<(), Failed>
     ensures failed { OnErr result (Rose (O.faults out.old) (O.faults out.new)) }
     ensures tells_stays { O.tells out.new ≡ O.tells out.old }
     ensures tells_place_stays { O.tells_place out.new ≡ O.tells_place out.old }
-    ensures place_stays { IsTrue (O.tells_place out.old) → O.place out.new ≡ O.place out.old }
+    ensures place_stays { O.place out.new ≡ O.place out.old }
     ensures created_stays { O.created out.new ≡ O.created out.old }
     ensures whole {
         OnOk result (IsTrue (O.tells out.old) → O.held out.new ≡ O.held out.old ++ bytes.now)

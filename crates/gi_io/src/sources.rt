@@ -27,7 +27,7 @@ pub trait Input {
         ensures faults_never_fall { faults self.old ≤ faults self.new }
         ensures failed { OnErr result (Rose (faults self.old) (faults self.new)) }
         ensures tells_stays { tells self.new ≡ tells self.old }
-        ensures stored_stays { IsTrue (tells self.old) → stored self.new ≡ stored self.old }
+        ensures stored_stays { stored self.new ≡ stored self.old }
         ensures opened {
             OnOk result (IsTrue (tells self.old) → left self.new ≡ stored self.old (option_copied name.entry))
         }
@@ -38,7 +38,7 @@ pub trait Input {
         ensures faults_never_fall { faults self.old ≤ faults self.new }
         ensures failed { OnErr result (Rose (faults self.old) (faults self.new)) }
         ensures tells_stays { tells self.new ≡ tells self.old }
-        ensures stored_stays { IsTrue (tells self.old) → stored self.new ≡ stored self.old }
+        ensures stored_stays { stored self.new ≡ stored self.old }
         ensures fits { IfOk result (λ n. n ≤ length buf.old) }
         ensures taken {
             IfOk result (λ n. IsTrue (tells self.old) → left self.old ≡ take n buf.new ++ left self.new)
@@ -75,7 +75,7 @@ pub fn read_all<I: Input>(alloc: Global, input: &mut I, limit: usize) -> Result<
         IsErrOf result ReadError.ReadFault → Rose (I.faults input.old) (I.faults input.new)
     }
     ensures tells_stays { I.tells input.new ≡ I.tells input.old }
-    ensures stored_stays { IsTrue (I.tells input.old) → I.stored input.new ≡ I.stored input.old }
+    ensures stored_stays { I.stored input.new ≡ I.stored input.old }
     ensures within_limit { IfOk result (λ v. vec_len v ≤ limit) }
     ensures all { IfOk result (λ v. IsTrue (I.tells input.old) → v.items ≡ I.left input.old) }
     ensures at_end { OnOk result (IsTrue (I.tells input.old) → I.left input.new ≡ []) }

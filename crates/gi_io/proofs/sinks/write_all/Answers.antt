@@ -8,7 +8,7 @@ loop-done-preserved g c = record {
   faults_never_fall = omega (arith, c.loop-done.invariant.faults_never_fall, c.in_ok-done.ensures.faults_never_fall);
   tells_stays = cc (c.loop-done.invariant.tells_stays, c.in_ok-done.ensures.tells_stays);
   tells_place_stays = cc (c.loop-done.invariant.tells_place_stays, c.in_ok-done.ensures.tells_place_stays);
-  place_stays = λ told. let told_then : IsTrue (g.O.Output.tells_place c.loop-done.out) = rw c.loop-done.invariant.tells_place_stays told in cc (c.in_ok-done.ensures.place_stays told_then, c.loop-done.invariant.place_stays told);
+  place_stays = cc (c.loop-done.invariant.place_stays, c.in_ok-done.ensures.place_stays);
   created_stays = cc (c.loop-done.invariant.created_stays, c.in_ok-done.ensures.created_stays);
   within = search rules;
   appended = λ told. let told_then : IsTrue (g.O.Output.tells c.loop-done.out) = rw c.loop-done.invariant.tells_stays told in take_more_appended _ _ _ _ _ _ (c.loop-done.invariant.appended told) (c.in_ok-done.ensures.appended told_then);
