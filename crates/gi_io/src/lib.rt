@@ -1,10 +1,13 @@
 //! Sources and sinks of bytes that tell each fault by a count.
 #![tactic(auto)]
 
+mod calls;
+mod memory_sink;
 mod memory_source;
 mod sinks;
 mod sources;
 
+pub use memory_sink::MemOutput;
 pub use memory_source::MemInput;
 pub use sinks::{Output, write_all};
 pub use sources::{Input, ReadError, read_all};

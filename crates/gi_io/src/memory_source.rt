@@ -11,6 +11,7 @@ ghost use Rattle.gi_io.specs.Opened.{opened_bytes};
 use std::marker::Model;
 
 use crate::Failed;
+use crate::calls::count_call;
 use crate::sources::Input;
 
 // What was opened last.
@@ -105,22 +106,6 @@ fn bytes_opened<'a>(
             None => &[],
         },
     }
-}
-
-// What a call with a number among these, and otherwise with this outcome, does to the counts.
-fn count_call(calls: &mut u32, faults: &mut u64, fail: &[u32], fails_anyhow: bool) -> bool
-    ensures fails { result ≡ is_made_to_fail fail.now calls.old || fails_anyhow }
-    ensures calls { calls.new ≡ call_after calls.old }
-    ensures faults { faults.new ≡ (if result then fault_after faults.old else faults.old) }
-    ensures never_fall { faults.old ≤ faults.new }
-    ensures rose { IsTrue result → Rose faults.old faults.new }
-{
-    *calls = calls.saturating_add(1);
-    let fails = fail.contains(calls) || fails_anyhow;
-    if fails {
-        *faults = faults.saturating_add(1);
-    }
-    fails
 }
 
 impl Input for MemInput {
