@@ -4,4 +4,5 @@ pub mod Files
 pub mod MemorySink
 pub mod MemorySource
 pub mod Opened
+pub mod StandardSink
 pub mod Writing
