@@ -6,14 +6,12 @@ ghost use Rattle.std.specs.Str.{bytes_eq};
 ghost use Rattle.gi_io.specs.Faults.{Rose};
 ghost use Rattle.gi_io.specs.MemorySink.{create_fails, write_fails, taken_of, created_sink, sink_with, failed_sink};
 
-use std::alloc::Global;
-use std::marker::Model;
-
-use gi_llt::Memory;
-
 use crate::Failed;
 use crate::calls::count_call;
 use crate::sinks::Output;
+use gi_llt::Memory;
+use std::alloc::Global;
+use std::marker::Model;
 
 /// Bytes in memory. Its calls are numbered from 1, and those in `fail` fail.
 #[derive(Drop)]
@@ -36,14 +34,14 @@ impl Model for MemOutput {
     ghost Value = { MemorySink };
 
     ghost view = { λ a. record {
-        place = option_map (λ name. string_bytes name) a.place;
-        piece = a.piece;
-        room = a.room;
-        fail = a.fail.items;
-        calls = a.calls;
-        faults = a.faults;
-        held = a.held.items;
-        created = a.created
+      place = option_map (λ name. string_bytes name) a.place;
+      piece = a.piece;
+      room = a.room;
+      fail = a.fail.items;
+      calls = a.calls;
+      faults = a.faults;
+      held = a.held.items;
+      created = a.created;
     } };
 
     ghost invariant = { λ a. (vec_len a.held ≤ a.room) × (a.room ≤ vec_capacity a.held) };
@@ -92,9 +90,7 @@ impl MemOutput {
 
 // The names are the same, or there are none.
 fn is_same_name(place: &Option<String>, name: Option<&str>) -> bool
-    ensures {
-        result ≡ option_eq bytes_eq (option_map (λ own. string_bytes own) place.now) (option_copied name.entry)
-    }
+    ensures { result ≡ option_eq bytes_eq (option_map (λ own. string_bytes own) place.now) (option_copied name.entry) }
 {
     match (place, name) {
         (None, None) => true,
@@ -129,7 +125,12 @@ impl Output for MemOutput {
     {
         self.created = true;
         let elsewhere = !is_same_name(&self.place, name);
-        if count_call(&mut self.calls, &mut self.faults, self.fail.as_slice(), elsewhere) {
+        if count_call(
+            &mut self.calls,
+            &mut self.faults,
+            self.fail.as_slice(),
+            elsewhere,
+        ) {
             return Err(Failed);
         }
         Ok(())
@@ -148,7 +149,12 @@ impl Output for MemOutput {
         ensures takes_some { IfOk result (λ n. 0 < length bytes.now → 0 < n) }
     {
         let full = !bytes.is_empty() && self.room <= self.held.len();
-        if count_call(&mut self.calls, &mut self.faults, self.fail.as_slice(), full) {
+        if count_call(
+            &mut self.calls,
+            &mut self.faults,
+            self.fail.as_slice(),
+            full,
+        ) {
             return Err(Failed);
         }
         let piece = self.piece.max(1).min(self.room - self.held.len());

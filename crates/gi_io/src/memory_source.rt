@@ -8,11 +8,10 @@ ghost use Rattle.gi_io.specs.Files.{bytes_under, files_of};
 ghost use Rattle.gi_io.specs.MemorySource.{stored_in, open_fails, failed_source, source_with};
 ghost use Rattle.gi_io.specs.Opened.{opened_bytes};
 
-use std::marker::Model;
-
 use crate::Failed;
 use crate::calls::count_call;
 use crate::sources::Input;
+use std::marker::Model;
 
 // What was opened last.
 #[derive(Clone, Copy)]
@@ -44,12 +43,12 @@ impl Model for MemInput {
     ghost use Rattle.gi_io.specs.Opened.{opened_bytes};
 
     ghost view = { λ a. record {
-        files = files_of a.files.items;
-        standard = a.standard.items;
-        fail = a.fail.items;
-        calls = a.calls;
-        faults = a.faults;
-        left = drop a.taken (opened_bytes a.opened (files_of a.files.items) a.standard.items)
+      files = files_of a.files.items;
+      standard = a.standard.items;
+      fail = a.fail.items;
+      calls = a.calls;
+      faults = a.faults;
+      left = drop a.taken (opened_bytes a.opened (files_of a.files.items) a.standard.items);
     } };
 }
 
@@ -77,9 +76,7 @@ impl MemInput {
 
 // The place of the first file of the name.
 fn find_file(files: &[(String, Vec<u8>)], name: &str) -> Option<usize>
-    ensures found {
-        IfSome result (λ k. bytes_under (files_of files.now) name.now ≡ Some (opened_bytes (Opened.File k) (files_of files.now) []))
-    }
+    ensures found { IfSome result (λ k. bytes_under (files_of files.now) name.now ≡ Some (opened_bytes (Opened.File k) (files_of files.now) [])) }
     ensures none { IfNone result (bytes_under (files_of files.now) name.now ≡ None) }
 {
     for (k, file) in files.iter().enumerate() {
@@ -91,11 +88,7 @@ fn find_file(files: &[(String, Vec<u8>)], name: &str) -> Option<usize>
 }
 
 // All bytes of what is opened.
-fn bytes_opened<'a>(
-    opened: Opened,
-    files: &'a [(String, Vec<u8>)],
-    standard: &'a [u8],
-) -> &'a [u8]
+fn bytes_opened<'a>(opened: Opened, files: &'a [(String, Vec<u8>)], standard: &'a [u8]) -> &'a [u8]
     ensures { result.now ≡ opened_bytes opened (files_of files.now) standard.now }
 {
     match opened {
@@ -120,9 +113,7 @@ impl Input for MemInput {
     // Fails exactly at a number in `fail` and where no file has the name.
     fn open(&mut self, name: Option<&str>) -> Result<(), Failed>
         ensures fails { is_err result ≡ open_fails self.old (option_copied name.entry) }
-        ensures opened {
-            OnOk result (self.new ≡ source_with self.old (stored_in self.old (option_copied name.entry)))
-        }
+        ensures opened { OnOk result (self.new ≡ source_with self.old (stored_in self.old (option_copied name.entry))) }
         ensures counted { OnErr result (self.new ≡ failed_source self.old) }
 
         // As `Input` says.
@@ -134,7 +125,12 @@ impl Input for MemInput {
             None => Some(Opened::Standard),
             Some(name) => find_file(self.files.as_slice(), name).map(Opened::File),
         };
-        if count_call(&mut self.calls, &mut self.faults, self.fail.as_slice(), found.is_none()) {
+        if count_call(
+            &mut self.calls,
+            &mut self.faults,
+            self.fail.as_slice(),
+            found.is_none(),
+        ) {
             return Err(Failed);
         }
         if let Some(opened) = found {
@@ -161,7 +157,12 @@ impl Input for MemInput {
         ensures beyond { IfOk result (λ n. drop n buf.new ≡ drop n buf.old) }
         ensures end { IfOk result (λ n. 0 < length buf.old → (n ≡ 0) ↔ (self.old.left ≡ [])) }
     {
-        if count_call(&mut self.calls, &mut self.faults, self.fail.as_slice(), false) {
+        if count_call(
+            &mut self.calls,
+            &mut self.faults,
+            self.fail.as_slice(),
+            false,
+        ) {
             return Err(Failed);
         }
         let bytes = bytes_opened(self.opened, self.files.as_slice(), self.standard.as_slice());

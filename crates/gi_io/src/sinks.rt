@@ -36,9 +36,7 @@ pub trait Output {
         ensures place_stays { place self.new ≡ place self.old }
         ensures held_stays { IsTrue (tells self.old) → held self.new ≡ held self.old }
         ensures is_created { IsTrue (created self.new) }
-        ensures at_place {
-            OnOk result (IsTrue (tells_place self.old) → option_copied name.entry ≡ place self.old)
-        };
+        ensures at_place { OnOk result (IsTrue (tells_place self.old) → option_copied name.entry ≡ place self.old) };
 
     /// Appends a prefix of the bytes, and answers how long it is.
     fn write(&mut self, bytes: &[u8]) -> Result<usize, Failed>
@@ -50,9 +48,7 @@ pub trait Output {
         ensures created_stays { created self.new ≡ created self.old }
         ensures fits { IfOk result (λ n. n ≤ length bytes.now) }
         ensures takes_some { IfOk result (λ n. 0 < length bytes.now → 0 < n) }
-        ensures appended {
-            IfOk result (λ n. IsTrue (tells self.old) → held self.new ≡ held self.old ++ take n bytes.now)
-        }
+        ensures appended { IfOk result (λ n. IsTrue (tells self.old) → held self.new ≡ held self.old ++ take n bytes.now) }
         ensures failed_leaves { OnErr result (IsTrue (tells self.old) → held self.new ≡ held self.old) };
 }
 
@@ -66,12 +62,8 @@ pub fn write_all<O: Output>(out: &mut O, bytes: &[u8]) -> Result<(), Failed>
     ensures tells_place_stays { O.tells_place out.new ≡ O.tells_place out.old }
     ensures place_stays { O.place out.new ≡ O.place out.old }
     ensures created_stays { O.created out.new ≡ O.created out.old }
-    ensures whole {
-        OnOk result (IsTrue (O.tells out.old) → O.held out.new ≡ O.held out.old ++ bytes.now)
-    }
-    ensures prefix {
-        OnErr result (IsTrue (O.tells out.old) → AppendsPrefix (O.held out.old) (O.held out.new) bytes.now)
-    }
+    ensures whole { OnOk result (IsTrue (O.tells out.old) → O.held out.new ≡ O.held out.old ++ bytes.now) }
+    ensures prefix { OnErr result (IsTrue (O.tells out.old) → AppendsPrefix (O.held out.old) (O.held out.new) bytes.now) }
 {
     let mut done = 0;
     while done < bytes.len() {

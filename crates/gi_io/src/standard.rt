@@ -4,15 +4,13 @@
 
 ghost use Rattle.std.specs.Prelude.{◌≡◌, ◌<◌, ◌≤◌, [], length, None, false, IfOk, OnOk, OnErr};
 
-use std::fs;
-use std::io;
-use std::io::{ErrorKind, Input as InputStream, Read, Write};
-use std::marker::Model;
-use std::rt::Files;
-
 use crate::Failed;
 use crate::sinks::Output;
 use crate::sources::Input;
+use std::io::{ErrorKind, Input as InputStream, Read, Write};
+use std::marker::Model;
+use std::rt::Files;
+use std::{fs, io};
 
 // What was opened last.
 #[derive(Drop)]
@@ -76,7 +74,11 @@ fn write_some<S: Write>(sink: &mut S, bytes: &[u8]) -> Result<usize, Failed>
     for _ in 0..u64::MAX {
         match sink.write(bytes) {
             Ok(count) => {
-                return if count == 0 && !bytes.is_empty() { Err(Failed) } else { Ok(count) };
+                return if count == 0 && !bytes.is_empty() {
+                    Err(Failed)
+                } else {
+                    Ok(count)
+                };
             }
             Err(error) => {
                 if error.kind() != ErrorKind::Interrupted {
