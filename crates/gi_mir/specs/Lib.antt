@@ -1,1 +1,3 @@
 pub mod Data
+pub mod Formed
+pub mod Row
