@@ -84,10 +84,14 @@ start_of byte = if is_word_start byte then OfWord
     else if is_mark byte then OfMark
     else OfNothing
 
--- the bytes from the front on that pass a test
-abbrev pub run_of : (ℕ → Bool) → List ℕ → List ℕ
+-- what passes a test from the front on, and the rest after it
+abbrev pub run_of : {X : Type 0} → (X → Bool) → List X → List X
 run_of test [] = []
-run_of test (byte ∷ rest) = if test byte then byte ∷ run_of test rest else []
+run_of test (first ∷ rest) = if test first then first ∷ run_of test rest else []
+
+abbrev pub past_run : {X : Type 0} → (X → Bool) → List X → List X
+past_run test [] = []
+past_run test (first ∷ rest) = if test first then past_run test rest else first ∷ rest
 
 -- up to a byte and with it, if it is there
 abbrev pub through : ℕ → List ℕ → Option (List ℕ)
