@@ -7,7 +7,7 @@ use Rattle.std.proofs.lemmas.Bool.{and_parts, or_cases, cases_Bool, not-true, fa
 use Rattle.std.proofs.lemmas.Bool.Decides.{nat_tests}
 use Rattle.gi_llt.specs.Tokens.{LexemeKind, Word, Number, Register, Physical, Global, Routine, Quoted, Metadata, Mark, Lexeme, lexeme, is_within, is_digit, is_hexadecimal_digit, is_word_start, is_word_byte, is_blank, is_mark, Start, OfBlank, OfComment, OfWord, OfNumber, OfMinus, OfName, OfQuoted, OfMetadata, OfMark, OfNothing, start_of, run_of, Found, FoundBlank, FoundComment, FoundToken, FoundNothing, found_some, found_minus, found_number, found_hexadecimal, found, tokens_from, tokens_past, tokens_of, Piece, Token, Spaces, piece_bytes, piece_lexemes, token, is_formed, is_ended, IsApart}
 
-and_right_false : (b : Bool) → (b && false) ≡ false
+pub and_right_false : (b : Bool) → (b && false) ≡ false
 and_right_false true = refl
 and_right_false false = refl
 
@@ -30,13 +30,13 @@ tokens_past-append [] rest = refl
 tokens_past-append (byte ∷ skipped) rest = tokens_past-append skipped rest
 
 -- the tests of bytes
-digit_no_start : (byte : ℕ) → is_digit byte ≡ true → is_word_start byte ≡ false
+pub digit_no_start : (byte : ℕ) → is_digit byte ≡ true → is_word_start byte ≡ false
 digit_no_start byte digit = grind (arith, nat_tests)
 
-digit_word_byte : (byte : ℕ) → is_digit byte ≡ true → is_word_byte byte ≡ true
+pub digit_word_byte : (byte : ℕ) → is_digit byte ≡ true → is_word_byte byte ≡ true
 digit_word_byte byte digit = grind (arith, nat_tests)
 
-no_word_no_digit : (byte : ℕ) → is_word_byte byte ≡ false → is_digit byte ≡ false
+pub no_word_no_digit : (byte : ℕ) → is_word_byte byte ≡ false → is_digit byte ≡ false
 no_word_no_digit byte other = grind (arith, nat_tests)
 
 digit_no_letter : (byte : ℕ) → is_digit byte ≡ true → (byte == 120) ≡ false
@@ -45,11 +45,11 @@ digit_no_letter byte digit = grind (arith, nat_tests)
 no_word_no_letter : (byte : ℕ) → is_word_byte byte ≡ false → (byte == 120) ≡ false
 no_word_no_letter byte other = grind (arith, nat_tests)
 
-stopped_digits : (rest : List ℕ) → is_stopped is_word_byte rest ≡ true → is_stopped is_digit rest ≡ true
+pub stopped_digits : (rest : List ℕ) → is_stopped is_word_byte rest ≡ true → is_stopped is_digit rest ≡ true
 stopped_digits [] stopped = refl
 stopped_digits (byte ∷ rest) stopped = ap not (no_word_no_digit byte (not-true (is_word_byte byte) stopped))
 
-all_word_bytes : (digits : List ℕ) → list_all is_digit digits ≡ true → list_all is_word_byte digits ≡ true
+pub all_word_bytes : (digits : List ℕ) → list_all is_digit digits ≡ true → list_all is_word_byte digits ≡ true
 all_word_bytes [] all = refl
 all_word_bytes (digit ∷ digits) all =
     let parts = and_parts (is_digit digit) (list_all is_digit digits) all in
@@ -63,7 +63,7 @@ found_word : (byte : ℕ) (more rest : List ℕ) → is_word_start byte ≡ true
     → found (start_of byte) byte (more ++ rest) ≡ FoundToken Word more
 found_word byte more rest start all stopped = rw start (ap (FoundToken Word) (run_of-append is_word_byte more rest all stopped))
 
-found_digit : (byte : ℕ) (rest : List ℕ) → is_stopped is_word_byte rest ≡ true → found_number byte rest ≡ FoundToken Number []
+pub found_digit : (byte : ℕ) (rest : List ℕ) → is_stopped is_word_byte rest ≡ true → found_number byte rest ≡ FoundToken Number []
 found_digit byte [] stopped = refl
 found_digit byte (next ∷ rest) stopped =
     let other : is_word_byte next ≡ false = not-true (is_word_byte next) stopped in
@@ -98,11 +98,11 @@ found_name kind byte next more rest start first all stopped =
     rw start (ap (found_some kind) (run_of-append is_word_byte (next ∷ more) rest (both_true first all) stopped))
 
 -- P of each of a list, and of what is one of them
-abbrev Each : (P : ℕ → Type 0) → List ℕ → Type 0
+abbrev pub Each : (P : ℕ → Type 0) → List ℕ → Type 0
 Each P [] = ⊤
 Each P (x ∷ xs) = P x × Each P xs
 
-one_of : (P : ℕ → Type 0) (byte : ℕ) (xs : List ℕ) → Each P xs → list_any (λ x. byte == x) xs ≡ true → P byte
+pub one_of : (P : ℕ → Type 0) (byte : ℕ) (xs : List ℕ) → Each P xs → list_any (λ x. byte == x) xs ≡ true → P byte
 one_of P byte [] each any = absurd (false≢true any)
 one_of P byte (x ∷ xs) each any = one_or_later (or_cases (byte == x) (list_any (λ x. byte == x) xs) any) (one_of P byte xs each.1)
   where
