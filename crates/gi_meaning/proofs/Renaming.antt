@@ -4,7 +4,7 @@ use mathlib.Core.Path.{fun_ext}
 use Rattle.std.proofs.lemmas.Option.{slice_get-map}
 use Rattle.gi_llt.specs.Llt.{width_of}
 use Rattle.gi_mir.specs.Data.{InstrData, BlockData, FunctionData}
-use Rattle.gi_mir.specs.Registers.{first_of_both, kind_in_operand, kind_in_operands, kind_in_instrs, kind_in_blocks, kind_of}
+use Rattle.gi_mir.specs.Registers.{first_there, kind_in_operand, kind_in_operands, kind_in_instrs, kind_in_blocks, kind_of}
 use Rattle.gi_mir.specs.declared.operand.Kind.{Kind}
 use Rattle.gi_mir.specs.declared.operand.Kind.TheVariants as kind
 use Rattle.gi_mir.specs.declared.operand.MemOp.{MemOp}
@@ -287,15 +287,15 @@ kind_in_operand_old number h r _ = refl
 
 kind_in_operands_old : (number : ℕ → ℕ) → IsInjective number → (r : ℕ) (os : List Operand) → kind_in_operands (number r) (map (renamed_operand number) os) ≡ kind_in_operands r os
 kind_in_operands_old number h r [] = refl
-kind_in_operands_old number h r (o ∷ os) = ap₂ first_of_both (kind_in_operand_old number h r o) (kind_in_operands_old number h r os)
+kind_in_operands_old number h r (o ∷ os) = ap₂ first_there (kind_in_operand_old number h r o) (kind_in_operands_old number h r os)
 
 kind_in_instrs_old : (number : ℕ → ℕ) → IsInjective number → (r : ℕ) (is : List (ℕ × InstrData)) → kind_in_instrs (number r) (map (renamed_pair number) is) ≡ kind_in_instrs r is
 kind_in_instrs_old number h r [] = refl
-kind_in_instrs_old number h r (i ∷ is) = ap₂ first_of_both (kind_in_operands_old number h r i.1.operands) (kind_in_instrs_old number h r is)
+kind_in_instrs_old number h r (i ∷ is) = ap₂ first_there (kind_in_operands_old number h r i.1.operands) (kind_in_instrs_old number h r is)
 
 kind_in_blocks_old : (number : ℕ → ℕ) → IsInjective number → (r : ℕ) (bs : List BlockData) → kind_in_blocks (number r) (map (renamed_block number) bs) ≡ kind_in_blocks r bs
 kind_in_blocks_old number h r [] = refl
-kind_in_blocks_old number h r (b ∷ bs) = ap₂ first_of_both (kind_in_instrs_old number h r b.instrs) (kind_in_blocks_old number h r bs)
+kind_in_blocks_old number h r (b ∷ bs) = ap₂ first_there (kind_in_instrs_old number h r b.instrs) (kind_in_blocks_old number h r bs)
 
 setting_old : (number : ℕ → ℕ) → IsInjective number → (x : ℕ) (names : List (List ℕ)) (f : FunctionData)
     → old_setting number (setting_of x names (renamed number f)) ≡ setting_of x names f
