@@ -1,3 +1,4 @@
 pub mod Data
+pub mod Edit
 pub mod Formed
 pub mod Row

@@ -1,6 +1,7 @@
 //! A function in Machine IR: its opcodes, operands, instructions, blocks and names.
 #![tactic(auto)]
 
+pub mod function;
 pub mod instr;
 pub mod opcode;
 pub mod operand;
