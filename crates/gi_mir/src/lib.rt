@@ -1,7 +1,9 @@
 //! A function in Machine IR: its opcodes, operands, instructions, blocks and names.
 #![tactic(auto)]
 
+pub mod function;
 pub mod instr;
+pub mod names;
 pub mod opcode;
 pub mod operand;
 pub mod row;

@@ -1,0 +1,79 @@
+-- What the edits of a function make of it.
+use Rattle.std.specs.Prelude.{ℕ, ◌+◌, max, Bool, true, false, List, [], ◌∷◌, ◌++◌, Option, Some, None, ◌==◌, map, flat_map, fold, length, insert, position, unwrap_or, slice_index_or, slice_set}
+use Rattle.gi_mir.specs.Data.{InstrData, BlockData, FunctionData}
+use Rattle.gi_mir.specs.declared.function.InstrId.{InstrId}
+use Rattle.gi_mir.specs.declared.operand.Operand.{Operand}
+use Rattle.gi_mir.specs.declared.operand.Operand.TheVariants.{Def, Use}
+use Rattle.gi_mir.specs.declared.operand.StackObject.{StackObject}
+
+-- a block without its instructions
+pub record HeadData : Type 0 where
+  pub successors : List ℕ
+  pub liveins : List ℕ
+
+abbrev pub head_of : BlockData → HeadData
+head_of b = record { successors = b.successors; liveins = b.liveins }
+
+-- the block with this head and no instruction
+abbrev pub block_with : HeadData → BlockData
+block_with h = record { successors = h.successors; liveins = h.liveins; instrs = [] }
+
+abbrev pub empty_block : BlockData
+empty_block = record { successors = []; liveins = []; instrs = [] }
+
+-- the block at this place in layout
+abbrev pub block_at : FunctionData → ℕ → BlockData
+block_at f block = slice_index_or f.blocks block empty_block
+
+-- the function with this name and nothing in it
+abbrev pub empty_function : ℕ → FunctionData
+empty_function name =
+    record { name = name; legalized = false; banked = false; selected = false; stack = []; blocks = []; next_reg = 0; next_id = 0 }
+
+abbrev pub with_block : FunctionData → HeadData → FunctionData
+with_block f head = record f { blocks = f.blocks ++ block_with head ∷ [] }
+
+abbrev pub with_stack : FunctionData → StackObject → FunctionData
+with_stack f object = record f { stack = f.stack ++ object ∷ [] }
+
+abbrev pub with_keys : FunctionData → Bool → Bool → Bool → FunctionData
+with_keys f legalized banked selected = record f { legalized = legalized; banked = banked; selected = selected }
+
+-- one more than the number of the virtual register in an operand, and 0 where there is none
+abbrev pub register_above : Operand → ℕ
+register_above (Def r k) = r.0 + 1
+register_above (Use r) = r.0 + 1
+register_above _ = 0
+
+-- the greatest of a number and of one more than each virtual register's number
+abbrev pub above_registers : ℕ → List Operand → ℕ
+above_registers n operands = fold (λ m x. max m (register_above x)) n operands
+
+-- the place of the first instruction with this id, and the end where there is none
+abbrev pub place_of : ℕ → List (ℕ × InstrData) → ℕ
+place_of id instrs = unwrap_or (position (λ p. p.0 == id) instrs) (length instrs)
+
+-- one more instruction, before the one with this id or last
+abbrev pub instrs_with : List (ℕ × InstrData) → Option InstrId → ℕ × InstrData → List (ℕ × InstrData)
+instrs_with instrs None new = instrs ++ new ∷ []
+instrs_with instrs (Some id) new = insert instrs (place_of id.0 instrs) new
+
+abbrev pub block_with_instr : BlockData → Option InstrId → ℕ × InstrData → BlockData
+block_with_instr b before new = record b { instrs = instrs_with b.instrs before new }
+
+-- the function with one more instruction, which has the next id
+abbrev pub with_instr : FunctionData → ℕ → Option InstrId → InstrData → FunctionData
+with_instr f block before instr =
+    record f {
+      blocks = slice_set f.blocks block (block_with_instr (block_at f block) before (f.next_id, instr));
+      next_reg = above_registers f.next_reg instr.operands;
+      next_id = f.next_id + 1;
+    }
+
+-- the ids of a block's instructions
+abbrev pub ids_of : BlockData → List ℕ
+ids_of b = map (λ p. p.0) b.instrs
+
+-- the ids of all instructions, in layout order
+abbrev pub live_ids : FunctionData → List ℕ
+live_ids f = flat_map ids_of f.blocks
