@@ -1,2 +1,3 @@
-pub mod Words
 pub mod AddExample
+pub mod InstrPieces
+pub mod Words
