@@ -141,3 +141,131 @@ operand_safe kinds names is_typed (Global flag name) named =
 operand_safe kinds names is_typed (Routine flag place) named =
     symbol_safe flag (token RoutineName (38 ∷ name_at routine_names place)) (one_safe RoutineName (38 ∷ name_at routine_names place) (routine_formed (name_at routine_names place) named))
 operand_safe kinds names is_typed SavedMask named = one_safe Word (codes "csr_ilp32_lp64") refl
+
+-- each of a list of cells
+abbrev pub AllSafe : List (List Piece) → Type 0
+AllSafe [] = ⊤
+AllSafe (cell ∷ cells) = IsSafe cell × AllSafe cells
+
+listed_safe : (cells : List (List Piece)) → AllSafe cells → IsSafe (listed cells)
+listed_safe [] safe after apart closed = apart
+listed_safe (cell ∷ []) safe after apart closed = safe.0 after apart closed
+listed_safe (cell ∷ next ∷ cells) safe after apart closed =
+    subst IsApart (sym (append_assoc cell (mark 44 ∷ Spaces 1 ∷ listed (next ∷ cells)) after))
+    (safe.0 ((mark 44 ∷ Spaces 1 ∷ listed (next ∷ cells)) ++ after) (refl, refl, listed_safe (next ∷ cells) safe.1 after apart closed) refl)
+
+pub sources_apart : (cells : List (List Piece)) → AllSafe cells → IsSafe (sources_pieces cells)
+sources_apart [] safe after apart closed = apart
+sources_apart (cell ∷ cells) safe after apart closed = listed_safe (cell ∷ cells) safe after apart closed
+
+pub sources_closed : (cells : List (List Piece)) (after : List Piece) → is_closed after ≡ true → is_closed (sources_pieces cells ++ after) ≡ true
+sources_closed [] after closed = closed
+sources_closed (cell ∷ cells) after closed = refl
+
+source_safe : (kinds : ℕ → Kind) (names : List (List ℕ)) (forms : List Form) (operands : List Operand) → list_all (is_named_operand names) operands ≡ true
+    → AllSafe (source_pieces kinds names forms operands)
+source_safe kinds names forms [] named = tt
+source_safe kinds names forms (operand ∷ operands) named =
+    let parts = and_parts (is_named_operand names operand) (list_all (is_named_operand names) operands) named in
+    (operand_safe kinds names (is_typed_by forms) operand parts.0, source_safe kinds names (forms_after forms) operands parts.1)
+
+-- definitions need no names
+defined_named : (operands : List Operand) → list_all (is_named_operand []) (definitions_of operands) ≡ true
+defined_named [] = refl
+defined_named (Def reg kind ∷ operands) = defined_named operands
+defined_named (PhysDef number ∷ operands) = defined_named operands
+defined_named (_ ∷ operands) = refl
+
+definition_safe : (operands : List Operand) → list_all (is_named_operand []) operands ≡ true → AllSafe (definition_pieces operands)
+definition_safe [] named = tt
+definition_safe (operand ∷ operands) named =
+    let parts = and_parts (is_named_operand [] operand) (list_all (is_named_operand []) operands) named in
+    (operand_safe (λ reg. Class) [] false operand parts.0, definition_safe operands parts.1)
+
+-- what stands before `=` ends in a space, and so do flags
+defined_apart : (cells : List (List Piece)) → AllSafe cells → (after : List Piece) → IsApart after → IsApart (defined_pieces cells ++ after)
+defined_apart [] safe after apart = apart
+defined_apart (cell ∷ cells) safe after apart =
+    subst IsApart (sym (append_assoc (listed (cell ∷ cells)) (Spaces 1 ∷ mark 61 ∷ Spaces 1 ∷ []) after))
+    (listed_safe (cell ∷ cells) safe (Spaces 1 ∷ mark 61 ∷ Spaces 1 ∷ after) (refl, refl, apart) refl)
+
+flag_apart : (flag : Bool) (bytes : List ℕ) (after : List Piece) → is_formed Word bytes ≡ true → IsApart after → IsApart (flag_pieces flag bytes ++ after)
+flag_apart false bytes after formed apart = apart
+flag_apart true bytes after formed apart = (formed, refl, apart)
+
+flags_apart : (flags : Flags) (after : List Piece) → IsApart after → IsApart (flags_pieces flags ++ after)
+flags_apart flags after apart =
+    let nuw = flag_pieces flags.nuw (codes "nuw") in
+    let nsw = flag_pieces flags.nsw (codes "nsw") in
+    let exact = flag_pieces flags.exact (codes "exact") in
+    let disjoint = flag_pieces flags.disjoint (codes "disjoint") in
+    let nneg = flag_pieces flags.nneg (codes "nneg") in
+    let regrouped : (nuw ++ (nsw ++ (exact ++ (disjoint ++ nneg)))) ++ after ≡ nuw ++ (nsw ++ (exact ++ (disjoint ++ (nneg ++ after)))) = simp append_assoc in
+    subst IsApart (sym regrouped)
+    (flag_apart flags.nuw (codes "nuw") (nsw ++ (exact ++ (disjoint ++ (nneg ++ after)))) refl
+    (flag_apart flags.nsw (codes "nsw") (exact ++ (disjoint ++ (nneg ++ after))) refl
+    (flag_apart flags.exact (codes "exact") (disjoint ++ (nneg ++ after)) refl
+    (flag_apart flags.disjoint (codes "disjoint") (nneg ++ after) refl
+    (flag_apart flags.nneg (codes "nneg") after refl apart)))))
+
+-- the word of every opcode
+op_formed : (op : Opcode) → is_formed Word (word_of op) ≡ true
+op_formed Copy = refl
+op_formed _ = refl
+
+align_apart : (align usual : ℕ) → IsSafe (align_pieces align usual)
+align_apart align usual after apart closed = go (align == usual)
+  where
+    go : (is_usual : Bool) → IsApart ((if is_usual then [] else mark 44 ∷ Spaces 1 ∷ word (codes "align") ∷ Spaces 1 ∷ token Number (decimal align) ∷ []) ++ after)
+    go true = apart
+    go false = (refl, refl, (refl, refl, (decimal_number align, ended_from_stopped Number (piece_bytes after) closed, apart)))
+
+align_closed : (align usual : ℕ) (after : List Piece) → is_closed after ≡ true → is_closed (align_pieces align usual ++ after) ≡ true
+align_closed align usual after closed = go (align == usual)
+  where
+    go : (is_usual : Bool) → is_closed ((if is_usual then [] else mark 44 ∷ Spaces 1 ∷ word (codes "align") ∷ Spaces 1 ∷ token Number (decimal align) ∷ []) ++ after) ≡ true
+    go true = closed
+    go false = refl
+
+access_formed : (load : Bool) → is_formed Word (if load then codes "load" else codes "store") ≡ true
+access_formed true = refl
+access_formed false = refl
+
+access_ended : (load : Bool) (after : List Piece) → is_ended Mark (piece_bytes (word (if load then codes "load" else codes "store") ∷ after)) ≡ true
+access_ended true after = refl
+access_ended false after = refl
+
+memory_apart : (mem : Option MemOp) → IsApart (memory_pieces mem)
+memory_apart None = tt
+memory_apart (Some memory) =
+    let aligned = align_pieces memory.align (usual_align memory.ty) in
+    let end : IsApart (aligned ++ (mark 41 ∷ [])) = align_apart memory.align (usual_align memory.ty) (mark 41 ∷ []) (refl, refl, tt) refl in
+    let closed : is_closed (aligned ++ (mark 41 ∷ [])) ≡ true = align_closed memory.align (usual_align memory.ty) (mark 41 ∷ []) refl in
+    let typed : IsApart (bracketed (type_piece memory.ty ∷ []) ++ (aligned ++ (mark 41 ∷ []))) = bracketed_type memory.ty (aligned ++ (mark 41 ∷ [])) end closed in
+    (refl, refl, (refl, refl, (refl, access_ended memory.load (Spaces 1 ∷ (bracketed (type_piece memory.ty ∷ []) ++ (aligned ++ (mark 41 ∷ [])))), (access_formed memory.load, refl, typed))))
+
+memory_closed : (mem : Option MemOp) → is_closed (memory_pieces mem) ≡ true
+memory_closed None = refl
+memory_closed (Some memory) = refl
+
+sources_named : (names : List (List ℕ)) (operands : List Operand) → list_all (is_named_operand names) operands ≡ true → list_all (is_named_operand names) (sources_of operands) ≡ true
+sources_named names [] named = refl
+sources_named names (Def reg kind ∷ operands) named = sources_named names operands named
+sources_named names (PhysDef number ∷ operands) named = sources_named names operands named
+sources_named names (_ ∷ operands) named = named
+
+-- the pieces of an instruction stand apart
+pub instr_apart : (kinds : ℕ → Kind) (names : List (List ℕ)) (instr : InstrData) → list_all (is_named_operand names) instr.operands ≡ true
+    → IsApart (instr_pieces kinds names instr)
+instr_apart kinds names instr named =
+    let cells = source_pieces kinds names (source_forms (first_row (rows_of instr.op))) (sources_of instr.operands) in
+    let safe : AllSafe cells = source_safe kinds names (source_forms (first_row (rows_of instr.op))) (sources_of instr.operands) (sources_named names instr.operands named) in
+    let after : IsApart (sources_pieces cells ++ memory_pieces instr.mem) =
+        sources_apart cells safe (memory_pieces instr.mem) (memory_apart instr.mem) (memory_closed instr.mem) in
+    let closed : is_closed (sources_pieces cells ++ memory_pieces instr.mem) ≡ true = sources_closed cells (memory_pieces instr.mem) (memory_closed instr.mem) in
+    let ended : is_ended Word (piece_bytes (sources_pieces cells ++ memory_pieces instr.mem)) ≡ true =
+        ended_from_stopped Word (piece_bytes (sources_pieces cells ++ memory_pieces instr.mem)) closed in
+    let worded : IsApart (word (word_of instr.op) ∷ (sources_pieces cells ++ memory_pieces instr.mem)) = (op_formed instr.op, ended, after) in
+    defined_apart (definition_pieces (definitions_of instr.operands)) (definition_safe (definitions_of instr.operands) (defined_named instr.operands))
+    (flags_pieces instr.flags ++ (word (word_of instr.op) ∷ (sources_pieces cells ++ memory_pieces instr.mem)))
+    (flags_apart instr.flags (word (word_of instr.op) ∷ (sources_pieces cells ++ memory_pieces instr.mem)) worded)
