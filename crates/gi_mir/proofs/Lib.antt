@@ -1,3 +1,4 @@
+pub mod AddExample
+pub mod InstrPieces
 pub mod NamesLemmas
 pub mod Words
-pub mod AddExample

@@ -2,7 +2,9 @@ pub mod Data
 pub mod Edit
 pub mod Formed
 pub mod Names
+pub mod Printable
 pub mod Printed
 pub mod Registers
 pub mod Row
 pub mod Spelling
+pub mod Stated

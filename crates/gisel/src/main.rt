@@ -1,0 +1,6 @@
+//! GlobalISel for RISC-V: reads Machine IR, runs passes over it and prints it.
+#![tactic(auto)]
+
+mod statement;
+
+fn main() {}
