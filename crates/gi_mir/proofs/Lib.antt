@@ -1,3 +1,4 @@
 pub mod AddExample
+pub mod BlockLines
 pub mod InstrPieces
 pub mod Words
