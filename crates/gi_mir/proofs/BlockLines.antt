@@ -134,7 +134,7 @@ instr_inner kinds names instr named =
     let s = instr_starts kinds names instr.1 in
     inner_line 3 (instr_pieces kinds names instr.1) s.first s.rest (instr_apart kinds names instr.1 named) s.whole
 
-instrs_inner : (kinds : ℕ → Kind) (names : List (List ℕ)) (instrs : List (ℕ × InstrData)) → list_all (is_named_instr names) instrs ≡ true
+pub instrs_inner : (kinds : ℕ → Kind) (names : List (List ℕ)) (instrs : List (ℕ × InstrData)) → list_all (is_named_instr names) instrs ≡ true
     → EachLine IsInner (instr_lines kinds names instrs)
 instrs_inner kinds names [] named = tt
 instrs_inner kinds names (instr ∷ instrs) named =
@@ -145,7 +145,7 @@ instr_items : (kinds : ℕ → Kind) (names : List (List ℕ)) (instr : ℕ × I
     → line_items (instr_line kinds names instr.1) ≡ Some (piece_lexemes (instr_pieces kinds names instr.1))
 instr_items kinds names instr named = line_items-pieces 4 (instr_pieces kinds names instr.1) (instr_apart kinds names instr.1 named)
 
-instrs_spelled : (kinds : ℕ → Kind) (names : List (List ℕ)) (instrs : List (ℕ × InstrData)) → list_all (is_named_instr names) instrs ≡ true
+pub instrs_spelled : (kinds : ℕ → Kind) (names : List (List ℕ)) (instrs : List (ℕ × InstrData)) → list_all (is_named_instr names) instrs ≡ true
     → AllZip (SpellsInstr kinds names) (instr_lines kinds names instrs) instrs
 instrs_spelled kinds names [] named = tt
 instrs_spelled kinds names (instr ∷ instrs) named =
@@ -156,7 +156,7 @@ instr_no_block : (kinds : ℕ → Kind) (names : List (List ℕ)) (instr : ℕ �
 instr_no_block kinds names instr named =
     ap begins_block (instr_items kinds names instr named) ∙ no_block (piece_lexemes (instr_pieces kinds names instr.1)) (instr_starts kinds names instr.1)
 
-instrs_no_block : (kinds : ℕ → Kind) (names : List (List ℕ)) (instrs : List (ℕ × InstrData)) → list_all (is_named_instr names) instrs ≡ true
+pub instrs_no_block : (kinds : ℕ → Kind) (names : List (List ℕ)) (instrs : List (ℕ × InstrData)) → list_all (is_named_instr names) instrs ≡ true
     → EachLine (λ line. is_block_head line ≡ false) (instr_lines kinds names instrs)
 instrs_no_block kinds names [] named = tt
 instrs_no_block kinds names (instr ∷ instrs) named =
@@ -168,7 +168,7 @@ instr_no_list kinds names instr named =
     ap (λ items. begins_list (codes "successors") items || begins_list (codes "liveins") items) (instr_items kinds names instr named)
     ∙ no_list (piece_lexemes (instr_pieces kinds names instr.1)) (instr_starts kinds names instr.1)
 
-instrs_stop : (kinds : ℕ → Kind) (names : List (List ℕ)) (instrs : List (ℕ × InstrData)) → list_all (is_named_instr names) instrs ≡ true
+pub instrs_stop : (kinds : ℕ → Kind) (names : List (List ℕ)) (instrs : List (ℕ × InstrData)) → list_all (is_named_instr names) instrs ≡ true
     → is_stopped is_list_line (instr_lines kinds names instrs) ≡ true
 instrs_stop kinds names [] named = refl
 instrs_stop kinds names (instr ∷ instrs) named =
@@ -182,13 +182,13 @@ head_apart place = (decimal_words place, refl, (refl, refl, tt))
 abbrev pub head_line : ℕ → List ℕ
 head_line place = piece_bytes (Spaces 2 ∷ block_head_pieces place)
 
-head_items : (place : ℕ) → line_items (head_line place) ≡ Some (piece_lexemes (block_head_pieces place))
+pub head_items : (place : ℕ) → line_items (head_line place) ≡ Some (piece_lexemes (block_head_pieces place))
 head_items place = line_items-pieces 2 (block_head_pieces place) (head_apart place)
 
-head_inner : (place : ℕ) → IsInner (head_line place)
+pub head_inner : (place : ℕ) → IsInner (head_line place)
 head_inner place = inner_line 1 (block_head_pieces place) (lexeme Word (codes "bb." ++ decimal place)) (lexeme Mark (58 ∷ []) ∷ []) (head_apart place) refl
 
-head_begins : (place : ℕ) → is_block_head (head_line place) ≡ true
+pub head_begins : (place : ℕ) → is_block_head (head_line place) ≡ true
 head_begins place = ap begins_block (head_items place)
 
 -- the lines of its lists
@@ -219,20 +219,20 @@ successors_line successors = piece_bytes (Spaces 4 ∷ successors_pieces success
 abbrev pub liveins_line : List ℕ → List ℕ
 liveins_line liveins = piece_bytes (Spaces 4 ∷ liveins_pieces liveins)
 
-successors_items : (successors : List ℕ) → line_items (successors_line successors) ≡ Some (piece_lexemes (successors_pieces successors))
+pub successors_items : (successors : List ℕ) → line_items (successors_line successors) ≡ Some (piece_lexemes (successors_pieces successors))
 successors_items successors = line_items-pieces 4 (successors_pieces successors) (successors_apart successors)
 
-liveins_items : (liveins : List ℕ) → line_items (liveins_line liveins) ≡ Some (piece_lexemes (liveins_pieces liveins))
+pub liveins_items : (liveins : List ℕ) → line_items (liveins_line liveins) ≡ Some (piece_lexemes (liveins_pieces liveins))
 liveins_items liveins = line_items-pieces 4 (liveins_pieces liveins) (liveins_apart liveins)
 
 -- a line that is a list and no block's head, and which of the two lists it is
-record IsListLine (line : List ℕ) (is_successors : Bool) : Type 0 where
-  inner : IsInner line
-  no_head : is_block_head line ≡ false
-  one : lists (codes "successors") line ≡ is_successors
-  other : lists (codes "liveins") line ≡ not is_successors
+pub record IsListLine (line : List ℕ) (is_successors : Bool) : Type 0 where
+  pub inner : IsInner line
+  pub no_head : is_block_head line ≡ false
+  pub one : lists (codes "successors") line ≡ is_successors
+  pub other : lists (codes "liveins") line ≡ not is_successors
 
-successors_listed : (successors : List ℕ) → IsListLine (successors_line successors) true
+pub successors_listed : (successors : List ℕ) → IsListLine (successors_line successors) true
 successors_listed successors = record {
   inner = inner_line 3 (successors_pieces successors) (lexeme Word (codes "successors")) _ (successors_apart successors) refl;
   no_head = ap begins_block (successors_items successors);
@@ -240,7 +240,7 @@ successors_listed successors = record {
   other = ap (begins_list (codes "liveins")) (successors_items successors)
 }
 
-liveins_listed : (liveins : List ℕ) → IsListLine (liveins_line liveins) false
+pub liveins_listed : (liveins : List ℕ) → IsListLine (liveins_line liveins) false
 liveins_listed liveins = record {
   inner = inner_line 3 (liveins_pieces liveins) (lexeme Word (codes "liveins")) _ (liveins_apart liveins) refl;
   no_head = ap begins_block (liveins_items liveins);

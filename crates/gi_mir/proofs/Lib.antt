@@ -1,4 +1,6 @@
 pub mod AddExample
 pub mod BlockLines
+pub mod Blocks
+pub mod Documents
 pub mod InstrPieces
 pub mod Words
