@@ -5,24 +5,31 @@ use Rattle.std.specs.List.{list_any, list_all}
 use Rattle.std.specs.Cmp.Derive.{both_true}
 use Rattle.std.proofs.lemmas.Bool.{and_parts, or_cases, cases_Bool, not-true, false≢true, eqb-true, leb-true, leb-false, lt-leb, le-leb, ne_eqb, eq-eqb, both_ways, or_from, or_parts}
 use Rattle.std.proofs.lemmas.Bool.Decides.{nat_tests}
-use Rattle.gi_llt.specs.Tokens.{LexemeKind, Word, Number, Register, Physical, Global, Routine, Quoted, Metadata, Mark, Lexeme, lexeme, is_within, is_digit, is_hexadecimal_digit, is_word_start, is_word_byte, is_blank, is_mark, Start, OfBlank, OfComment, OfWord, OfNumber, OfMinus, OfName, OfQuoted, OfMetadata, OfMark, OfNothing, start_of, run_of, Found, FoundBlank, FoundComment, FoundToken, FoundNothing, found_some, found_minus, found_number, found_hexadecimal, found, tokens_from, tokens_past, tokens_of, Piece, Token, Spaces, piece_bytes, piece_lexemes, token, is_formed, is_ended, IsApart}
+use Rattle.gi_llt.specs.Tokens.{LexemeKind, Word, Number, Register, Physical, Global, Routine, Quoted, Metadata, Mark, Lexeme, lexeme, is_within, is_digit, is_hexadecimal_digit, is_word_start, is_word_byte, is_blank, is_mark, Start, OfBlank, OfComment, OfWord, OfNumber, OfMinus, OfName, OfQuoted, OfMetadata, OfMark, OfNothing, start_of, run_of, past_run, Found, FoundBlank, FoundComment, FoundToken, FoundNothing, found_some, found_minus, found_number, found_hexadecimal, found, tokens_from, tokens_past, tokens_of, Piece, Token, Spaces, piece_bytes, piece_lexemes, token, is_formed, is_ended, IsApart}
 
 pub and_right_false : (b : Bool) → (b && false) ≡ false
 and_right_false true = refl
 and_right_false false = refl
 
 -- what begins with nothing that passes a test
-abbrev pub is_stopped : (ℕ → Bool) → List ℕ → Bool
+abbrev pub is_stopped : {X : Type 0} → (X → Bool) → List X → Bool
 is_stopped test [] = true
-is_stopped test (byte ∷ rest) = not (test byte)
+is_stopped test (first ∷ rest) = not (test first)
 
 -- a run that what follows it stops
-pub run_of-append : (test : ℕ → Bool) (xs ys : List ℕ) → list_all test xs ≡ true → is_stopped test ys ≡ true → run_of test (xs ++ ys) ≡ xs
+pub run_of-append : {X : Type 0} (test : X → Bool) (xs ys : List X) → list_all test xs ≡ true → is_stopped test ys ≡ true → run_of test (xs ++ ys) ≡ xs
 run_of-append test [] [] all stopped = refl
 run_of-append test [] (y ∷ ys) all stopped = rw (not-true (test y) stopped) refl
 run_of-append test (x ∷ xs) ys all stopped =
     let parts = and_parts (test x) (list_all test xs) all in
     rw parts.0 (ap (λ zs. x ∷ zs) (run_of-append test xs ys parts.1 stopped))
+
+pub past_run-append : {X : Type 0} (test : X → Bool) (xs ys : List X) → list_all test xs ≡ true → is_stopped test ys ≡ true → past_run test (xs ++ ys) ≡ ys
+past_run-append test [] [] all stopped = refl
+past_run-append test [] (y ∷ ys) all stopped = rw (not-true (test y) stopped) refl
+past_run-append test (x ∷ xs) ys all stopped =
+    let parts = and_parts (test x) (list_all test xs) all in
+    rw parts.0 (past_run-append test xs ys parts.1 stopped)
 
 -- bytes that are skipped
 pub tokens_past-append : (skipped rest : List ℕ) → tokens_past (skipped ++ rest) (length skipped) ≡ tokens_past rest 0

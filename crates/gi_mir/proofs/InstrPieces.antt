@@ -76,10 +76,10 @@ def_safe : (number : ℕ) (kind : Kind) → IsSafe (register_piece number ∷ ki
 def_safe number kind after apart closed =
     register_before number (kind_pieces kind ++ after) (kind_safe kind after apart closed) (kind_closed kind after)
 
-physical_safe : (number : ℕ) → IsSafe (physical_piece number ∷ [])
+pub physical_safe : (number : ℕ) → IsSafe (physical_piece number ∷ [])
 physical_safe number = one_safe Physical (36 ∷ 120 ∷ decimal number) (decimal_words number)
 
-block_safe : (place : ℕ) → IsSafe (block_piece place ∷ [])
+pub block_safe : (place : ℕ) → IsSafe (block_piece place ∷ [])
 block_safe place = one_safe Register (codes "%bb." ++ decimal place) (decimal_words place)
 
 frame_safe : (place : ℕ) → IsSafe (frame_piece place ∷ [])

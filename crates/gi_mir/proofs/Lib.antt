@@ -1,4 +1,7 @@
 pub mod AddExample
+pub mod BlockLines
+pub mod Blocks
+pub mod Documents
 pub mod InstrPieces
 pub mod NamesLemmas
 pub mod Words
