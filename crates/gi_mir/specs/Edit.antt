@@ -1,7 +1,8 @@
 -- What the edits of a function make of it.
-use Rattle.std.specs.Prelude.{ℕ, ◌+◌, max, Bool, true, false, List, [], ◌∷◌, ◌++◌, Option, Some, None, ◌==◌, map, flat_map, fold, length, insert, position, unwrap_or, slice_index_or, slice_set}
+use Rattle.std.specs.Prelude.{◌≡◌, ℕ, ◌+◌, ◌-◌, max, Bool, true, false, List, [], ◌∷◌, ◌++◌, Option, Some, None, ◌==◌, map, flat_map, fold, length, insert, remove, position, unwrap_or, option_map, if◌then◌else◌, slice_get, slice_index_or, slice_set}
+use Rattle.std.specs.List.{list_any, position_or_len}
 use Rattle.gi_mir.specs.Data.{InstrData, BlockData, FunctionData}
-use Rattle.gi_mir.specs.declared.function.InstrId.{InstrId}
+use Rattle.gi_mir.specs.declared.block.InstrId.{InstrId}
 use Rattle.gi_mir.specs.declared.operand.Operand.{Operand}
 use Rattle.gi_mir.specs.declared.operand.Operand.TheVariants.{Def, Use}
 use Rattle.gi_mir.specs.declared.operand.StackObject.{StackObject}
@@ -51,7 +52,7 @@ above_registers n operands = fold (λ m x. max m (register_above x)) n operands
 
 -- the place of the first instruction with this id, and the end where there is none
 abbrev pub place_of : ℕ → List (ℕ × InstrData) → ℕ
-place_of id instrs = unwrap_or (position (λ p. p.0 == id) instrs) (length instrs)
+place_of id instrs = position_or_len (λ p. p.0 == id) instrs
 
 -- one more instruction, before the one with this id or last
 abbrev pub instrs_with : List (ℕ × InstrData) → Option InstrId → ℕ × InstrData → List (ℕ × InstrData)
@@ -69,6 +70,53 @@ with_instr f block before instr =
       next_reg = above_registers f.next_reg instr.operands;
       next_id = f.next_id + 1;
     }
+
+-- whether a block has the instruction with this id
+abbrev pub has_instr : ℕ → BlockData → Bool
+has_instr id b = list_any (λ p. p.0 == id) b.instrs
+
+-- the place of the first block that has this instruction
+abbrev pub home_of : FunctionData → ℕ → ℕ
+home_of f id = position_or_len (has_instr id) f.blocks
+
+-- an id is live while its instruction is in the function
+abbrev pub IsLive : FunctionData → ℕ → Type 0
+IsLive f id = list_any (has_instr id) f.blocks ≡ true
+
+-- the block that has this instruction
+abbrev pub home_block : FunctionData → ℕ → BlockData
+home_block f id = block_at f (home_of f id)
+
+-- the place of this instruction in its block
+abbrev pub place_in_block : FunctionData → ℕ → ℕ
+place_in_block f id = place_of id (home_block f id).instrs
+
+-- the instruction at this place of a block, with its id
+abbrev pub entry_at : BlockData → ℕ → Option (ℕ × InstrData)
+entry_at b place = slice_get b.instrs place
+
+abbrev pub id_at : BlockData → ℕ → Option ℕ
+id_at b place = option_map (λ p. p.0) (entry_at b place)
+
+-- the instruction with this id
+abbrev pub instr_of : FunctionData → ℕ → Option InstrData
+instr_of f id = option_map (λ p. p.1) (entry_at (home_block f id) (place_in_block f id))
+
+-- the neighbours in the same block
+abbrev pub id_after : FunctionData → ℕ → Option ℕ
+id_after f id = id_at (home_block f id) (place_in_block f id + 1)
+
+abbrev pub id_before : FunctionData → ℕ → Option ℕ
+id_before f id = if place_in_block f id == 0 then None else id_at (home_block f id) (place_in_block f id - 1)
+
+-- the function without this instruction
+abbrev pub without_instr : FunctionData → ℕ → FunctionData
+without_instr f id =
+    let b = home_block f id in
+    record f { blocks = slice_set f.blocks (home_of f id) (record b { instrs = remove b.instrs (place_in_block f id) }) }
+
+abbrev pub with_new_reg : FunctionData → FunctionData
+with_new_reg f = record f { next_reg = f.next_reg + 1 }
 
 -- the ids of a block's instructions
 abbrev pub ids_of : BlockData → List ℕ
