@@ -1,5 +1,5 @@
 -- The first place at which a test passes.
-use Rattle.std.proofs.Common.{◌≡◌, ℕ, ◌+◌, ◌<◌, ◌≤◌, Bool, true, false, not, ◌||◌, List, [], ◌∷◌, Option, Some, None, cond, length, nat_lt, refl, arith, ap}
+use Rattle.std.proofs.Common.{◌≡◌, ℕ, suc, ◌+◌, ◌<◌, ◌≤◌, Bool, true, false, not, ◌||◌, List, [], ◌∷◌, Option, Some, None, cond, length, get_or, nat_lt, refl, arith, ap}
 use Rattle.std.specs.Prelude.{position, unwrap_or}
 use Rattle.std.specs.List.{list_any, position_or_len}
 use Rattle.std.proofs.lemmas.Bool.Decides.{nat_tests}
@@ -30,3 +30,12 @@ unwrap_or-position p xs = by (position_or_len p xs) (length xs) (position_or_len
 -- the answer of a search, and its place
 pub place_of_answer : {X : Type 0} (p : X → Bool) (xs : List X) (r : Option ℕ) (m : ℕ) → r ≡ position p xs → m ≡ unwrap_or r (length xs) → m ≡ position_or_len p xs
 place_of_answer p xs r m e f = cc (unwrap_or-position p xs, ap (λ o. unwrap_or o (length xs)) e)
+
+-- and that element passes
+pub position_or_len-passes : {X : Type 0} (p : X → Bool) (xs : List X) (d : X) → list_any p xs ≡ true → p (get_or xs (position_or_len p xs) d) ≡ true
+position_or_len-passes p [] d h = cc
+position_or_len-passes p (x ∷ xs) d h = by (p x) refl (position_or_len-passes p xs d) h
+  where
+    by : (b : Bool) → p x ≡ b → (list_any p xs ≡ true → p (get_or xs (position_or_len p xs) d) ≡ true) → (b || list_any p xs) ≡ true → p (get_or (x ∷ xs) (cond (not b) (1 + position_or_len p xs) 0) d) ≡ true
+    by true e more h = e
+    by false e more h = let one : 1 + position_or_len p xs ≡ suc (position_or_len p xs) = omega arith in rw one (more h)

@@ -1,8 +1,9 @@
 //! Blocks of numbered instructions.
 
-ghost use Rattle.std.specs.Prelude.{◌≡◌, ◌==◌, ◌≤◌, ◌<◌, length, position, remove, slice_get, option_map, OnOk, OnErr, IfSome, Some};
+ghost use Rattle.std.specs.Prelude.{◌≡◌, ◌==◌, ◌≤◌, ◌<◌, ◌-◌, ◌^◌, length, position, remove, slice_get, option_map, OnOk, OnErr, IfSome, Some, true};
 ghost use Rattle.std.specs.List.{list_any};
-ghost use Rattle.gi_mir.specs.Edit.{block_with, block_with_instr, has_instr, id_at, place_of};
+ghost use Rattle.gi_mir.specs.Formed.{is_formed};
+ghost use Rattle.gi_mir.specs.Edit.{block_with, block_with_instr, entry_at, has_instr, id_at, place_of};
 
 use crate::instr::Instr;
 use gi_llt::Memory;
@@ -85,6 +86,8 @@ impl Body {
     pub(crate) fn place_of(&self, id: InstrId) -> usize
         ensures value { result ≡ place_of id.0 self.now.instrs }
         ensures within { result ≤ length self.now.instrs }
+        ensures found { has_instr id.0 self.now ≡ true → result < length self.now.instrs }
+        ensures small { result < 2 ^ 64 - 1 }
     {
         place_of(self.instrs.as_slice(), id)
     }
@@ -97,6 +100,29 @@ impl Body {
             Some(n) => Some(n.id()),
             None => None,
         }
+    }
+
+    /// The instruction with this id.
+    pub(crate) fn instr(&self, id: InstrId) -> &Instr
+        requires { has_instr id.0 self.now ≡ true }
+        ensures value { option_map (λ p. p.1) (entry_at self.now (place_of id.0 self.now.instrs)) ≡ Some result.now }
+        ensures formed { is_formed result.now ≡ true }
+    {
+        let place = self.place_of(id);
+        let found = &self.instrs[place];
+        &found.instr
+    }
+
+    /// Takes an instruction out.
+    pub(crate) fn take(&mut self, id: InstrId) -> Instr
+        requires { has_instr id.0 self.old ≡ true }
+        ensures taken { option_map (λ p. p.1) (entry_at self.old (place_of id.0 self.old.instrs)) ≡ Some result }
+        ensures rest { self.new ≡ record self.old { instrs = remove self.old.instrs (place_of id.0 self.old.instrs) } }
+        ensures formed { is_formed result ≡ true }
+    {
+        let place = self.place_of(id);
+        let Numbered { id: _, instr } = self.instrs.remove(place);
+        instr
     }
 
     /// Puts an instruction before the one that is named, or last.
@@ -140,6 +166,8 @@ fn position_of(instrs: &[Numbered], id: InstrId) -> Option<usize>
 fn place_of(instrs: &[Numbered], id: InstrId) -> usize
     ensures value { result ≡ place_of id.0 instrs.now }
     ensures within { result ≤ length instrs.now }
+    ensures found { list_any (λ p. p.0 == id.0) instrs.now ≡ true → result < length instrs.now }
+    ensures small { result < 2 ^ 64 - 1 }
 {
     position_of(instrs, id).unwrap_or(instrs.len())
 }

@@ -1,8 +1,8 @@
 //! Functions: blocks of numbered instructions.
 
-ghost use Rattle.std.specs.Prelude.{◌≡◌, ◌-◌, ◌^◌, ◌<◌, ◌≤◌, true, length, Contains, OnOk, OnErr, IfOk, IfSome, Some, option_map, position};
+ghost use Rattle.std.specs.Prelude.{◌≡◌, ◌-◌, ◌^◌, ◌<◌, ◌≤◌, true, length, Contains, OnOk, OnErr, IfOk, IfSome, Some, option_map, position, slice_index_or};
 ghost use Rattle.std.specs.List.{list_any, position_or_len};
-ghost use Rattle.gi_mir.specs.Edit.{block_at, has_instr, head_of, ids_of, empty_function, register_above, above_registers, with_block, with_stack, with_keys, with_instr, home_of, IsLive, instr_of, id_at, id_after, id_before, without_instr, with_new_reg};
+ghost use Rattle.gi_mir.specs.Edit.{block_at, empty_block, has_instr, home_block, head_of, ids_of, empty_function, register_above, above_registers, with_block, with_stack, with_keys, with_instr, home_of, IsLive, instr_of, id_at, id_after, id_before, without_instr, with_new_reg};
 ghost use Rattle.gi_mir.specs.Formed.{is_formed};
 
 use crate::block::{Block, Body, InstrId, Numbered};
@@ -45,6 +45,7 @@ fn position_of_home(blocks: &[Body], id: InstrId) -> Option<usize>
 fn home_among(blocks: &[Body], id: InstrId) -> usize
     ensures home { result ≡ position_or_len (has_instr id.0) blocks.now }
     ensures within { list_any (has_instr id.0) blocks.now ≡ true → result < length blocks.now }
+    ensures has { list_any (has_instr id.0) blocks.now ≡ true → has_instr id.0 (slice_index_or blocks.now result empty_block) ≡ true }
 {
     position_of_home(blocks, id).unwrap_or(blocks.len())
 }
@@ -245,6 +246,7 @@ impl Function {
     fn home_of(&self, id: InstrId) -> usize
         ensures home { result ≡ home_of self.now id.0 }
         ensures within { IsLive self.now id.0 → result < length self.now.blocks }
+        ensures has { IsLive self.now id.0 → has_instr id.0 (home_block self.now id.0) ≡ true }
     {
         home_among(self.blocks.as_slice(), id)
     }
@@ -257,5 +259,60 @@ impl Function {
     {
         let _count = self.block_count();
         self.home_of(id) as u32
+    }
+
+    /// The block that has this instruction.
+    fn home_body(&self, id: InstrId) -> &Body
+        requires { IsLive self.now id.0 }
+        ensures value { result.now ≡ home_block self.now id.0 }
+        ensures has { has_instr id.0 result.now ≡ true }
+    {
+        let home = self.home_of(id);
+        &self.blocks[home]
+    }
+
+    /// The instruction with this id.
+    pub fn instr(&self, id: InstrId) -> &Instr
+        requires { IsLive self.now id.0 }
+        ensures value { instr_of self.now id.0 ≡ Some result.now }
+        ensures formed { is_formed result.now ≡ true }
+    {
+        self.home_body(id).instr(id)
+    }
+
+    /// The next instruction of the same block.
+    pub fn following(&self, id: InstrId) -> Option<InstrId>
+        requires { IsLive self.now id.0 }
+        ensures { option_map (λ next. next.0) result ≡ id_after self.now id.0 }
+    {
+        let body = self.home_body(id);
+        let place = body.place_of(id);
+        body.id_at(place + 1)
+    }
+
+    /// The previous instruction of the same block.
+    pub fn preceding(&self, id: InstrId) -> Option<InstrId>
+        requires { IsLive self.now id.0 }
+        ensures { option_map (λ previous. previous.0) result ≡ id_before self.now id.0 }
+    {
+        let body = self.home_body(id);
+        let place = body.place_of(id);
+        if place == 0 {
+            None
+        } else {
+            body.id_at(place - 1)
+        }
+    }
+
+    /// Takes an instruction out.
+    pub fn erase(&mut self, id: InstrId) -> Instr
+        requires { IsLive self.old id.0 }
+        ensures taken { instr_of self.old id.0 ≡ Some result }
+        ensures rest { self.new ≡ without_instr self.old id.0 }
+        ensures formed { is_formed result ≡ true }
+    {
+        let home = self.home_of(id);
+        let body = &mut self.blocks[home];
+        body.take(id)
     }
 }
