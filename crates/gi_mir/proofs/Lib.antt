@@ -4,4 +4,5 @@ pub mod Blocks
 pub mod Documents
 pub mod InstrPieces
 pub mod NamesLemmas
+pub mod Places
 pub mod Words

@@ -1,108 +1,16 @@
 //! Functions: blocks of numbered instructions.
 
-ghost use Rattle.std.specs.Prelude.{◌≡◌, ◌==◌, position, ◌-◌, ◌^◌, ◌<◌, ◌≤◌, true, length, Contains, OnOk, OnErr, IfOk, IfSome};
-ghost use Rattle.gi_mir.specs.Edit.{block_at, head_of, ids_of, place_of, empty_function, block_with, block_with_instr, register_above, above_registers, with_block, with_stack, with_keys, with_instr};
+ghost use Rattle.std.specs.Prelude.{◌≡◌, ◌-◌, ◌^◌, ◌<◌, ◌≤◌, true, length, Contains, OnOk, OnErr, IfOk, IfSome, Some, option_map, position, slice_index_or};
+ghost use Rattle.std.specs.List.{list_any, position_or_len};
+ghost use Rattle.gi_mir.specs.Edit.{block_at, empty_block, has_instr, home_block, head_of, ids_of, empty_function, register_above, above_registers, with_block, with_stack, with_keys, with_instr, home_of, IsLive, instr_of, id_at, id_after, id_before, without_instr, with_new_reg};
 ghost use Rattle.gi_mir.specs.Formed.{is_formed};
 
+use crate::block::{Block, Body, InstrId, Numbered};
 use crate::instr::Instr;
-use crate::operand::{Operand, StackObject};
+use crate::operand::{Operand, Reg, StackObject};
 use gi_llt::Memory;
 use std::alloc::Global;
 use std::marker::Model;
-
-/// Names an instruction of a function. None is given twice.
-#[derive(Clone, Copy, Debug, PartialEq, Eq)]
-pub struct InstrId(pub usize);
-
-/// A block without its instructions: the places of its successors, and the physical registers that are live
-/// at its start.
-#[derive(Drop)]
-pub struct Block {
-    pub successors: Vec<u32>,
-    pub liveins: Vec<u8>,
-}
-
-impl Model for Block {
-    ghost use Rattle.gi_mir.specs.Edit.{HeadData};
-
-    ghost Value = { HeadData };
-
-    ghost view = { λ a. record { successors = a.successors.items; liveins = a.liveins.items } };
-}
-
-/// An instruction of a function, which is formed, and its id.
-#[derive(Drop)]
-pub struct Numbered {
-    pub id: InstrId,
-    pub instr: Instr,
-}
-
-impl Model for Numbered {
-    ghost use Rattle.std.specs.Prelude.{◌≡◌, ℕ, true};
-    ghost use Rattle.gi_mir.specs.Data.{InstrData};
-    ghost use Rattle.gi_mir.specs.Formed.{is_formed};
-
-    ghost Value = { ℕ × InstrData };
-
-    ghost view = { λ a. (a.id.0, a.instr) };
-
-    ghost invariant = { λ a. is_formed a.instr ≡ true };
-}
-
-/// A block with its instructions.
-#[derive(Drop)]
-struct Body {
-    head: Block,
-    instrs: Vec<Numbered>,
-}
-
-impl Model for Body {
-    ghost use Rattle.gi_mir.specs.Data.{BlockData};
-
-    ghost Value = { BlockData };
-
-    ghost view = { λ a. record { successors = a.head.successors; liveins = a.head.liveins; instrs = a.instrs.items } };
-}
-
-impl Body {
-    /// Puts an instruction before the one that is named, or last.
-    fn insert(&mut self, before: Option<InstrId>, new: Numbered) -> Result<(), Memory>
-        ensures ok { OnOk result (self.new ≡ block_with_instr self.old before new) }
-        ensures err { OnErr result (self.new ≡ self.old) }
-    {
-        match before {
-            None => self.instrs.push(new).map_err(|_| Memory),
-            Some(id) => {
-                let place = place_of(self.instrs.as_slice(), id);
-                self.instrs.insert(place, new).map_err(|_| Memory)
-            }
-        }
-    }
-}
-
-impl Numbered {
-    fn has_id(&self, id: InstrId) -> bool
-        ensures { result ≡ (self.now.0 == id.0) }
-    {
-        self.id.0 == id.0
-    }
-}
-
-/// The place of the first instruction with this id.
-fn position_of(instrs: &[Numbered], id: InstrId) -> Option<usize>
-    ensures value { result ≡ position (λ p. p.0 == id.0) instrs.now }
-    ensures within { IfSome result (λ place. place < length instrs.now) }
-{
-    instrs.iter().position(|n| n.has_id(id))
-}
-
-/// The place of the first instruction with this id, and the end where there is none.
-fn place_of(instrs: &[Numbered], id: InstrId) -> usize
-    ensures value { result ≡ place_of id.0 instrs.now }
-    ensures within { result ≤ length instrs.now }
-{
-    position_of(instrs, id).unwrap_or(instrs.len())
-}
 
 impl Operand {
     /// One more than the number of the virtual register that stands here, and 0 where there is none.
@@ -124,6 +32,22 @@ fn above_registers(least: u64, operands: &[Operand]) -> u64
     operands
         .iter()
         .fold(least, |above, x| above.max(x.register_above()))
+}
+
+/// The place of the first block that has this instruction.
+fn position_of_home(blocks: &[Body], id: InstrId) -> Option<usize>
+    ensures { result ≡ position (has_instr id.0) blocks.now }
+{
+    blocks.iter().position(|body| body.has(id))
+}
+
+/// The place of the first block that has this instruction, and the end where none has.
+fn home_among(blocks: &[Body], id: InstrId) -> usize
+    ensures home { result ≡ position_or_len (has_instr id.0) blocks.now }
+    ensures within { list_any (has_instr id.0) blocks.now ≡ true → result < length blocks.now }
+    ensures has { list_any (has_instr id.0) blocks.now ≡ true → has_instr id.0 (slice_index_or blocks.now result empty_block) ≡ true }
+{
+    position_of_home(blocks, id).unwrap_or(blocks.len())
 }
 
 /// A function: its name, three keys, its stack objects and its blocks. `homes` has a place for each id that
@@ -178,10 +102,7 @@ impl Function {
     {
         let place = self.blocks.len() as u32;
         let alloc = *self.blocks.allocator();
-        let body = Body {
-            head: block,
-            instrs: Vec::new(alloc),
-        };
+        let body = Body::new(alloc, block);
         match self.blocks.push(body) {
             Ok(()) => Ok(place),
             Err(_) => Err(Memory),
@@ -215,7 +136,8 @@ impl Function {
 
     /// How many blocks there are.
     pub fn block_count(&self) -> u32
-        ensures { result ≡ length self.now.blocks }
+        ensures count { result ≡ length self.now.blocks }
+        ensures small { length self.now.blocks < 2 ^ 32 }
     {
         self.blocks.len() as u32
     }
@@ -268,5 +190,129 @@ impl Function {
                 Err(Memory)
             }
         }
+    }
+    /// Adds a stack object, and answers its place.
+    pub fn add_stack(&mut self, object: StackObject) -> Result<u32, Memory>
+        requires { length self.old.stack < 2 ^ 32 - 1 }
+        ensures ok { OnOk result (self.new ≡ with_stack self.old object) }
+        ensures place { IfOk result (λ place. place ≡ length self.old.stack) }
+        ensures err { OnErr result (self.new ≡ self.old) }
+    {
+        let place = self.stack.len() as u32;
+        match self.stack.push(object) {
+            Ok(()) => Ok(place),
+            Err(_) => Err(Memory),
+        }
+    }
+
+    /// The stack objects.
+    pub fn stack(&self) -> &[StackObject]
+        ensures { result.now ≡ self.now.stack }
+    {
+        self.stack.as_slice()
+    }
+
+    /// A virtual register that the function has not had.
+    pub fn new_reg(&mut self) -> Reg
+        requires { self.old.next_reg < 2 ^ 32 - 1 }
+        ensures reg { result.0 ≡ self.old.next_reg }
+        ensures next { self.new ≡ with_new_reg self.old }
+    {
+        let reg = Reg(self.next_reg as u32);
+        self.next_reg += 1;
+        reg
+    }
+
+    /// The first instruction of a block.
+    pub fn first_in(&self, block: u32) -> Option<InstrId>
+        requires { block < length self.now.blocks }
+        ensures { option_map (λ id. id.0) result ≡ id_at (block_at self.now block) 0 }
+    {
+        let body = &self.blocks[block as usize];
+        body.id_at(0)
+    }
+
+    /// The last instruction of a block.
+    pub fn last_in(&self, block: u32) -> Option<InstrId>
+        requires { block < length self.now.blocks }
+        ensures { option_map (λ id. id.0) result ≡ id_at (block_at self.now block) (length (block_at self.now block).instrs - 1) }
+    {
+        let body = &self.blocks[block as usize];
+        let count = body.instrs.len();
+        body.id_at(count.saturating_sub(1))
+    }
+
+    /// The place of the block that has this instruction.
+    fn home_of(&self, id: InstrId) -> usize
+        ensures home { result ≡ home_of self.now id.0 }
+        ensures within { IsLive self.now id.0 → result < length self.now.blocks }
+        ensures has { IsLive self.now id.0 → has_instr id.0 (home_block self.now id.0) ≡ true }
+    {
+        home_among(self.blocks.as_slice(), id)
+    }
+
+    /// The place of the block that has this instruction.
+    pub fn block_of(&self, id: InstrId) -> u32
+        requires { IsLive self.now id.0 }
+        ensures home { result ≡ home_of self.now id.0 }
+        ensures within { result < length self.now.blocks }
+    {
+        let _count = self.block_count();
+        self.home_of(id) as u32
+    }
+
+    /// The block that has this instruction.
+    fn home_body(&self, id: InstrId) -> &Body
+        requires { IsLive self.now id.0 }
+        ensures value { result.now ≡ home_block self.now id.0 }
+        ensures has { has_instr id.0 result.now ≡ true }
+    {
+        let home = self.home_of(id);
+        &self.blocks[home]
+    }
+
+    /// The instruction with this id.
+    pub fn instr(&self, id: InstrId) -> &Instr
+        requires { IsLive self.now id.0 }
+        ensures value { instr_of self.now id.0 ≡ Some result.now }
+        ensures formed { is_formed result.now ≡ true }
+    {
+        self.home_body(id).instr(id)
+    }
+
+    /// The next instruction of the same block.
+    pub fn following(&self, id: InstrId) -> Option<InstrId>
+        requires { IsLive self.now id.0 }
+        ensures { option_map (λ next. next.0) result ≡ id_after self.now id.0 }
+    {
+        let body = self.home_body(id);
+        let place = body.place_of(id);
+        body.id_at(place + 1)
+    }
+
+    /// The previous instruction of the same block.
+    pub fn preceding(&self, id: InstrId) -> Option<InstrId>
+        requires { IsLive self.now id.0 }
+        ensures { option_map (λ previous. previous.0) result ≡ id_before self.now id.0 }
+    {
+        let body = self.home_body(id);
+        let place = body.place_of(id);
+        if place == 0 {
+            None
+        } else {
+            body.id_at(place - 1)
+        }
+    }
+
+    /// Takes an instruction out.
+    pub fn erase(&mut self, id: InstrId) -> Instr
+        requires { IsLive self.old id.0 }
+        ensures taken { instr_of self.old id.0 ≡ Some result }
+        ensures rest { self.new ≡ without_instr self.old id.0 }
+        ensures formed { is_formed result ≡ true }
+    {
+        let home = self.home_of(id);
+        let body = &mut self.blocks[home];
+        body.take(id)
     }
 }

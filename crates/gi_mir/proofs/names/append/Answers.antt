@@ -11,6 +11,6 @@ returns-clause-ok c =
     let put = insert_entry-new string_eq c.args.map.now c.args.name c.args.number c.requires in
     let more = texts_of-append c.args.map.now.entries c.args.name c.args.number in
     elim c.match-insert.branch [
-      in-Ok w ↦ rw w.result-is (ap texts_of (w.in-Ok.ensures.entries ∙ put) ∙ more)
-    | in-Err w ↦ rw w.result-is tt
+      | in-Ok w ↦ rw w.result-is (ap texts_of (w.in-Ok.ensures.entries ∙ put) ∙ more)
+      | in-Err w ↦ rw w.result-is tt
     ]
