@@ -15,7 +15,7 @@ use Rattle.gi_meaning.specs.State.{World, State, outside_of, start, Outcome, Fai
 use Rattle.gi_meaning.specs.Meaning.{Meaning, Calling, Nothing, meaning_of}
 use Rattle.gi_meaning.specs.Act.{Answer, Results, Leaves, Returns, Asks, Breaks, Act, clobbered, is_result_register}
 use Rattle.gi_meaning.specs.Runs.{Setting, width_of_kind, setting_of, argument_of, joined_lists, arguments_of, places_of, result_places, written_places, width_of_place, put_all, Progress, On, Left, Over, going_on, progress_of, StepsFrom, Steps, After, Executes, is_phi, phis_of, after_phis, entry_of, chosen, entry_for, value_at, from_block, put_value, joined, is_among, Follows, RunsAfterPhis, RunsBlock, Enters, Runs}
-use Rattle.gi_meaning.specs.Renaming.{IsInjective, renamed_operand, renamed_instr, renamed_pair, renamed_block, renamed}
+use Rattle.gi_mir.specs.Renaming.{IsInjective, renamed_operand, renamed_instr, renamed_pair, renamed_block, renamed}
 
 -- ══ Tests on numbers ══
 

@@ -8,3 +8,5 @@ pub mod Registers
 pub mod Row
 pub mod Spelling
 pub mod Stated
+pub mod Numbering
+pub mod Renaming
