@@ -191,7 +191,7 @@ chosen_outer gap value solid = record {
   raw = record { no_start = refl; no_feed = value_no_feed gap value solid }
 }
 
-body_outer : (gap : ℕ) (value : List ℕ) → IsSolid value → IsOuter (entry_line (codes "body") gap value)
+pub body_outer : (gap : ℕ) (value : List ℕ) → IsSolid value → IsOuter (entry_line (codes "body") gap value)
 body_outer gap value solid = record {
   at_column_one = refl;
   kept = empty_after _ _;
@@ -206,7 +206,7 @@ key_outer : (key : Bool) (line : List ℕ) → IsOuter line → EachLine IsOuter
 key_outer true line outer = (outer, tt)
 key_outer false line outer = tt
 
-header_outer : (layout : Layout) (name : List ℕ) (legal banked chosen : Bool) → IsSolid name → EachLine IsOuter (header_lines layout name legal banked chosen)
+pub header_outer : (layout : Layout) (name : List ℕ) (legal banked chosen : Bool) → IsSolid name → EachLine IsOuter (header_lines layout name legal banked chosen)
 header_outer layout name legal banked chosen solid =
     let tracks = key_lines layout.tracks (codes "tracksRegLiveness: true") in
     let chosen_lines = key_lines chosen (entry_line (codes "selected") layout.chosen (codes "true")) in

@@ -3,4 +3,5 @@ pub mod BlockLines
 pub mod Blocks
 pub mod Documents
 pub mod InstrPieces
+pub mod Texts
 pub mod Words
