@@ -293,3 +293,74 @@ printed_spells m printable =
     text_spelled printed_layout (printed m) m printable.no_ir printable.functions
     (ap (λ lines. lines_of (text_of lines)) whole
     ∙ lines_of-text_of (documents_lines printed_layout m.names m.functions) (documents_feeds printed_layout m.names m.functions printable.functions))
+
+-- the instructions that the program takes so far name nothing
+stated_named : (names : List (List ℕ)) (stated : StatedInstr) (line : ℕ) → list_all (is_named_operand names) (stated_instr stated line).operands ≡ true
+stated_named names (CopyIn reg physical) line = refl
+stated_named names (MakeConstant reg value) line = refl
+stated_named names (AddUp reg left right) line = refl
+stated_named names (CopyOut physical reg) line = refl
+stated_named names Return line = refl
+
+stated_instr_named : (names : List (List ℕ)) (stated : StatedInstr) (instr : ℕ × InstrData) → IsStatedInstr stated instr → is_named_instr names instr ≡ true
+stated_instr_named names stated instr e =
+    let P : InstrData → Type 0 = λ i. list_all (is_named_operand names) i.operands ≡ true in
+    subst P (sym e) (stated_named names stated (instr.1).line)
+
+stated_instrs_named : (names : List (List ℕ)) (stated : List StatedInstr) (instrs : List (ℕ × InstrData)) → AllZip IsStatedInstr stated instrs
+    → list_all (is_named_instr names) instrs ≡ true
+stated_instrs_named names [] [] all = refl
+stated_instrs_named names [] (instr ∷ instrs) all = absurd all
+stated_instrs_named names (first ∷ stated) [] all = absurd all
+stated_instrs_named names (first ∷ stated) (instr ∷ instrs) all =
+    both_true (stated_instr_named names first instr all.0) (stated_instrs_named names stated instrs all.1)
+
+name_byte_word : (byte : ℕ) → is_name_byte byte ≡ true → is_word_byte byte ≡ true
+name_byte_word byte named = grind (arith, nat_tests)
+
+name_bytes_words : (bytes : List ℕ) → list_all is_name_byte bytes ≡ true → list_all is_word_byte bytes ≡ true
+name_bytes_words [] all = refl
+name_bytes_words (byte ∷ bytes) all =
+    let parts = and_parts (is_name_byte byte) (list_all is_name_byte bytes) all in
+    both_true (name_byte_word byte parts.0) (name_bytes_words bytes parts.1)
+
+stated_name : (name : List ℕ) → is_stated_name name ≡ true → is_name name ≡ true
+stated_name [] named = named
+stated_name (byte ∷ more) named = name_bytes_words (byte ∷ more) named
+
+stated_printable : (names : List (List ℕ)) (f : FunctionData) (instrs : List StatedInstr) (block : BlockData) → IsStated names f instrs block → IsPrintable names f
+stated_printable names f instrs block stated =
+    let Named : List BlockData → Type 0 = λ blocks. list_all (is_named_block names) blocks ≡ true in
+    let Live : List BlockData → Type 0 = λ blocks. list_all has_no_liveins (later_blocks blocks) ≡ true in
+    record {
+      is_named = stated_name (name_at names f.name) stated.named;
+      no_objects = stated.no_objects;
+      named_blocks = subst Named (sym stated.blocks) (both_true (stated_instrs_named names instrs block.instrs stated.instructed) refl);
+      live_first = subst Live (sym stated.blocks) refl
+    }
+
+abbrev stated_layout : Gaps → (closed : Bool) → Layout
+stated_layout gaps closed = record { name = suc gaps.name; legal = suc gaps.legal; banked = suc gaps.banked; chosen = 0; body = suc gaps.body; tracks = false; closed = closed }
+
+stated_lines-is : (gaps : Gaps) (closed : Bool) (names : List (List ℕ)) (f : FunctionData) (instrs : List StatedInstr) (block : BlockData) → IsStated names f instrs block
+    → stated_lines gaps closed names f ≡ documents_lines (stated_layout gaps closed) names (f ∷ [])
+stated_lines-is gaps closed names f instrs block stated =
+    let layout = stated_layout gaps closed in
+    let count : 1 ≡ length f.blocks = sym (ap length stated.blocks) in
+    let Counted : ℕ → Type 0 = λ n. stated_lines gaps closed names f
+        ≡ codes "---" ∷ (header_lines layout (name_at names f.name) true true false ++ (body_line layout ∷ (blocks_lines (kind_of f) names 0 n f.blocks ++ end_lines closed))) in
+    let counted : Counted (length f.blocks) = subst Counted count refl in
+    let keyed : header_lines layout (name_at names f.name) f.legalized f.banked f.selected ≡ header_lines layout (name_at names f.name) true true false =
+        rw (stated.legal, stated.banked, stated.chosen) refl in
+    let body = body_line layout ∷ (blocks_lines (kind_of f) names 0 (length f.blocks) f.blocks ++ end_lines closed) in
+    counted ∙ (ap (λ header. codes "---" ∷ (header ++ body)) (sym keyed) ∙ ap (λ lines. codes "---" ∷ lines) (sym (append-nil (function_lines layout names f))))
+
+-- a text as the program takes it so far spells its module
+pub stated_spells : (text : List ℕ) (m : ModuleData) → IsStatedText text m → Spells text m
+stated_spells text m stated =
+    let layout = stated_layout stated.gaps stated.closed in
+    let printable : IsPrintable m.names stated.f = stated_printable m.names stated.f stated.instrs stated.block stated.stated in
+    let All : List FunctionData → Type 0 = λ functions. AllPrintable m.names functions in
+    let Lines : List FunctionData → Type 0 = λ functions. lines_of text ≡ documents_lines layout m.names functions in
+    text_spelled layout text m stated.no_ir (subst All (sym stated.functions) (printable, tt))
+    (subst Lines (sym stated.functions) (stated.lines ∙ stated_lines-is stated.gaps stated.closed m.names stated.f stated.instrs stated.block stated.stated))
