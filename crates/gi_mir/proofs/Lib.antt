@@ -1,8 +1,10 @@
 pub mod AddExample
 pub mod BlockLines
 pub mod Blocks
+pub mod Documents
 pub mod InstrPieces
 pub mod NamesLemmas
-pub mod Places
-pub mod Words
 pub mod NumberingLaws
+pub mod Places
+pub mod Texts
+pub mod Words
