@@ -1,3 +1,5 @@
+pub mod Promise
 pub mod Reading
+pub mod Selectable
 pub mod Selection
 pub mod Statement
