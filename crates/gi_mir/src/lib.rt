@@ -5,3 +5,4 @@ pub mod instr;
 pub mod opcode;
 pub mod operand;
 pub mod row;
+pub mod spelling;
