@@ -2,6 +2,7 @@
 #![tactic(auto)]
 
 pub mod block;
+pub mod formed;
 pub mod function;
 pub mod instr;
 pub mod module;
