@@ -3,6 +3,7 @@
 use Rattle.std.specs.Prelude.{ℕ, ◌+◌, ◌/◌, ◌^◌, Bool, true, false, ◌&&◌, ◌||◌, not, List, [], ◌∷◌, Option, Some, None, nat_lt, nat_le, ◌==◌, if◌then◌else◌}
 use Rattle.std.specs.Int.{is_power_of_two}
 use Rattle.std.specs.List.{list_all, list_any}
+use Rattle.std.specs.Option.{option_map_or}
 use Rattle.gi_llt.specs.declared.Llt.{Llt}
 use Rattle.gi_llt.specs.declared.Llt.TheVariants.{Scalar, Pointer}
 use Rattle.gi_mir.specs.declared.operand.MemOp.{MemOp}
@@ -139,15 +140,16 @@ abbrev pub with_wanted : Option Form → List Form → List Form
 with_wanted None fs = fs
 with_wanted (Some f) fs = f ∷ fs
 
--- whether operands have these forms in order: a repeated form takes each operand that has it
+-- the forms that are left once the first that can take an operand has taken it; a repeated form may be passed over
+abbrev pub taken : Operand → List Form → Option (List Form)
+taken x [] = None
+taken x (f ∷ fs) =
+    if admits f x then Some (with_wanted (wanted_after f) fs) else (if is_repeated f then taken x fs else None)
+
+-- whether operands have these forms in order
 abbrev pub fits : List Form → List Operand → Bool
 fits fs [] = list_all is_repeated fs
-fits fs (x ∷ xs) = fits_left (λ left. fits left xs) x fs
-  where
-    fits_left : (List Form → Bool) → Operand → List Form → Bool
-    fits_left more x [] = false
-    fits_left more x (f ∷ fs) =
-        if admits f x then more (with_wanted (wanted_after f) fs) else (is_repeated f && fits_left more x fs)
+fits fs (x ∷ xs) = option_map_or (λ left. fits left xs) (taken x fs) false
 
 -- the bytes that hold a value of this type, where the type says so
 abbrev pub bytes_of : Llt → Option ℕ
@@ -165,18 +167,26 @@ has_access access.Load (Some m) = m.load && is_alignment m.ty m.align
 has_access access.Store (Some m) = not m.load && is_alignment m.ty m.align
 has_access _ _ = false
 
--- a physical register is below 32, and a constant of a width up to 128 is below 2 to that
+-- a constant of a width up to 128 is below 2 to that
+abbrev pub is_constant_in_range : ℕ → ℕ → Bool
+is_constant_in_range bits value = nat_lt 128 bits || nat_lt value (2 ^ bits)
+
+-- a physical register is below 32, and a constant within its width
 abbrev pub is_in_range : Operand → Bool
 is_in_range (operand.Phys n) = nat_lt n 32
 is_in_range (operand.PhysDef n) = nat_lt n 32
 is_in_range (operand.ImplicitUse n) = nat_lt n 32
 is_in_range (operand.ImplicitDef n) = nat_lt n 32
-is_in_range (operand.Constant bits value) = nat_lt 128 bits || nat_lt value (2 ^ bits)
+is_in_range (operand.Constant bits value) = is_constant_in_range bits value
 is_in_range _ = true
+
+-- whether operands have one of these rows
+abbrev pub fits_one_of : List (List Form) → List Operand → Bool
+fits_one_of rows operands = list_any (λ forms. fits forms operands) rows
 
 -- an instruction is formed
 unfoldable pub is_formed : InstrData → Bool
 is_formed i =
-    list_any (λ forms. fits forms i.operands) (rows_of i.op)
+    fits_one_of (rows_of i.op) i.operands
     && has_access (access_of i.op) i.mem
     && list_all is_in_range i.operands

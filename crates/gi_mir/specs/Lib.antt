@@ -1,5 +1,7 @@
 pub mod Data
+pub mod Edit
 pub mod Formed
+pub mod Names
 pub mod Printable
 pub mod Printed
 pub mod Registers

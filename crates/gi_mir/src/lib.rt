@@ -1,7 +1,12 @@
 //! A function in Machine IR: its opcodes, operands, instructions, blocks and names.
 #![tactic(auto)]
 
+pub mod block;
+pub mod formed;
+pub mod function;
 pub mod instr;
+pub mod module;
+pub mod names;
 pub mod opcode;
 pub mod operand;
 pub mod row;
