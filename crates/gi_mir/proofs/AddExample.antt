@@ -96,15 +96,12 @@ spells_selected = record {
   no_ir = refl;
   from_a_document = refl;
   documents = (record {
-    started = refl;
-    function = record {
       from_a_key = refl;
       entries = record {
         keyed = refl; is_named = refl; named = refl; legal = (refl, refl); banked = (refl, refl); chosen = (refl, refl);
         no_registers = refl; no_stack = refl; no_objects = refl;
         bodied = (refl, refl, (record { numbered = refl; succeeded = refl; live = (λ empty. cc, refl); instructed = (refl, (refl, (refl, (refl, (refl, tt))))) }, tt))
       }
-    }
   }, tt)
 }
 
@@ -114,14 +111,11 @@ spells_stated = record {
   no_ir = refl;
   from_a_document = refl;
   documents = (record {
-    started = refl;
-    function = record {
       from_a_key = refl;
       entries = record {
         keyed = refl; is_named = refl; named = refl; legal = (refl, refl); banked = (refl, refl); chosen = refl;
         no_registers = refl; no_stack = refl; no_objects = refl;
         bodied = (refl, refl, (record { numbered = refl; succeeded = refl; live = (λ empty. cc, refl); instructed = (refl, (refl, (refl, (refl, (refl, tt))))) }, tt))
       }
-    }
   }, tt)
 }

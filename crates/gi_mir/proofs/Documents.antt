@@ -16,7 +16,7 @@ use Rattle.gi_mir.specs.Printed.{name_at, blocks_lines, key_lines}
 use Rattle.gi_mir.specs.Spelling.{line_items, is_empty_line, is_dropped, kept_lines, Section, Sections, with_head, with_line, sections_of, without_comment, with_byte, without_last_blanks, line_bytes, value_bytes, is_start, is_end, up_to_end, is_at_column_one, key_of, value_of, is_entry, entry_of, entries_of, SpellsTruth, is_name, is_block_head, SpellsBlocks, SpellsBody, SpellsEntries, SpellsFunction, SpellsDocument}
 use Rattle.gi_mir.specs.Printable.{is_named_block, has_no_liveins, later_blocks, IsPrintable}
 use Rattle.gi_mir.proofs.BlockLines.{EachLine, each-append, each-weaker, begins_blank, IsInner}
-use Rattle.gi_mir.proofs.Blocks.{IsLiveAt, AllLiveAt, block_sections, blocks_spelled, kept_each, kept-append, kept_blocks, kept_blocks_lines, kept_blocks_inner, sections_of-append, sections_of-blocks, IsRaw, inner_no_start, raw_inner, raw_blocks}
+use Rattle.gi_mir.proofs.Blocks.{IsLiveAt, AllLiveAt, block_sections, blocks_spelled, kept_each, kept-append, kept_blocks, kept_blocks_lines, kept_blocks_inner, sections_of-append, sections_of-blocks, IsRaw, begins, no_end, no_start, raw_inner, raw_blocks}
 
 -- a value with no blank around it, no comment and no line feed
 pub record IsSolid (value : List ℕ) : Type 0 where
@@ -128,31 +128,10 @@ empty_after : (token : Lexeme) (tokens : Option (List Lexeme)) → is_empty_line
 empty_after token None = refl
 empty_after token (Some tokens) = refl
 
-dots_differ : (byte : ℕ) (rest : List ℕ) → (byte == 46) ≡ false → bytes_eq (with_byte byte rest) (codes "...") ≡ false
-dots_differ byte [] other = go (is_blank byte)
-  where
-    go : (blank : Bool) → bytes_eq (if blank then [] else byte ∷ []) (codes "...") ≡ false
-    go true = refl
-    go false = rw other refl
-dots_differ byte (next ∷ rest) other = rw other refl
-
--- a line that begins with another byte than a dot is no `...`
-abbrev pub begins_dot : List ℕ → Bool
-begins_dot [] = false
-begins_dot (byte ∷ rest) = byte == 46
-
-pub no_end : (line : List ℕ) → begins_dot line ≡ false → is_end line ≡ false
-no_end [] other = refl
-no_end (byte ∷ rest) other = go (byte == 59)
-  where
-    go : (comment : Bool) → bytes_eq (without_last_blanks (if not comment then byte ∷ without_comment rest else [])) (codes "...") ≡ false
-    go true = refl
-    go false = dots_differ byte (without_last_blanks (without_comment rest)) other
-
 blank_no_dot : (byte : ℕ) → is_blank byte ≡ true → (byte == 46) ≡ false
 blank_no_dot byte blank = grind (arith, nat_tests)
 
-begins_no_dot : (line : List ℕ) → begins_blank line ≡ true → begins_dot line ≡ false
+begins_no_dot : (line : List ℕ) → begins_blank line ≡ true → begins line 46 ≡ false
 begins_no_dot [] blank = refl
 begins_no_dot (byte ∷ rest) blank = blank_no_dot byte blank
 
@@ -164,7 +143,7 @@ name_outer gap value solid = record {
   at_column_one = refl;
   kept = empty_after _ _;
   no_end = no_end (entry_line (codes "name") gap value) refl;
-  raw = record { no_start = refl; no_feed = value_no_feed gap value solid }
+  raw = record { no_start = no_start (entry_line (codes "name") gap value) refl; no_feed = value_no_feed gap value solid }
 }
 
 legal_outer : (gap : ℕ) (value : List ℕ) → IsSolid value → IsOuter (entry_line (codes "legalized") gap value)
@@ -172,7 +151,7 @@ legal_outer gap value solid = record {
   at_column_one = refl;
   kept = empty_after _ _;
   no_end = no_end (entry_line (codes "legalized") gap value) refl;
-  raw = record { no_start = refl; no_feed = value_no_feed gap value solid }
+  raw = record { no_start = no_start (entry_line (codes "legalized") gap value) refl; no_feed = value_no_feed gap value solid }
 }
 
 banked_outer : (gap : ℕ) (value : List ℕ) → IsSolid value → IsOuter (entry_line (codes "regBankSelected") gap value)
@@ -180,7 +159,7 @@ banked_outer gap value solid = record {
   at_column_one = refl;
   kept = empty_after _ _;
   no_end = no_end (entry_line (codes "regBankSelected") gap value) refl;
-  raw = record { no_start = refl; no_feed = value_no_feed gap value solid }
+  raw = record { no_start = no_start (entry_line (codes "regBankSelected") gap value) refl; no_feed = value_no_feed gap value solid }
 }
 
 chosen_outer : (gap : ℕ) (value : List ℕ) → IsSolid value → IsOuter (entry_line (codes "selected") gap value)
@@ -188,7 +167,7 @@ chosen_outer gap value solid = record {
   at_column_one = refl;
   kept = empty_after _ _;
   no_end = no_end (entry_line (codes "selected") gap value) refl;
-  raw = record { no_start = refl; no_feed = value_no_feed gap value solid }
+  raw = record { no_start = no_start (entry_line (codes "selected") gap value) refl; no_feed = value_no_feed gap value solid }
 }
 
 pub body_outer : (gap : ℕ) (value : List ℕ) → IsSolid value → IsOuter (entry_line (codes "body") gap value)
@@ -196,7 +175,7 @@ body_outer gap value solid = record {
   at_column_one = refl;
   kept = empty_after _ _;
   no_end = no_end (entry_line (codes "body") gap value) refl;
-  raw = record { no_start = refl; no_feed = value_no_feed gap value solid }
+  raw = record { no_start = no_start (entry_line (codes "body") gap value) refl; no_feed = value_no_feed gap value solid }
 }
 
 tracks_outer : IsOuter (codes "tracksRegLiveness: true")

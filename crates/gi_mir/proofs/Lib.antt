@@ -1,7 +1,9 @@
 pub mod AddExample
 pub mod BlockLines
 pub mod Blocks
+pub mod Definitions
 pub mod Documents
+pub mod FormedLemmas
 pub mod InstrPieces
 pub mod NamesLemmas
 pub mod NumberingLaws

@@ -166,11 +166,8 @@ document_spelled layout names f printable =
     let sections = sections_of-function layout names f printable in
     let P : Sections → Type 0 = λ s. SpellsEntries names s.sections f in
     record {
-      started = refl;
-      function = record {
-        from_a_key = ap (λ (s : Sections). s.before) sections;
-        entries = subst P (sym sections) (entries_spelled layout names f printable)
-      }
+      from_a_key = ap (λ (s : Sections). s.before) sections;
+      entries = subst P (sym sections) (entries_spelled layout names f printable)
     }
 
 -- the lines of a text

@@ -79,13 +79,9 @@ line_bytes line = without_last_blanks (without_comment line)
 abbrev pub value_bytes : List ℕ → List ℕ
 value_bytes line = past_run is_blank (line_bytes line)
 
--- a document begins with `---`, alone on its line but for blanks and what follows them
-abbrev pub is_separated : List ℕ → Bool
-is_separated [] = true
-is_separated (byte ∷ rest) = is_blank byte || byte == 59
-
+-- a document begins with a line `---`, behind which blanks and a comment may stand
 abbrev pub is_start : List ℕ → Bool
-is_start line = bytes_eq (take 3 line) (codes "---") && is_separated (drop 3 line)
+is_start line = bytes_eq (line_bytes line) (codes "---")
 
 -- the lines of a document up to the `...` that may end it
 abbrev pub is_end : List ℕ → Bool
@@ -224,9 +220,8 @@ pub record SpellsFunction (names : List (List ℕ)) (lines : List (List ℕ)) (f
   pub from_a_key : (sections_of is_at_column_one lines).before ≡ []
   pub entries : SpellsEntries names (sections_of is_at_column_one lines).sections f
 
-pub record SpellsDocument (names : List (List ℕ)) (document : Section) (f : FunctionData) : Type 0 where
-  pub started : line_bytes document.head ≡ codes "---"
-  pub function : SpellsFunction names (up_to_end (kept_lines document.under)) f
+abbrev pub SpellsDocument : (names : List (List ℕ)) (document : Section) → FunctionData → Type 0
+SpellsDocument names document f = SpellsFunction names (up_to_end (kept_lines document.under)) f
 
 -- a text: documents in order, one for each function, and before the first nothing that counts
 pub record Spells (text : List ℕ) (m : ModuleData) : Type 0 where

@@ -2,12 +2,12 @@
 
 ghost use Rattle.std.specs.Prelude.{◌≡◌, ◌-◌, ◌^◌, ◌<◌, ◌≤◌, true, length, Contains, OnOk, OnErr, IfOk, IfSome, Some, option_map, position, slice_index_or};
 ghost use Rattle.std.specs.List.{list_any, position_or_len};
-ghost use Rattle.gi_mir.specs.Edit.{block_at, empty_block, has_instr, home_block, head_of, ids_of, empty_function, register_above, above_registers, with_block, with_stack, with_keys, with_instr, home_of, IsLive, instr_of, id_at, id_after, id_before, without_instr, with_new_reg};
+ghost use Rattle.gi_mir.specs.Edit.{block_at, empty_block, has_instr, home_block, head_of, ids_of, empty_function, register_above, above_registers, with_block, with_stack, with_keys, with_instr, home_of, IsLive, instr_of, id_at, id_after, id_before, without_instr, with_new_reg, CanSetOperand, with_operand_of, IsDefAt, with_changed, with_kind, definition_in, definition_of};
 ghost use Rattle.gi_mir.specs.Formed.{is_formed};
 
 use crate::block::{Block, Body, InstrId, Numbered};
 use crate::instr::Instr;
-use crate::operand::{Operand, Reg, StackObject};
+use crate::operand::{Kind, Operand, Reg, StackObject};
 use gi_llt::Memory;
 use std::alloc::Global;
 use std::marker::Model;
@@ -48,6 +48,19 @@ fn home_among(blocks: &[Body], id: InstrId) -> usize
     ensures has { list_any (has_instr id.0) blocks.now ≡ true → has_instr id.0 (slice_index_or blocks.now result empty_block) ≡ true }
 {
     position_of_home(blocks, id).unwrap_or(blocks.len())
+}
+
+/// The first instruction in layout order that defines this register.
+fn definition_among(blocks: &[Body], reg: Reg) -> Option<InstrId>
+    ensures { option_map (λ id. id.0) result ≡ definition_in reg.0 blocks.now }
+{
+    for body in blocks {
+        match body.definition_of(reg) {
+            Some(id) => return Some(id),
+            None => {}
+        }
+    }
+    None
 }
 
 /// A function: its name, three keys, its stack objects and its blocks. `homes` has a place for each id that
@@ -314,5 +327,37 @@ impl Function {
         let home = self.home_of(id);
         let body = &mut self.blocks[home];
         body.take(id)
+    }
+
+    /// Puts another operand into an instruction.
+    pub fn set_operand(&mut self, id: InstrId, k: usize, new: Operand) -> Result<(), Memory>
+        requires live { IsLive self.old id.0 }
+        requires can { CanSetOperand self.old id.0 k new }
+        ensures ok { OnOk result (self.new ≡ with_operand_of self.old id.0 k new) }
+        ensures err { OnErr result (self.new ≡ self.old) }
+    {
+        let home = self.home_of(id);
+        let body = &mut self.blocks[home];
+        body.set_operand(id, k, new);
+        self.next_reg = self.next_reg.max(new.register_above());
+        Ok(())
+    }
+
+    /// Sets the kind of a definition.
+    pub fn set_kind(&mut self, id: InstrId, k: usize, kind: Kind)
+        requires live { IsLive self.old id.0 }
+        requires definition { IsDefAt self.old id.0 k }
+        ensures { self.new ≡ with_changed (λ i. with_kind i k kind) self.old id.0 }
+    {
+        let home = self.home_of(id);
+        let body = &mut self.blocks[home];
+        body.set_kind(id, k, kind);
+    }
+
+    /// The first instruction in layout order that defines this register.
+    pub fn def_of(&self, reg: Reg) -> Option<InstrId>
+        ensures { option_map (λ id. id.0) result ≡ definition_of self.now reg.0 }
+    {
+        definition_among(self.blocks.as_slice(), reg)
     }
 }
