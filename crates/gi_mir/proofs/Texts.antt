@@ -325,7 +325,7 @@ stated_name : (name : List ℕ) → is_stated_name name ≡ true → is_name nam
 stated_name [] named = named
 stated_name (byte ∷ more) named = name_bytes_words (byte ∷ more) named
 
-stated_printable : (names : List (List ℕ)) (f : FunctionData) (instrs : List StatedInstr) (block : BlockData) → IsStated names f instrs block → IsPrintable names f
+pub stated_printable : (names : List (List ℕ)) (f : FunctionData) (instrs : List StatedInstr) (block : BlockData) → IsStated names f instrs block → IsPrintable names f
 stated_printable names f instrs block stated =
     let Named : List BlockData → Type 0 = λ blocks. list_all (is_named_block names) blocks ≡ true in
     let Live : List BlockData → Type 0 = λ blocks. list_all has_no_liveins (later_blocks blocks) ≡ true in

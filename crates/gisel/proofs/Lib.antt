@@ -1,2 +1,3 @@
 pub mod SelectionLaws
 pub mod SelectFront
+pub mod CompileLaws
