@@ -7,5 +7,6 @@ pub mod FormedLemmas
 pub mod InstrPieces
 pub mod NamesLemmas
 pub mod Places
+pub mod PrintExamples
 pub mod Texts
 pub mod Words
