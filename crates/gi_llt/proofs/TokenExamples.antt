@@ -1,7 +1,7 @@
 -- Some lines with their tokens.
-use Rattle.std.proofs.Common.{◌≡◌, ℕ, List, [], ◌∷◌, Option, Some, None, refl}
+use Rattle.std.proofs.Common.{◌≡◌, [], ◌∷◌, Some, None, refl}
 use Rattle.std.specs.Prelude.{codes}
-use Rattle.gi_llt.specs.Tokens.{LexemeKind, Word, Number, Register, Physical, Global, Routine, Quoted, Metadata, Mark, Lexeme, lexeme, tokens_of}
+use Rattle.gi_llt.specs.Tokens.{Word, Number, Register, Physical, Global, Routine, Quoted, Metadata, Mark, lexeme, tokens_of}
 
 pub tokens_of-addition : tokens_of (codes "    %2:gprb(s32) = G_ADD %0, %1") ≡ Some (lexeme Register (codes "%2")
     ∷ lexeme Mark (codes ":")

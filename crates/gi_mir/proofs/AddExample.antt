@@ -1,5 +1,5 @@
 -- A function that adds its two arguments, before and after the selection of instructions, with its texts.
-use Rattle.std.proofs.Common.{◌≡◌, ℕ, List, [], ◌∷◌, ◌++◌, Some, None, true, false, refl}
+use Rattle.std.proofs.Common.{◌≡◌, ℕ, List, [], ◌∷◌, None, true, false, refl}
 use Rattle.std.specs.Prelude.{codes}
 use Rattle.std.specs.Fmt.{digits}
 use Rattle.gi_llt.specs.declared.Llt.TheVariants.{Scalar}
@@ -11,8 +11,8 @@ use Rattle.gi_mir.specs.declared.operand.Operand.{Operand}
 use Rattle.gi_mir.specs.declared.operand.Operand.TheVariants.{Def, Use, Phys, PhysDef, ImplicitUse}
 use Rattle.gi_mir.specs.Data.{InstrData, BlockData, FunctionData, ModuleData}
 use Rattle.gi_mir.specs.Printed.{printed, text_of}
-use Rattle.gi_mir.specs.Spelling.{Spells, lines_of}
-use Rattle.gi_mir.specs.Stated.{StatedInstr, CopyIn, AddUp, CopyOut, Return, reg_of, no_flags, IsStatedText}
+use Rattle.gi_mir.specs.Spelling.{Spells}
+use Rattle.gi_mir.specs.Stated.{CopyIn, AddUp, CopyOut, Return, reg_of, no_flags, IsStatedText}
 
 abbrev instr : Opcode → List Operand → InstrData
 instr op operands = record { op = op; flags = no_flags; operands = operands; mem = None; line = 1 }
@@ -22,17 +22,24 @@ block_of kind op = record {
   successors = [];
   liveins = 10 ∷ 11 ∷ [];
   instrs =
-    (0, instr Copy (Def (reg_of 0) kind ∷ Phys 10 ∷ []))
-    ∷ (1, instr Copy (Def (reg_of 1) kind ∷ Phys 11 ∷ []))
-    ∷ (2, instr op (Def (reg_of 2) kind ∷ Use (reg_of 0) ∷ Use (reg_of 1) ∷ []))
-    ∷ (3, instr Copy (PhysDef 10 ∷ Use (reg_of 2) ∷ []))
-    ∷ (4, instr PseudoReturn (ImplicitUse 10 ∷ []))
-    ∷ []
+      (0, instr Copy (Def (reg_of 0) kind ∷ Phys 10 ∷ []))
+      ∷ (1, instr Copy (Def (reg_of 1) kind ∷ Phys 11 ∷ []))
+      ∷ (2, instr op (Def (reg_of 2) kind ∷ Use (reg_of 0) ∷ Use (reg_of 1) ∷ []))
+      ∷ (3, instr Copy (PhysDef 10 ∷ Use (reg_of 2) ∷ []))
+      ∷ (4, instr PseudoReturn (ImplicitUse 10 ∷ []))
+      ∷ [];
 }
 
 abbrev function_of : Kind → Opcode → FunctionData
 function_of kind op = record {
-  name = 0; legalized = true; banked = true; selected = false; stack = []; blocks = block_of kind op ∷ []; next_reg = 3; next_id = 5
+  name = 0;
+  legalized = true;
+  banked = true;
+  selected = false;
+  stack = [];
+  blocks = block_of kind op ∷ [];
+  next_reg = 3;
+  next_id = 5;
 }
 
 abbrev module_of : FunctionData → ModuleData
@@ -88,14 +95,24 @@ unfolding digits
 spells_selected = record {
   no_ir = refl;
   from_a_document = refl;
-  documents = (record {
-    from_a_key = refl;
-    entries = record {
-      keyed = refl; is_named = refl; named = refl; legal = (refl, refl); banked = (refl, refl); chosen = (refl, refl);
-      no_registers = refl; no_stack = refl; no_objects = refl;
-      bodied = (refl, refl, (record { numbered = refl; succeeded = refl; live = (λ empty. cc, refl); instructed = (refl, (refl, (refl, (refl, (refl, tt))))) }, tt))
-    }
-  }, tt)
+  documents = (
+    record {
+      from_a_key = refl;
+      entries = record {
+        keyed = refl;
+        is_named = refl;
+        named = refl;
+        legal = (refl, refl);
+        banked = (refl, refl);
+        chosen = (refl, refl);
+        no_registers = refl;
+        no_stack = refl;
+        no_objects = refl;
+        bodied = (refl, refl, (record { numbered = refl; succeeded = refl; live = (λ empty. cc, refl); instructed = (refl, (refl, (refl, (refl, (refl, tt))))) }, tt));
+      };
+    },
+    tt,
+  );
 }
 
 pub spells_stated : Spells stated_text generic_module
@@ -103,14 +120,24 @@ unfolding digits
 spells_stated = record {
   no_ir = refl;
   from_a_document = refl;
-  documents = (record {
-    from_a_key = refl;
-    entries = record {
-      keyed = refl; is_named = refl; named = refl; legal = (refl, refl); banked = (refl, refl); chosen = refl;
-      no_registers = refl; no_stack = refl; no_objects = refl;
-      bodied = (refl, refl, (record { numbered = refl; succeeded = refl; live = (λ empty. cc, refl); instructed = (refl, (refl, (refl, (refl, (refl, tt))))) }, tt))
-    }
-  }, tt)
+  documents = (
+    record {
+      from_a_key = refl;
+      entries = record {
+        keyed = refl;
+        is_named = refl;
+        named = refl;
+        legal = (refl, refl);
+        banked = (refl, refl);
+        chosen = refl;
+        no_registers = refl;
+        no_stack = refl;
+        no_objects = refl;
+        bodied = (refl, refl, (record { numbered = refl; succeeded = refl; live = (λ empty. cc, refl); instructed = (refl, (refl, (refl, (refl, (refl, tt))))) }, tt));
+      };
+    },
+    tt,
+  );
 }
 
 pub is_stated : IsStatedText stated_text generic_module
@@ -124,11 +151,18 @@ is_stated = record {
   no_ir = refl;
   functions = refl;
   stated = record {
-    named = refl; legal = refl; banked = refl; chosen = refl; no_objects = refl; blocks = refl; no_successors = refl; live = refl;
+    named = refl;
+    legal = refl;
+    banked = refl;
+    chosen = refl;
+    no_objects = refl;
+    blocks = refl;
+    no_successors = refl;
+    live = refl;
     instructed = (refl, (refl, (refl, (refl, (refl, tt)))));
-    ordered = refl
+    ordered = refl;
   };
-  lines = refl
+  lines = refl;
 }
 
 -- a text that says nothing of the key `selected` doesn't spell a function that is selected

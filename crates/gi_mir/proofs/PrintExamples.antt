@@ -1,5 +1,5 @@
 -- Instructions and a function as they are printed.
-use Rattle.std.proofs.Common.{◌≡◌, ℕ, List, [], ◌∷◌, ◌++◌, Option, Some, None, Bool, true, false, refl}
+use Rattle.std.proofs.Common.{◌≡◌, ℕ, List, [], ◌∷◌, Option, Some, None, Bool, true, false, refl}
 use Rattle.std.specs.Prelude.{codes, pos, negsuc, ◌==◌, if◌then◌else◌}
 use Rattle.std.specs.Fmt.{digits}
 use Rattle.gi_llt.specs.Tokens.{piece_bytes}
@@ -8,13 +8,13 @@ use Rattle.gi_llt.specs.declared.Llt.TheVariants.{Scalar, Pointer}
 use Rattle.gi_mir.specs.declared.opcode.Opcode.{Opcode}
 use Rattle.gi_mir.specs.declared.opcode.Opcode.TheVariants as op
 use Rattle.gi_mir.specs.declared.operand.Kind.{Kind}
-use Rattle.gi_mir.specs.declared.operand.Kind.TheVariants.{Generic, Banked, Class}
+use Rattle.gi_mir.specs.declared.operand.Kind.TheVariants.{Generic, Class}
 use Rattle.gi_mir.specs.declared.operand.MemOp.{MemOp}
 use Rattle.gi_mir.specs.declared.operand.Pred.TheVariants.{Ult}
-use Rattle.gi_mir.specs.declared.operand.SymbolFlag.TheVariants.{Plain, Call, Hi, Lo}
+use Rattle.gi_mir.specs.declared.operand.SymbolFlag.TheVariants.{Plain, Call, Hi}
 use Rattle.gi_mir.specs.declared.operand.Operand.{Operand}
-use Rattle.gi_mir.specs.declared.operand.Operand.TheVariants.{Def, Use, Phys, PhysDef, ImplicitUse, ImplicitDef, Int, Constant, Block, Predicate, Frame, Global, Routine, SavedMask}
-use Rattle.gi_mir.specs.Data.{InstrData, BlockData, FunctionData}
+use Rattle.gi_mir.specs.declared.operand.Operand.TheVariants.{Def, Use, Phys, ImplicitUse, ImplicitDef, Int, Constant, Block, Predicate, Frame, Global, Routine, SavedMask}
+use Rattle.gi_mir.specs.Data.{InstrData, FunctionData}
 use Rattle.gi_mir.specs.Stated.{reg_of, no_flags}
 use Rattle.gi_mir.specs.Printed.{instr_pieces, printed_lines}
 
@@ -114,18 +114,22 @@ shows_adjustment = refl
 -- would fall out of it otherwise, and the last need not state that
 abbrev three_blocks : FunctionData
 three_blocks = record {
-  name = 0; legalized = true; banked = false; selected = false;
+  name = 0;
+  legalized = true;
+  banked = false;
+  selected = false;
   stack = record { size = 4; align = 4 } ∷ record { size = 16; align = 8 } ∷ [];
   blocks =
-    record {
-      successors = 1 ∷ 2 ∷ []; liveins = 10 ∷ [];
-      instrs = (0, instr op.Copy (def 0 ∷ Phys 10 ∷ [])) ∷ (1, instr op.GenericBranchConditional (use_of 0 ∷ Block 2 ∷ [])) ∷ []
-    }
-    ∷ record { successors = []; liveins = []; instrs = [] }
-    ∷ record { successors = []; liveins = []; instrs = (2, instr op.PseudoReturn []) ∷ [] }
-    ∷ [];
+      record {
+        successors = 1 ∷ 2 ∷ [];
+        liveins = 10 ∷ [];
+        instrs = (0, instr op.Copy (def 0 ∷ Phys 10 ∷ [])) ∷ (1, instr op.GenericBranchConditional (use_of 0 ∷ Block 2 ∷ [])) ∷ [];
+      }
+      ∷ record { successors = []; liveins = []; instrs = [] }
+      ∷ record { successors = []; liveins = []; instrs = (2, instr op.PseudoReturn []) ∷ [] }
+      ∷ [];
   next_reg = 1;
-  next_id = 3
+  next_id = 3;
 }
 
 pub prints_blocks : printed_lines names three_blocks ≡ codes "---"
