@@ -1,55 +1,55 @@
 -- A function that adds its two arguments, before and after the selection of instructions, with its texts.
-use Rattle.std.proofs.Common.{◌≡◌, ℕ, List, [], ◌∷◌, ◌++◌, Some, None, true, false, refl}
+use Rattle.std.proofs.Common.{◌≡◌, ℕ, List, [], ◌∷◌, None, true, false, refl}
 use Rattle.std.specs.Prelude.{codes}
 use Rattle.std.specs.Fmt.{digits}
 use Rattle.gi_llt.specs.declared.Llt.TheVariants.{Scalar}
 use Rattle.gi_mir.specs.declared.opcode.Opcode.{Opcode}
 use Rattle.gi_mir.specs.declared.opcode.Opcode.TheVariants.{Copy, GenericAdd, Add, PseudoReturn}
-use Rattle.gi_mir.specs.declared.operand.Reg.{Reg}
-use Rattle.gi_mir.specs.declared.operand.Flags.{Flags}
 use Rattle.gi_mir.specs.declared.operand.Kind.{Kind}
 use Rattle.gi_mir.specs.declared.operand.Kind.TheVariants.{Banked, Class}
 use Rattle.gi_mir.specs.declared.operand.Operand.{Operand}
 use Rattle.gi_mir.specs.declared.operand.Operand.TheVariants.{Def, Use, Phys, PhysDef, ImplicitUse}
 use Rattle.gi_mir.specs.Data.{InstrData, BlockData, FunctionData, ModuleData}
 use Rattle.gi_mir.specs.Printed.{printed, text_of}
-use Rattle.gi_mir.specs.Spelling.{Spells, lines_of}
-
-abbrev reg : ℕ → Reg
-reg number = record { 0 = number }
-
-abbrev no_flags : Flags
-no_flags = record { nuw = false; nsw = false; exact = false; disjoint = false; nneg = false }
+use Rattle.gi_mir.specs.Spelling.{Spells}
+use Rattle.gi_mir.specs.Stated.{CopyIn, AddUp, CopyOut, Return, reg_of, no_flags, IsStatedText}
 
 abbrev instr : Opcode → List Operand → InstrData
 instr op operands = record { op = op; flags = no_flags; operands = operands; mem = None; line = 1 }
 
-abbrev added : Kind → Opcode → FunctionData
-added kind op = record {
-  name = 0; legalized = true; banked = true; selected = false; stack = [];
-  blocks = record {
-    successors = [];
-    liveins = 10 ∷ 11 ∷ [];
-    instrs =
-      (0, instr Copy (Def (reg 0) kind ∷ Phys 10 ∷ []))
-      ∷ (1, instr Copy (Def (reg 1) kind ∷ Phys 11 ∷ []))
-      ∷ (2, instr op (Def (reg 2) kind ∷ Use (reg 0) ∷ Use (reg 1) ∷ []))
-      ∷ (3, instr Copy (PhysDef 10 ∷ Use (reg 2) ∷ []))
+abbrev block_of : Kind → Opcode → BlockData
+block_of kind op = record {
+  successors = [];
+  liveins = 10 ∷ 11 ∷ [];
+  instrs =
+      (0, instr Copy (Def (reg_of 0) kind ∷ Phys 10 ∷ []))
+      ∷ (1, instr Copy (Def (reg_of 1) kind ∷ Phys 11 ∷ []))
+      ∷ (2, instr op (Def (reg_of 2) kind ∷ Use (reg_of 0) ∷ Use (reg_of 1) ∷ []))
+      ∷ (3, instr Copy (PhysDef 10 ∷ Use (reg_of 2) ∷ []))
       ∷ (4, instr PseudoReturn (ImplicitUse 10 ∷ []))
-      ∷ []
-  } ∷ [];
+      ∷ [];
+}
+
+abbrev function_of : Kind → Opcode → FunctionData
+function_of kind op = record {
+  name = 0;
+  legalized = true;
+  banked = true;
+  selected = false;
+  stack = [];
+  blocks = block_of kind op ∷ [];
   next_reg = 3;
-  next_id = 5
+  next_id = 5;
 }
 
 abbrev module_of : FunctionData → ModuleData
 module_of f = record { ir = None; names = codes "add" ∷ []; functions = f ∷ [] }
 
 abbrev generic_module : ModuleData
-generic_module = module_of (added (Banked (Scalar 32)) GenericAdd)
+generic_module = module_of (function_of (Banked (Scalar 32)) GenericAdd)
 
 abbrev selected_module : ModuleData
-selected_module = module_of (record (added Class Add) { selected = true })
+selected_module = module_of (record (function_of Class Add) { selected = true })
 
 abbrev stated_text : List ℕ
 stated_text = text_of (codes "---"
@@ -95,14 +95,24 @@ unfolding digits
 spells_selected = record {
   no_ir = refl;
   from_a_document = refl;
-  documents = (record {
+  documents = (
+    record {
       from_a_key = refl;
       entries = record {
-        keyed = refl; is_named = refl; named = refl; legal = (refl, refl); banked = (refl, refl); chosen = (refl, refl);
-        no_registers = refl; no_stack = refl; no_objects = refl;
-        bodied = (refl, refl, (record { numbered = refl; succeeded = refl; live = (λ empty. cc, refl); instructed = (refl, (refl, (refl, (refl, (refl, tt))))) }, tt))
-      }
-  }, tt)
+        keyed = refl;
+        is_named = refl;
+        named = refl;
+        legal = (refl, refl);
+        banked = (refl, refl);
+        chosen = (refl, refl);
+        no_registers = refl;
+        no_stack = refl;
+        no_objects = refl;
+        bodied = (refl, refl, (record { numbered = refl; succeeded = refl; live = (λ empty. cc, refl); instructed = (refl, (refl, (refl, (refl, (refl, tt))))) }, tt));
+      };
+    },
+    tt,
+  );
 }
 
 pub spells_stated : Spells stated_text generic_module
@@ -110,12 +120,55 @@ unfolding digits
 spells_stated = record {
   no_ir = refl;
   from_a_document = refl;
-  documents = (record {
+  documents = (
+    record {
       from_a_key = refl;
       entries = record {
-        keyed = refl; is_named = refl; named = refl; legal = (refl, refl); banked = (refl, refl); chosen = refl;
-        no_registers = refl; no_stack = refl; no_objects = refl;
-        bodied = (refl, refl, (record { numbered = refl; succeeded = refl; live = (λ empty. cc, refl); instructed = (refl, (refl, (refl, (refl, (refl, tt))))) }, tt))
-      }
-  }, tt)
+        keyed = refl;
+        is_named = refl;
+        named = refl;
+        legal = (refl, refl);
+        banked = (refl, refl);
+        chosen = refl;
+        no_registers = refl;
+        no_stack = refl;
+        no_objects = refl;
+        bodied = (refl, refl, (record { numbered = refl; succeeded = refl; live = (λ empty. cc, refl); instructed = (refl, (refl, (refl, (refl, (refl, tt))))) }, tt));
+      };
+    },
+    tt,
+  );
 }
+
+pub is_stated : IsStatedText stated_text generic_module
+unfolding digits
+is_stated = record {
+  f = function_of (Banked (Scalar 32)) GenericAdd;
+  instrs = CopyIn 0 10 ∷ CopyIn 1 11 ∷ AddUp 2 0 1 ∷ CopyOut 10 2 ∷ Return ∷ [];
+  block = block_of (Banked (Scalar 32)) GenericAdd;
+  gaps = record { name = 0; legal = 0; banked = 0; body = 0 };
+  closed = false;
+  no_ir = refl;
+  functions = refl;
+  stated = record {
+    named = refl;
+    legal = refl;
+    banked = refl;
+    chosen = refl;
+    no_objects = refl;
+    blocks = refl;
+    no_successors = refl;
+    live = refl;
+    instructed = (refl, (refl, (refl, (refl, (refl, tt)))));
+    ordered = refl;
+  };
+  lines = refl;
+}
+
+-- a text that says nothing of the key `selected` doesn't spell a function that is selected
+pub spells_no_selected : Spells stated_text selected_module → ⊥
+spells_no_selected spelled = let wrong : true ≡ false = spelled.documents.0.entries.chosen in cc
+
+-- nor does a text spell a module with another function after it
+pub spells_no_more : Spells selected_text (record selected_module { functions = function_of Class Add ∷ function_of Class Add ∷ [] }) → ⊥
+spells_no_more spelled = spelled.documents.1

@@ -1,27 +1,24 @@
 -- The lines of a printed block are read as its head, its lists and its instructions.
-use Rattle.std.proofs.Common.{◌≡◌, ℕ, zero, suc, Bool, true, false, cond, List, [], ◌∷◌, ◌++◌, length, Option, Some, None, sym, refl, ap, ◌∙◌, subst, append_assoc}
-use Rattle.std.specs.Prelude.{◌≢◌, ◌||◌, ◌&&◌, ◌==◌, not, filter, replicate, bytes_eq, nat_eq, if◌then◌else◌, codes, decimal, ⊤}
-use Rattle.std.specs.List.{list_all, list_any, starts_with, AllZip}
-use Rattle.std.specs.Cmp.Derive.{both_true}
-use Rattle.std.proofs.lemmas.Bool.{and_parts, not-true, false≢true, cases_Bool, or_from, and_left, and_right}
-use Rattle.std.proofs.lemmas.List.Elements.{filter-append}
+use Rattle.std.proofs.Common.{◌≡◌, ℕ, suc, Bool, true, false, List, [], ◌∷◌, ◌++◌, Some, refl, ap, ◌∙◌, subst}
+use Rattle.std.specs.Prelude.{◌||◌, ◌&&◌, not, bytes_eq, nat_eq, codes, decimal, ⊤}
+use Rattle.std.specs.List.{list_all, starts_with, AllZip}
+use Rattle.std.proofs.lemmas.Bool.{and_parts, not-true, or_from, and_left, and_right}
 use Rattle.std.proofs.lemmas.List.{append-nil}
-use Rattle.gi_llt.specs.Tokens.{LexemeKind, Word, Register, Physical, Mark, Lexeme, lexeme, is_word_byte, is_blank, run_of, past_run, Piece, Token, Spaces, token, tokens_of, piece_bytes, piece_lexemes, is_formed, is_ended, IsApart}
-use Rattle.gi_llt.proofs.Pieces.{is_stopped, run_of-append, past_run-append, tokens_of-pieces}
+use Rattle.gi_llt.specs.Tokens.{LexemeKind, Word, Register, Physical, Mark, Lexeme, lexeme, is_blank, Piece, Spaces, token, tokens_of, piece_bytes, piece_lexemes, is_ended, IsApart}
+use Rattle.gi_llt.proofs.Pieces.{is_stopped, tokens_of-pieces}
 use Rattle.gi_llt.proofs.Apart.{decimal_words, is_no_feed, pieces_no_feed}
 use Rattle.gi_mir.specs.declared.opcode.Opcode.{Opcode}
 use Rattle.gi_mir.specs.declared.opcode.Opcode.TheVariants.{Copy}
 use Rattle.gi_mir.specs.declared.operand.Kind.{Kind}
-use Rattle.gi_mir.specs.declared.operand.Kind.TheVariants.{Generic, Banked, Class}
 use Rattle.gi_mir.specs.declared.operand.Flags.{Flags}
 use Rattle.gi_mir.specs.declared.operand.Operand.{Operand}
 use Rattle.gi_mir.specs.declared.operand.Operand.TheVariants.{Def, PhysDef}
-use Rattle.gi_mir.specs.Data.{InstrData, BlockData, FunctionData}
+use Rattle.gi_mir.specs.Data.{InstrData}
 use Rattle.gi_mir.specs.Row.{word_of, rows_of}
-use Rattle.gi_mir.specs.Printed.{mark, word, listed, register_piece, physical_piece, block_piece, kind_pieces, definitions_of, sources_of, source_forms, first_row, source_pieces, definition_pieces, defined_pieces, flag_pieces, flags_pieces, sources_pieces, memory_pieces, instr_pieces, instr_line, instr_lines, implied_successors, block_pieces, physical_pieces, block_head_pieces, successors_pieces, liveins_pieces, states_successors, successors_lines, liveins_lines, set_off, block_lines, blocks_lines}
-use Rattle.gi_mir.specs.Spelling.{line_items, is_empty_line, begins_comment, is_dropped, kept_lines, Section, Sections, with_head, with_line, sections_of, is_word_kind, begins_block, is_block_head, begins_list, lists, is_list_line, SpellsSuccessors, SpellsLiveins, SpellsInstr, SpellsBlock, SpellsBlocks}
-use Rattle.gi_mir.specs.Printable.{is_named_operand, is_named_instr, is_named_block, has_no_liveins}
-use Rattle.gi_mir.proofs.InstrPieces.{AllSafe, IsSafe, sources_apart, instr_apart, block_safe, physical_safe}
+use Rattle.gi_mir.specs.Printed.{mark, word, listed, kind_pieces, definitions_of, sources_of, source_forms, first_row, source_pieces, definition_pieces, defined_pieces, flag_pieces, flags_pieces, sources_pieces, memory_pieces, instr_pieces, instr_line, instr_lines, block_pieces, physical_pieces, block_head_pieces, successors_pieces, liveins_pieces}
+use Rattle.gi_mir.specs.Spelling.{line_items, is_empty_line, is_dropped, is_word_kind, begins_block, is_block_head, begins_list, lists, is_list_line, SpellsInstr}
+use Rattle.gi_mir.specs.Printable.{is_named_instr}
+use Rattle.gi_mir.proofs.InstrPieces.{AllSafe, sources_apart, instr_apart, block_safe, physical_safe}
 
 -- the first token of an instruction is no block's head and no list's key
 abbrev pub is_instr_start : Lexeme → Bool
@@ -45,12 +42,16 @@ token_starts : (kind : LexemeKind) (bytes : List ℕ) (cell : List Piece) (cells
     → Starts (piece_lexemes (defined_pieces ((token kind bytes ∷ cell) ∷ cells) ++ after))
 token_starts kind bytes cell cells after fine =
     let (more, e) = listed_first (token kind bytes) cell cells in
-    record { first = lexeme kind bytes; rest = piece_lexemes ((more ++ (Spaces 1 ∷ mark 61 ∷ Spaces 1 ∷ [])) ++ after);
-             whole = ap (λ pieces. piece_lexemes ((pieces ++ (Spaces 1 ∷ mark 61 ∷ Spaces 1 ∷ [])) ++ after)) e; fine = fine }
+    record {
+      first = lexeme kind bytes;
+      rest = piece_lexemes ((more ++ (Spaces 1 ∷ mark 61 ∷ Spaces 1 ∷ [])) ++ after);
+      whole = ap (λ pieces. piece_lexemes ((pieces ++ (Spaces 1 ∷ mark 61 ∷ Spaces 1 ∷ [])) ++ after)) e;
+      fine = fine;
+    }
 
 flags_start : (nuw nsw exact disjoint nneg : Bool) (op : Opcode) (after : List Piece)
     → Starts (piece_lexemes ((flag_pieces nuw (codes "nuw") ++ (flag_pieces nsw (codes "nsw") ++ (flag_pieces exact (codes "exact")
-        ++ (flag_pieces disjoint (codes "disjoint") ++ flag_pieces nneg (codes "nneg"))))) ++ (word (word_of op) ∷ after)))
+    ++ (flag_pieces disjoint (codes "disjoint") ++ flag_pieces nneg (codes "nneg"))))) ++ (word (word_of op) ∷ after)))
 flags_start true nsw exact disjoint nneg op after = record { first = _; rest = _; whole = refl; fine = refl }
 flags_start false true exact disjoint nneg op after = record { first = _; rest = _; whole = refl; fine = refl }
 flags_start false false true disjoint nneg op after = record { first = _; rest = _; whole = refl; fine = refl }
@@ -88,11 +89,11 @@ no_list lexemes s =
     let outer = and_parts (not (starts_with nat_eq s.first.bytes (codes "bb.")) && not (bytes_eq s.first.bytes (codes "successors"))) (not (bytes_eq s.first.bytes (codes "liveins"))) s.fine in
     let inner = and_parts (not (starts_with nat_eq s.first.bytes (codes "bb."))) (not (bytes_eq s.first.bytes (codes "successors"))) outer.0 in
     let one : begins_list (codes "successors") (Some lexemes) ≡ false =
-        ap (λ ls. begins_list (codes "successors") (Some ls)) s.whole
-        ∙ no_list_from (codes "successors") s.first s.rest (not-true (bytes_eq s.first.bytes (codes "successors")) inner.1) in
+    ap (λ ls. begins_list (codes "successors") (Some ls)) s.whole
+    ∙ no_list_from (codes "successors") s.first s.rest (not-true (bytes_eq s.first.bytes (codes "successors")) inner.1) in
     let two : begins_list (codes "liveins") (Some lexemes) ≡ false =
-        ap (λ ls. begins_list (codes "liveins") (Some ls)) s.whole
-        ∙ no_list_from (codes "liveins") s.first s.rest (not-true (bytes_eq s.first.bytes (codes "liveins")) outer.1) in
+    ap (λ ls. begins_list (codes "liveins") (Some ls)) s.whole
+    ∙ no_list_from (codes "liveins") s.first s.rest (not-true (bytes_eq s.first.bytes (codes "liveins")) outer.1) in
     or_from (begins_list (codes "successors") (Some lexemes)) (begins_list (codes "liveins") (Some lexemes)) one two
 
 -- P of each line
@@ -237,7 +238,7 @@ successors_listed successors = record {
   inner = inner_line 3 (successors_pieces successors) (lexeme Word (codes "successors")) _ (successors_apart successors) refl;
   no_head = ap begins_block (successors_items successors);
   one = ap (begins_list (codes "successors")) (successors_items successors);
-  other = ap (begins_list (codes "liveins")) (successors_items successors)
+  other = ap (begins_list (codes "liveins")) (successors_items successors);
 }
 
 pub liveins_listed : (liveins : List ℕ) → IsListLine (liveins_line liveins) false
@@ -245,5 +246,5 @@ liveins_listed liveins = record {
   inner = inner_line 3 (liveins_pieces liveins) (lexeme Word (codes "liveins")) _ (liveins_apart liveins) refl;
   no_head = ap begins_block (liveins_items liveins);
   one = ap (begins_list (codes "successors")) (liveins_items liveins);
-  other = ap (begins_list (codes "liveins")) (liveins_items liveins)
+  other = ap (begins_list (codes "liveins")) (liveins_items liveins);
 }

@@ -1,22 +1,20 @@
 -- The lines of a printed function, and of one with other gaps behind its colons, spell that function.
-use Rattle.std.proofs.Common.{◌≡◌, ℕ, zero, suc, Bool, true, false, cond, List, [], ◌∷◌, ◌++◌, length, Option, Some, None, sym, refl, ap, ◌∙◌, subst, append_assoc, inl, inr, arith}
-use Rattle.std.specs.Prelude.{◌≢◌, ◌⊎◌, ◌||◌, ◌&&◌, ◌==◌, not, filter, filter_map, option_map, take, drop, replicate, bytes_eq, nat_eq, if◌then◌else◌, codes, ⊤}
-use Rattle.std.specs.List.{list_all, AllZip}
-use Rattle.std.specs.Cmp.Derive.{both_true}
-use Rattle.std.proofs.lemmas.Bool.{and_parts, not-true, false≢true, or_left, or_right, and_left, cases_Bool}
+use Rattle.std.proofs.Common.{◌≡◌, ℕ, zero, suc, Bool, true, false, List, [], ◌∷◌, ◌++◌, length, Option, Some, None, sym, refl, ap, ◌∙◌, subst, append_assoc, arith}
+use Rattle.std.specs.Prelude.{◌==◌, replicate, if◌then◌else◌, codes}
+use Rattle.std.specs.List.{list_all}
+use Rattle.std.proofs.lemmas.Bool.{and_parts, false≢true}
 use Rattle.std.proofs.lemmas.Bool.Decides.{nat_tests}
 use Rattle.std.proofs.lemmas.List.{append-nil}
-use Rattle.gi_llt.specs.Tokens.{Lexeme, is_blank, is_word_byte, run_of, past_run, tokens_of, piece_lexemes}
-use Rattle.gi_llt.proofs.Pieces.{is_stopped, with_token}
+use Rattle.gi_llt.specs.Tokens.{Lexeme, is_blank, is_word_byte, past_run}
+use Rattle.gi_llt.proofs.Pieces.{with_token}
 use Rattle.gi_llt.proofs.Apart.{is_no_feed, spaces_no_feed, append_no_feed, words_no_feed}
-use Rattle.gi_mir.specs.declared.operand.Kind.{Kind}
-use Rattle.gi_mir.specs.Data.{InstrData, BlockData, FunctionData}
+use Rattle.gi_mir.specs.Data.{FunctionData}
 use Rattle.gi_mir.specs.Registers.{kind_of}
 use Rattle.gi_mir.specs.Printed.{name_at, blocks_lines, key_lines}
-use Rattle.gi_mir.specs.Spelling.{line_items, is_empty_line, is_dropped, kept_lines, Section, Sections, with_head, with_line, sections_of, without_comment, with_byte, without_last_blanks, line_bytes, value_bytes, is_start, is_end, up_to_end, is_at_column_one, key_of, value_of, is_entry, entry_of, entries_of, SpellsTruth, is_name, is_block_head, SpellsBlocks, SpellsBody, SpellsEntries, SpellsFunction, SpellsDocument}
-use Rattle.gi_mir.specs.Printable.{is_named_block, has_no_liveins, later_blocks, IsPrintable}
+use Rattle.gi_mir.specs.Spelling.{is_empty_line, is_dropped, kept_lines, Section, with_head, sections_of, without_comment, with_byte, without_last_blanks, line_bytes, value_bytes, is_end, up_to_end, is_at_column_one, is_name}
+use Rattle.gi_mir.specs.Printable.{IsPrintable}
 use Rattle.gi_mir.proofs.BlockLines.{EachLine, each-append, each-weaker, begins_blank, IsInner}
-use Rattle.gi_mir.proofs.Blocks.{IsLiveAt, AllLiveAt, block_sections, blocks_spelled, kept_each, kept-append, kept_blocks, kept_blocks_lines, kept_blocks_inner, sections_of-append, sections_of-blocks, IsRaw, begins, no_end, no_start, raw_inner, raw_blocks}
+use Rattle.gi_mir.proofs.Blocks.{kept-append, kept_blocks, kept_blocks_lines, kept_blocks_inner, sections_of-append, IsRaw, begins, no_end, no_start}
 
 -- a value with no blank around it, no comment and no line feed
 pub record IsSolid (value : List ℕ) : Type 0 where
@@ -77,7 +75,7 @@ name_solid (byte ∷ more) named =
       whole = ap without_last_blanks (words_uncommented (byte ∷ more) named) ∙ words_unblanked (byte ∷ more) named;
       unindented = rw (word_byte_no_blank byte parts.0) refl;
       some = (byte, more, refl);
-      no_feed = words_no_feed (byte ∷ more) named
+      no_feed = words_no_feed (byte ∷ more) named;
     }
 
 pub true_solid : IsSolid (codes "true")
@@ -143,7 +141,7 @@ name_outer gap value solid = record {
   at_column_one = refl;
   kept = empty_after _ _;
   no_end = no_end (entry_line (codes "name") gap value) refl;
-  raw = record { no_start = no_start (entry_line (codes "name") gap value) refl; no_feed = value_no_feed gap value solid }
+  raw = record { no_start = no_start (entry_line (codes "name") gap value) refl; no_feed = value_no_feed gap value solid };
 }
 
 legal_outer : (gap : ℕ) (value : List ℕ) → IsSolid value → IsOuter (entry_line (codes "legalized") gap value)
@@ -151,7 +149,7 @@ legal_outer gap value solid = record {
   at_column_one = refl;
   kept = empty_after _ _;
   no_end = no_end (entry_line (codes "legalized") gap value) refl;
-  raw = record { no_start = no_start (entry_line (codes "legalized") gap value) refl; no_feed = value_no_feed gap value solid }
+  raw = record { no_start = no_start (entry_line (codes "legalized") gap value) refl; no_feed = value_no_feed gap value solid };
 }
 
 banked_outer : (gap : ℕ) (value : List ℕ) → IsSolid value → IsOuter (entry_line (codes "regBankSelected") gap value)
@@ -159,7 +157,7 @@ banked_outer gap value solid = record {
   at_column_one = refl;
   kept = empty_after _ _;
   no_end = no_end (entry_line (codes "regBankSelected") gap value) refl;
-  raw = record { no_start = no_start (entry_line (codes "regBankSelected") gap value) refl; no_feed = value_no_feed gap value solid }
+  raw = record { no_start = no_start (entry_line (codes "regBankSelected") gap value) refl; no_feed = value_no_feed gap value solid };
 }
 
 chosen_outer : (gap : ℕ) (value : List ℕ) → IsSolid value → IsOuter (entry_line (codes "selected") gap value)
@@ -167,7 +165,7 @@ chosen_outer gap value solid = record {
   at_column_one = refl;
   kept = empty_after _ _;
   no_end = no_end (entry_line (codes "selected") gap value) refl;
-  raw = record { no_start = no_start (entry_line (codes "selected") gap value) refl; no_feed = value_no_feed gap value solid }
+  raw = record { no_start = no_start (entry_line (codes "selected") gap value) refl; no_feed = value_no_feed gap value solid };
 }
 
 pub body_outer : (gap : ℕ) (value : List ℕ) → IsSolid value → IsOuter (entry_line (codes "body") gap value)
@@ -175,7 +173,7 @@ body_outer gap value solid = record {
   at_column_one = refl;
   kept = empty_after _ _;
   no_end = no_end (entry_line (codes "body") gap value) refl;
-  raw = record { no_start = no_start (entry_line (codes "body") gap value) refl; no_feed = value_no_feed gap value solid }
+  raw = record { no_start = no_start (entry_line (codes "body") gap value) refl; no_feed = value_no_feed gap value solid };
 }
 
 tracks_outer : IsOuter (codes "tracksRegLiveness: true")
@@ -190,12 +188,13 @@ header_outer layout name legal banked chosen solid =
     let tracks = key_lines layout.tracks (codes "tracksRegLiveness: true") in
     let chosen_lines = key_lines chosen (entry_line (codes "selected") layout.chosen (codes "true")) in
     let banked_lines = key_lines banked (entry_line (codes "regBankSelected") layout.banked (codes "true")) in
-    let legal_lines = key_lines legal (entry_line (codes "legalized") layout.legal (codes "true")) in
-    (name_outer layout.name name solid,
-    each-append IsOuter legal_lines (banked_lines ++ (chosen_lines ++ tracks)) (key_outer legal _ (legal_outer layout.legal (codes "true") true_solid))
-    (each-append IsOuter banked_lines (chosen_lines ++ tracks) (key_outer banked _ (banked_outer layout.banked (codes "true") true_solid))
-    (each-append IsOuter chosen_lines tracks (key_outer chosen _ (chosen_outer layout.chosen (codes "true") true_solid))
-    (key_outer layout.tracks _ tracks_outer))))
+    let legal_lines = key_lines legal (entry_line (codes "legalized") layout.legal (codes "true")) in (
+      name_outer layout.name name solid,
+      each-append IsOuter legal_lines (banked_lines ++ (chosen_lines ++ tracks)) (key_outer legal _ (legal_outer layout.legal (codes "true") true_solid))
+          (each-append IsOuter banked_lines (chosen_lines ++ tracks) (key_outer banked _ (banked_outer layout.banked (codes "true") true_solid))
+          (each-append IsOuter chosen_lines tracks (key_outer chosen _ (chosen_outer layout.chosen (codes "true") true_solid))
+          (key_outer layout.tracks _ tracks_outer))),
+    )
 
 -- such lines are kept, and each begins an entry with nothing under it
 kept_outer : (lines : List (List ℕ)) → EachLine IsOuter lines → kept_lines lines ≡ lines
@@ -223,8 +222,8 @@ body_sections : (line : List ℕ) (lines : List (List ℕ)) → is_at_column_one
 body_sections line lines first each =
     let Goal : List (List ℕ) → Type 0 = λ under. sections_of is_at_column_one under ≡ record { before = lines; sections = [] } in
     let appended : Goal (lines ++ []) =
-        sections_of-append is_at_column_one lines [] (each-weaker IsInner (λ l. is_at_column_one l ≡ false) blank_at_no_column lines each)
-        ∙ ap (λ before. record { before = before; sections = [] }) (append-nil lines) in
+    sections_of-append is_at_column_one lines [] (each-weaker IsInner (λ l. is_at_column_one l ≡ false) blank_at_no_column lines each)
+    ∙ ap (λ before. record { before = before; sections = [] }) (append-nil lines) in
     let under : Goal lines = subst Goal (append-nil lines) appended in
     rw first (ap (with_head line) under)
 
@@ -261,25 +260,25 @@ inner_no_end line inner = no_end line (begins_no_dot line inner.indented)
 
 pub kept_function : (layout : Layout) (names : List (List ℕ)) (f : FunctionData) → IsPrintable names f
     → up_to_end (kept_lines (function_lines layout names f))
-      ≡ header_lines layout (name_at names f.name) f.legalized f.banked f.selected ++ (body_line layout ∷ kept_blocks (kind_of f) names 0 (length f.blocks) f.blocks)
+    ≡ header_lines layout (name_at names f.name) f.legalized f.banked f.selected ++ (body_line layout ∷ kept_blocks (kind_of f) names 0 (length f.blocks) f.blocks)
 kept_function layout names f printable =
     let header = header_lines layout (name_at names f.name) f.legalized f.banked f.selected in
     let blocks = kept_blocks (kind_of f) names 0 (length f.blocks) f.blocks in
     let header_each : EachLine IsOuter header = header_outer layout (name_at names f.name) f.legalized f.banked f.selected (name_solid (name_at names f.name) printable.is_named) in
     let body_each : IsOuter (body_line layout) = body_outer layout.body (codes "|") bar_solid in
     let rest : kept_lines (blocks_lines (kind_of f) names 0 (length f.blocks) f.blocks ++ end_lines layout.closed) ≡ blocks ++ end_lines layout.closed =
-        kept-append (blocks_lines (kind_of f) names 0 (length f.blocks) f.blocks) (end_lines layout.closed)
-        ∙ (ap (λ xs. xs ++ kept_lines (end_lines layout.closed)) (kept_blocks_lines (kind_of f) names 0 (length f.blocks) f.blocks printable.named_blocks)
-        ∙ ap (λ ys. blocks ++ ys) (kept_end layout.closed)) in
+    kept-append (blocks_lines (kind_of f) names 0 (length f.blocks) f.blocks) (end_lines layout.closed)
+    ∙ (ap (λ xs. xs ++ kept_lines (end_lines layout.closed)) (kept_blocks_lines (kind_of f) names 0 (length f.blocks) f.blocks printable.named_blocks)
+    ∙ ap (λ ys. blocks ++ ys) (kept_end layout.closed)) in
     let body : kept_lines (body_line layout ∷ (blocks_lines (kind_of f) names 0 (length f.blocks) f.blocks ++ end_lines layout.closed)) ≡ body_line layout ∷ (blocks ++ end_lines layout.closed) =
-        rw (body_each.kept) (ap (λ more. body_line layout ∷ more) rest) in
+    rw (body_each.kept) (ap (λ more. body_line layout ∷ more) rest) in
     let whole : kept_lines (function_lines layout names f) ≡ header ++ (body_line layout ∷ (blocks ++ end_lines layout.closed)) =
-        kept-append header (body_line layout ∷ (blocks_lines (kind_of f) names 0 (length f.blocks) f.blocks ++ end_lines layout.closed))
-        ∙ (ap (λ xs. xs ++ kept_lines (body_line layout ∷ (blocks_lines (kind_of f) names 0 (length f.blocks) f.blocks ++ end_lines layout.closed))) (kept_outer header header_each)
-        ∙ ap (λ ys. header ++ ys) body) in
+    kept-append header (body_line layout ∷ (blocks_lines (kind_of f) names 0 (length f.blocks) f.blocks ++ end_lines layout.closed))
+    ∙ (ap (λ xs. xs ++ kept_lines (body_line layout ∷ (blocks_lines (kind_of f) names 0 (length f.blocks) f.blocks ++ end_lines layout.closed))) (kept_outer header header_each)
+    ∙ ap (λ ys. header ++ ys) body) in
     let ends : EachLine (λ line. is_end line ≡ false) (header ++ (body_line layout ∷ blocks)) =
-        each-append (λ line. is_end line ≡ false) header (body_line layout ∷ blocks) (each-weaker IsOuter (λ line. is_end line ≡ false) outer_no_end header header_each)
-        (body_each.no_end, each-weaker IsInner (λ line. is_end line ≡ false) inner_no_end blocks (kept_blocks_inner (kind_of f) names 0 (length f.blocks) f.blocks printable.named_blocks)) in
+    each-append (λ line. is_end line ≡ false) header (body_line layout ∷ blocks) (each-weaker IsOuter (λ line. is_end line ≡ false) outer_no_end header header_each)
+    (body_each.no_end, each-weaker IsInner (λ line. is_end line ≡ false) inner_no_end blocks (kept_blocks_inner (kind_of f) names 0 (length f.blocks) f.blocks printable.named_blocks)) in
     ap up_to_end (whole ∙ sym (append_assoc header (body_line layout ∷ blocks) (end_lines layout.closed)))
     ∙ up_to_either layout.closed (header ++ (body_line layout ∷ blocks)) ends
 

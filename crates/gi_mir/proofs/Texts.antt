@@ -1,22 +1,21 @@
 -- A printed module is spelled by its text, and so is the module of a text as the program takes it so far.
-use Rattle.std.proofs.Common.{◌≡◌, ℕ, zero, suc, Bool, true, false, cond, List, [], ◌∷◌, ◌++◌, length, Option, Some, None, sym, refl, ap, ◌∙◌, subst, append_assoc, inl, inr, arith}
-use Rattle.std.specs.Prelude.{◌≢◌, ◌⊎◌, ◌||◌, ◌&&◌, ◌==◌, not, replicate, bytes_eq, if◌then◌else◌, codes, ⊤}
+use Rattle.std.proofs.Common.{◌≡◌, ℕ, suc, Bool, true, false, List, [], ◌∷◌, ◌++◌, length, None, sym, refl, ap, ◌∙◌, subst, inl, inr, arith}
+use Rattle.std.specs.Prelude.{◌==◌, replicate, codes}
 use Rattle.std.specs.List.{list_all, AllZip}
 use Rattle.std.specs.Cmp.Derive.{both_true}
 use Rattle.std.proofs.lemmas.Bool.{and_parts, not-true, false≢true}
 use Rattle.std.proofs.lemmas.Bool.Decides.{nat_tests}
 use Rattle.std.proofs.lemmas.List.{append-nil}
-use Rattle.gi_llt.specs.Tokens.{is_word_start, is_digit, is_word_byte}
-use Rattle.gi_llt.proofs.Apart.{is_no_feed, append_no_feed}
-use Rattle.gi_mir.specs.declared.operand.Kind.{Kind}
+use Rattle.gi_llt.specs.Tokens.{is_word_byte}
+use Rattle.gi_llt.proofs.Apart.{is_no_feed}
 use Rattle.gi_mir.specs.Data.{InstrData, BlockData, FunctionData, ModuleData}
 use Rattle.gi_mir.specs.Registers.{kind_of}
-use Rattle.gi_mir.specs.Printed.{name_at, blocks_lines, key_lines, stack_lines, printed_lines, functions_lines, ir_lines, text_of, printed}
-use Rattle.gi_mir.specs.Spelling.{onto_first, lines_of, is_dropped, kept_lines, Section, Sections, with_head, sections_of, line_bytes, value_bytes, is_start, up_to_end, is_at_column_one, is_entry, entries_of, SpellsTruth, is_name, is_block_head, SpellsBlocks, SpellsBody, SpellsEntries, SpellsFunction, SpellsDocument, Spells}
+use Rattle.gi_mir.specs.Printed.{name_at, blocks_lines, key_lines, printed_lines, functions_lines, ir_lines, text_of, printed}
+use Rattle.gi_mir.specs.Spelling.{onto_first, lines_of, is_dropped, Section, Sections, with_head, sections_of, value_bytes, is_start, is_entry, entries_of, SpellsTruth, is_name, is_block_head, SpellsBlocks, SpellsBody, SpellsEntries, SpellsDocument, Spells}
 use Rattle.gi_mir.specs.Printable.{is_named_operand, is_named_instr, is_named_block, are_none, has_no_liveins, later_blocks, IsPrintable, AllPrintable, IsPrintableModule}
 use Rattle.gi_mir.specs.Stated.{StatedInstr, CopyIn, MakeConstant, AddUp, CopyOut, Return, stated_instr, IsStatedInstr, is_name_byte, is_stated_name, IsStated, Gaps, stated_lines, IsStatedText}
 use Rattle.gi_mir.proofs.BlockLines.{EachLine, each-append, each-weaker}
-use Rattle.gi_mir.proofs.Blocks.{IsLiveAt, AllLiveAt, block_sections, blocks_spelled, kept_blocks, sections_of-append, sections_of-blocks, IsRaw, raw_blocks}
+use Rattle.gi_mir.proofs.Blocks.{AllLiveAt, block_sections, blocks_spelled, kept_blocks, sections_of-append, sections_of-blocks, IsRaw, raw_blocks}
 use Rattle.gi_mir.proofs.Documents.{IsSolid, entry_line, value_bytes-gap, name_solid, true_solid, Layout, header_lines, end_lines, body_line, function_lines, IsOuter, header_outer, body_outer, bar_solid, bare, function_sections, sections_of-function}
 
 -- the entries, by which of the keys stand
@@ -133,12 +132,13 @@ body_spelled : (layout : Layout) (names : List (List ℕ)) (f : FunctionData) �
     → SpellsBody names (record { head = value_bytes (replicate layout.body 32 ++ codes "|"); under = kept_blocks (kind_of f) names 0 (length f.blocks) f.blocks } ∷ []) f
 body_spelled layout names f printable =
     let sections : sections_of is_block_head (kept_blocks (kind_of f) names 0 (length f.blocks) f.blocks)
-            ≡ record { before = []; sections = block_sections (kind_of f) names 0 (length f.blocks) f.blocks } =
-        sections_of-blocks (kind_of f) names 0 (length f.blocks) f.blocks printable.named_blocks in
-    let P : Sections → Type 0 = λ s. SpellsBlocks (kind_of f) names 0 (length f.blocks) s.sections f.blocks in
-    (value_bytes-gap layout.body (codes "|") bar_solid,
-    ap (λ (s : Sections). s.before) sections,
-    subst P (sym sections) (blocks_spelled (kind_of f) names 0 (length f.blocks) f.blocks printable.named_blocks (all_live f.blocks printable.live_first)))
+    ≡ record { before = []; sections = block_sections (kind_of f) names 0 (length f.blocks) f.blocks } =
+    sections_of-blocks (kind_of f) names 0 (length f.blocks) f.blocks printable.named_blocks in
+    let P : Sections → Type 0 = λ s. SpellsBlocks (kind_of f) names 0 (length f.blocks) s.sections f.blocks in (
+      value_bytes-gap layout.body (codes "|") bar_solid,
+      ap (λ (s : Sections). s.before) sections,
+      subst P (sym sections) (blocks_spelled (kind_of f) names 0 (length f.blocks) f.blocks printable.named_blocks (all_live f.blocks printable.live_first)),
+    )
 
 entries_spelled : (layout : Layout) (names : List (List ℕ)) (f : FunctionData) → IsPrintable names f → SpellsEntries names (function_sections layout names f) f
 entries_spelled layout names f printable =
@@ -156,8 +156,8 @@ entries_spelled layout names f printable =
       no_stack = no_stack_by layout name under f.legalized f.banked f.selected layout.tracks;
       no_objects = printable.no_objects;
       bodied =
-        let P : List Section → Type 0 = λ entries. SpellsBody names entries f in
-        subst P (sym (body_by layout name under f.legalized f.banked f.selected layout.tracks)) (body_spelled layout names f printable)
+          let P : List Section → Type 0 = λ entries. SpellsBody names entries f in
+          subst P (sym (body_by layout name under f.legalized f.banked f.selected layout.tracks)) (body_spelled layout names f printable);
     }
 
 document_spelled : (layout : Layout) (names : List (List ℕ)) (f : FunctionData) → IsPrintable names f
@@ -167,7 +167,7 @@ document_spelled layout names f printable =
     let P : Sections → Type 0 = λ s. SpellsEntries names s.sections f in
     record {
       from_a_key = ap (λ (s : Sections). s.before) sections;
-      entries = subst P (sym sections) (entries_spelled layout names f printable)
+      entries = subst P (sym sections) (entries_spelled layout names f printable);
     }
 
 -- the lines of a text
@@ -195,9 +195,10 @@ function_raw layout names f printable =
     let header = header_lines layout name f.legalized f.banked f.selected in
     let blocks = blocks_lines (kind_of f) names 0 (length f.blocks) f.blocks in
     each-append IsRaw header (body_line layout ∷ (blocks ++ end_lines layout.closed))
-    (each-weaker IsOuter IsRaw outer_raw header (header_outer layout name f.legalized f.banked f.selected (name_solid name printable.is_named)))
-    (outer_raw (body_line layout) (body_outer layout.body (codes "|") bar_solid),
-    each-append IsRaw blocks (end_lines layout.closed) (raw_blocks (kind_of f) names 0 (length f.blocks) f.blocks printable.named_blocks) (end_raw layout.closed))
+    (each-weaker IsOuter IsRaw outer_raw header (header_outer layout name f.legalized f.banked f.selected (name_solid name printable.is_named))) (
+      outer_raw (body_line layout) (body_outer layout.body (codes "|") bar_solid),
+      each-append IsRaw blocks (end_lines layout.closed) (raw_blocks (kind_of f) names 0 (length f.blocks) f.blocks printable.named_blocks) (end_raw layout.closed),
+    )
 
 raw_no_start : (line : List ℕ) → IsRaw line → is_start line ≡ false
 raw_no_start line raw = raw.no_start
@@ -221,8 +222,8 @@ sections_of-documents layout names (f ∷ functions) all =
     let lines = function_lines layout names f in
     let later = documents_lines layout names functions in
     let rest : sections_of is_start (lines ++ later) ≡ record { before = lines ++ []; sections = documents_of layout names functions } =
-        sections_of-append is_start lines later (each-weaker IsRaw (λ line. is_start line ≡ false) raw_no_start lines (function_raw layout names f all.0))
-        ∙ ap (λ (s : Sections). record { before = lines ++ s.before; sections = s.sections }) (sections_of-documents layout names functions all.1) in
+    sections_of-append is_start lines later (each-weaker IsRaw (λ line. is_start line ≡ false) raw_no_start lines (function_raw layout names f all.0))
+    ∙ ap (λ (s : Sections). record { before = lines ++ s.before; sections = s.sections }) (sections_of-documents layout names functions all.1) in
     let Goal : List (List ℕ) → Type 0 = λ before. sections_of is_start (lines ++ later) ≡ record { before = before; sections = documents_of layout names functions } in
     let exact : Goal lines = subst Goal (append-nil lines) rest in
     ap (with_head (codes "---")) exact
@@ -237,22 +238,23 @@ text_spelled : (layout : Layout) (text : List ℕ) (m : ModuleData) → m.ir ≡
     → Spells text m
 text_spelled layout text m no_ir all lines =
     let sections : sections_of is_start (lines_of text) ≡ record { before = []; sections = documents_of layout m.names m.functions } =
-        ap (sections_of is_start) lines ∙ sections_of-documents layout m.names m.functions all in
+    ap (sections_of is_start) lines ∙ sections_of-documents layout m.names m.functions all in
     let P : Sections → Type 0 = λ s. AllZip (SpellsDocument m.names) s.sections m.functions in
     record {
       no_ir = no_ir;
       from_a_document = ap (λ (s : Sections). list_all is_dropped s.before) sections;
-      documents = subst P (sym sections) (documents_spelled layout m.names m.functions all)
+      documents = subst P (sym sections) (documents_spelled layout m.names m.functions all);
     }
 
 documents_feeds : (layout : Layout) (names : List (List ℕ)) (functions : List FunctionData) → AllPrintable names functions
     → EachLine (λ line. list_all is_no_feed line ≡ true) (documents_lines layout names functions)
 documents_feeds layout names [] all = tt
-documents_feeds layout names (f ∷ functions) all =
-    (refl,
-    each-append (λ line. list_all is_no_feed line ≡ true) (function_lines layout names f) (documents_lines layout names functions)
-    (each-weaker IsRaw (λ line. list_all is_no_feed line ≡ true) raw_no_feed (function_lines layout names f) (function_raw layout names f all.0))
-    (documents_feeds layout names functions all.1))
+documents_feeds layout names (f ∷ functions) all = (
+  refl,
+  each-append (λ line. list_all is_no_feed line ≡ true) (function_lines layout names f) (documents_lines layout names functions)
+      (each-weaker IsRaw (λ line. list_all is_no_feed line ≡ true) raw_no_feed (function_lines layout names f) (function_raw layout names f all.0))
+      (documents_feeds layout names functions all.1),
+)
 
 -- the layout of printed text
 abbrev printed_layout : Layout
@@ -260,15 +262,15 @@ printed_layout = record { name = 12; legal = 7; banked = 1; chosen = 8; body = 1
 
 printed_header : (name : List ℕ) (legal banked chosen : Bool) (rest : List (List ℕ))
     → (codes "name:            " ++ name)
-      ∷ (key_lines legal (codes "legalized:       true") ++ (key_lines banked (codes "regBankSelected: true") ++ (key_lines chosen (codes "selected:        true")
-      ++ (codes "tracksRegLiveness: true" ∷ (codes "body:             |" ∷ rest)))))
-      ≡ header_lines printed_layout name legal banked chosen ++ (body_line printed_layout ∷ rest)
+    ∷ (key_lines legal (codes "legalized:       true") ++ (key_lines banked (codes "regBankSelected: true") ++ (key_lines chosen (codes "selected:        true")
+    ++ (codes "tracksRegLiveness: true" ∷ (codes "body:             |" ∷ rest)))))
+    ≡ header_lines printed_layout name legal banked chosen ++ (body_line printed_layout ∷ rest)
 printed_header name legal banked chosen rest =
     by_flags (λ a b c d.
-        (codes "name:            " ++ name)
-        ∷ (key_lines a (codes "legalized:       true") ++ (key_lines b (codes "regBankSelected: true") ++ (key_lines c (codes "selected:        true")
-        ++ (codes "tracksRegLiveness: true" ∷ (codes "body:             |" ∷ rest)))))
-        ≡ header_lines printed_layout name a b c ++ (body_line printed_layout ∷ rest))
+    (codes "name:            " ++ name)
+    ∷ (key_lines a (codes "legalized:       true") ++ (key_lines b (codes "regBankSelected: true") ++ (key_lines c (codes "selected:        true")
+    ++ (codes "tracksRegLiveness: true" ∷ (codes "body:             |" ∷ rest)))))
+    ≡ header_lines printed_layout name a b c ++ (body_line printed_layout ∷ rest))
     refl refl refl refl refl refl refl refl refl refl refl refl refl refl refl refl legal banked chosen true
 
 printed_lines-is : (names : List (List ℕ)) (f : FunctionData) → IsPrintable names f → printed_lines names f ≡ codes "---" ∷ function_lines printed_layout names f
@@ -286,7 +288,7 @@ functions_lines-is names (f ∷ functions) all =
 pub printed_spells : (m : ModuleData) → IsPrintableModule m → Spells (printed m) m
 printed_spells m printable =
     let whole : ir_lines m.ir ++ functions_lines m.names m.functions ≡ documents_lines printed_layout m.names m.functions =
-        ap (λ ir. ir_lines ir ++ functions_lines m.names m.functions) printable.no_ir ∙ functions_lines-is m.names m.functions printable.functions in
+    ap (λ ir. ir_lines ir ++ functions_lines m.names m.functions) printable.no_ir ∙ functions_lines-is m.names m.functions printable.functions in
     text_spelled printed_layout (printed m) m printable.no_ir printable.functions
     (ap (λ lines. lines_of (text_of lines)) whole
     ∙ lines_of-text_of (documents_lines printed_layout m.names m.functions) (documents_feeds printed_layout m.names m.functions printable.functions))
@@ -333,7 +335,7 @@ stated_printable names f instrs block stated =
       is_named = stated_name (name_at names f.name) stated.named;
       no_objects = stated.no_objects;
       named_blocks = subst Named (sym stated.blocks) (both_true (stated_instrs_named names instrs block.instrs stated.instructed) refl);
-      live_first = subst Live (sym stated.blocks) refl
+      live_first = subst Live (sym stated.blocks) refl;
     }
 
 abbrev stated_layout : Gaps → (closed : Bool) → Layout
@@ -345,10 +347,10 @@ stated_lines-is gaps closed names f instrs block stated =
     let layout = stated_layout gaps closed in
     let count : 1 ≡ length f.blocks = sym (ap length stated.blocks) in
     let Counted : ℕ → Type 0 = λ n. stated_lines gaps closed names f
-        ≡ codes "---" ∷ (header_lines layout (name_at names f.name) true true false ++ (body_line layout ∷ (blocks_lines (kind_of f) names 0 n f.blocks ++ end_lines closed))) in
+    ≡ codes "---" ∷ (header_lines layout (name_at names f.name) true true false ++ (body_line layout ∷ (blocks_lines (kind_of f) names 0 n f.blocks ++ end_lines closed))) in
     let counted : Counted (length f.blocks) = subst Counted count refl in
     let keyed : header_lines layout (name_at names f.name) f.legalized f.banked f.selected ≡ header_lines layout (name_at names f.name) true true false =
-        rw (stated.legal, stated.banked, stated.chosen) refl in
+    rw (stated.legal, stated.banked, stated.chosen) refl in
     let body = body_line layout ∷ (blocks_lines (kind_of f) names 0 (length f.blocks) f.blocks ++ end_lines closed) in
     counted ∙ (ap (λ header. codes "---" ∷ (header ++ body)) (sym keyed) ∙ ap (λ lines. codes "---" ∷ lines) (sym (append-nil (function_lines layout names f))))
 

@@ -1,6 +1,6 @@
 -- The functions whose printed text spells them so far: they have no stack object, only their first block has
 -- registers that are live at its start, and each name that stands in them is a name.
-use Rattle.std.specs.Prelude.{◌≡◌, ℕ, Bool, true, false, ◌&&◌, List, [], ◌∷◌, None, ⊤}
+use Rattle.std.specs.Prelude.{◌≡◌, ℕ, Bool, true, false, List, [], ◌∷◌, None, ⊤}
 use Rattle.std.specs.List.{list_all}
 use Rattle.gi_mir.specs.declared.operand.Operand.{Operand}
 use Rattle.gi_mir.specs.declared.operand.Operand.TheVariants.{Global, Routine}

@@ -6,9 +6,9 @@
 -- So far nothing is spelled by what follows: an IR block; the keys `registers` and `stack`; numbers of blocks
 -- other than their places, names and attributes of blocks; words that are passed over in a line; a use that
 -- lacks its type, a constant that isn't written as it is printed, and an alignment that need not be written.
-use Rattle.std.specs.Prelude.{◌≡◌, ◌≢◌, ℕ, zero, suc, Bool, true, false, not, ◌&&◌, ◌||◌, List, [], ◌∷◌, ◌++◌, Option, Some, None, length, take, drop, filter, filter_map, ◌==◌, bytes_eq, nat_eq, if◌then◌else◌, codes, ⊤}
+use Rattle.std.specs.Prelude.{◌≡◌, ◌≢◌, ℕ, zero, suc, Bool, true, false, not, ◌&&◌, ◌||◌, List, [], ◌∷◌, Option, Some, None, length, drop, filter, filter_map, ◌==◌, bytes_eq, nat_eq, if◌then◌else◌, codes, ⊤}
 use Rattle.std.specs.List.{list_all, starts_with, AllZip}
-use Rattle.gi_llt.specs.Tokens.{LexemeKind, Word, Number, Register, Physical, Global, Routine, Quoted, Metadata, Mark, Lexeme, lexeme, is_word_start, is_word_byte, is_blank, run_of, past_run, tokens_of, piece_lexemes}
+use Rattle.gi_llt.specs.Tokens.{LexemeKind, Word, Lexeme, is_word_start, is_word_byte, is_blank, run_of, past_run, tokens_of, piece_lexemes}
 use Rattle.gi_mir.specs.declared.operand.Kind.{Kind}
 use Rattle.gi_mir.specs.Data.{InstrData, BlockData, FunctionData, ModuleData}
 use Rattle.gi_mir.specs.Registers.{kind_of}

@@ -1,7 +1,7 @@
 -- The text that the program takes so far, as exact lines: one function of one block that copies registers,
 -- makes constants, adds and returns. Its registers are of 32 bits and of the bank `gprb`.
 -- (Machine IR (MIR) Format Reference Manual, "Machine Functions", "Machine Basic Blocks".)
-use Rattle.std.specs.Prelude.{◌≡◌, ℕ, suc, ◌<◌, ◌^◌, Bool, true, false, not, ◌&&◌, ◌||◌, List, [], ◌∷◌, ◌++◌, None, replicate, nat_lt, nat_le, ◌==◌, if◌then◌else◌, codes}
+use Rattle.std.specs.Prelude.{◌≡◌, ℕ, suc, Bool, true, false, not, ◌&&◌, ◌||◌, List, [], ◌∷◌, ◌++◌, None, replicate, nat_lt, nat_le, ◌==◌, if◌then◌else◌, codes}
 use Rattle.std.specs.List.{list_all, list_any, AllZip}
 use Rattle.gi_llt.specs.Tokens.{is_word_start, is_digit}
 use Rattle.gi_llt.specs.declared.Llt.TheVariants.{Scalar}
@@ -10,7 +10,6 @@ use Rattle.gi_mir.specs.declared.operand.Reg.{Reg}
 use Rattle.gi_mir.specs.declared.operand.Flags.{Flags}
 use Rattle.gi_mir.specs.declared.operand.Kind.{Kind}
 use Rattle.gi_mir.specs.declared.operand.Kind.TheVariants.{Banked}
-use Rattle.gi_mir.specs.declared.operand.Operand.{Operand}
 use Rattle.gi_mir.specs.declared.operand.Operand.TheVariants.{Def, Use, Phys, PhysDef, ImplicitUse, Constant}
 use Rattle.gi_mir.specs.Data.{InstrData, BlockData, FunctionData, ModuleData}
 use Rattle.gi_mir.specs.Registers.{kind_of}

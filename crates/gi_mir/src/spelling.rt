@@ -10,11 +10,9 @@ ghost use Rattle.gi_mir.specs.Stated.{IsStatedText};
 /// The printed text of a module spells that module.
 pub fn printed_text_spells()
     ensures { (m : ModuleData) → IsPrintableModule m → Spells (printed m) m }
-{
-}
+{}
 
 /// A text as the program takes it so far spells its module.
 pub fn stated_text_spells()
     ensures { (text : List ℕ) (m : ModuleData) → IsStatedText text m → Spells text m }
-{
-}
+{}
