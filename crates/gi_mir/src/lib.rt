@@ -10,3 +10,5 @@ pub mod names;
 pub mod opcode;
 pub mod operand;
 pub mod row;
+#[cfg(test)]
+mod tests;
