@@ -1,90 +1,13 @@
--- A function that adds its two arguments, before and after the selection of instructions, with its texts.
-use Rattle.std.proofs.Common.{◌≡◌, ℕ, List, [], ◌∷◌, None, true, false, refl}
-use Rattle.std.specs.Prelude.{codes}
+-- The example's texts spell its two modules.
+use Rattle.std.proofs.Common.{◌≡◌, List, [], ◌∷◌, None, true, false, refl}
 use Rattle.std.specs.Fmt.{digits}
+use Rattle.gi_mir.specs.AddExample.{block_of, function_of, generic_module, selected_module, stated_text, selected_text}
+use Rattle.gi_mir.specs.declared.opcode.Opcode.TheVariants.{GenericAdd}
+use Rattle.gi_mir.specs.declared.operand.Kind.TheVariants.{Banked}
 use Rattle.gi_llt.specs.declared.Llt.TheVariants.{Scalar}
-use Rattle.gi_mir.specs.declared.opcode.Opcode.{Opcode}
-use Rattle.gi_mir.specs.declared.opcode.Opcode.TheVariants.{Copy, GenericAdd, Add, PseudoReturn}
-use Rattle.gi_mir.specs.declared.operand.Kind.{Kind}
-use Rattle.gi_mir.specs.declared.operand.Kind.TheVariants.{Banked, Class}
-use Rattle.gi_mir.specs.declared.operand.Operand.{Operand}
-use Rattle.gi_mir.specs.declared.operand.Operand.TheVariants.{Def, Use, Phys, PhysDef, ImplicitUse}
-use Rattle.gi_mir.specs.Data.{InstrData, BlockData, FunctionData, ModuleData}
-use Rattle.gi_mir.specs.Printed.{printed, text_of}
+use Rattle.gi_mir.specs.Printed.{printed}
 use Rattle.gi_mir.specs.Spelling.{Spells}
-use Rattle.gi_mir.specs.Stated.{CopyIn, AddUp, CopyOut, Return, reg_of, no_flags, IsStatedText}
-
-abbrev instr : Opcode → List Operand → InstrData
-instr op operands = record { op = op; flags = no_flags; operands = operands; mem = None; line = 1 }
-
-abbrev block_of : Kind → Opcode → BlockData
-block_of kind op = record {
-  successors = [];
-  liveins = 10 ∷ 11 ∷ [];
-  instrs =
-      (0, instr Copy (Def (reg_of 0) kind ∷ Phys 10 ∷ []))
-      ∷ (1, instr Copy (Def (reg_of 1) kind ∷ Phys 11 ∷ []))
-      ∷ (2, instr op (Def (reg_of 2) kind ∷ Use (reg_of 0) ∷ Use (reg_of 1) ∷ []))
-      ∷ (3, instr Copy (PhysDef 10 ∷ Use (reg_of 2) ∷ []))
-      ∷ (4, instr PseudoReturn (ImplicitUse 10 ∷ []))
-      ∷ [];
-}
-
-abbrev function_of : Kind → Opcode → FunctionData
-function_of kind op = record {
-  name = 0;
-  legalized = true;
-  banked = true;
-  selected = false;
-  stack = [];
-  blocks = block_of kind op ∷ [];
-  next_reg = 3;
-  next_id = 5;
-}
-
-abbrev module_of : FunctionData → ModuleData
-module_of f = record { ir = None; names = codes "add" ∷ []; functions = f ∷ [] }
-
-abbrev generic_module : ModuleData
-generic_module = module_of (function_of (Banked (Scalar 32)) GenericAdd)
-
-abbrev selected_module : ModuleData
-selected_module = module_of (record (function_of Class Add) { selected = true })
-
-abbrev stated_text : List ℕ
-stated_text = text_of (codes "---"
-    ∷ codes "name: add"
-    ∷ codes "legalized: true"
-    ∷ codes "regBankSelected: true"
-    ∷ codes "body: |"
-    ∷ codes "  bb.0:"
-    ∷ codes "    liveins: $x10, $x11"
-    ∷ []
-    ∷ codes "    %0:gprb(s32) = COPY $x10"
-    ∷ codes "    %1:gprb(s32) = COPY $x11"
-    ∷ codes "    %2:gprb(s32) = G_ADD %0, %1"
-    ∷ codes "    $x10 = COPY %2(s32)"
-    ∷ codes "    PseudoRET implicit $x10"
-    ∷ [])
-
-abbrev selected_text : List ℕ
-selected_text = text_of (codes "---"
-    ∷ codes "name:            add"
-    ∷ codes "legalized:       true"
-    ∷ codes "regBankSelected: true"
-    ∷ codes "selected:        true"
-    ∷ codes "tracksRegLiveness: true"
-    ∷ codes "body:             |"
-    ∷ codes "  bb.0:"
-    ∷ codes "    liveins: $x10, $x11"
-    ∷ []
-    ∷ codes "    %0:gpr = COPY $x10"
-    ∷ codes "    %1:gpr = COPY $x11"
-    ∷ codes "    %2:gpr = ADD %0, %1"
-    ∷ codes "    $x10 = COPY %2"
-    ∷ codes "    PseudoRET implicit $x10"
-    ∷ codes "..."
-    ∷ [])
+use Rattle.gi_mir.specs.Stated.{CopyIn, AddUp, CopyOut, Return, IsStatedText}
 
 pub prints_selected : printed selected_module ≡ selected_text
 unfolding digits

@@ -1,3 +1,4 @@
+pub mod AddExample
 pub mod Data
 pub mod Edit
 pub mod Formed

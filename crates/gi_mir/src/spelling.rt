@@ -1,6 +1,7 @@
 //! What is promised of texts and the modules that they spell.
 
 ghost use Rattle.std.specs.Prelude.{List, ℕ};
+ghost use Rattle.gi_mir.specs.AddExample.{generic_module, selected_module, stated_text, selected_text};
 ghost use Rattle.gi_mir.specs.Data.{ModuleData};
 ghost use Rattle.gi_mir.specs.Printable.{IsPrintableModule};
 ghost use Rattle.gi_mir.specs.Printed.{printed};
@@ -16,3 +17,10 @@ pub fn printed_text_spells()
 pub fn stated_text_spells()
     ensures { (text : List ℕ) (m : ModuleData) → IsStatedText text m → Spells text m }
 {}
+
+/// The texts of an example, before and after the selection of instructions, spell its two modules.
+pub fn example_texts_spell()
+    ensures stated { Spells stated_text generic_module }
+    ensures chosen { Spells selected_text selected_module }
+{
+}
