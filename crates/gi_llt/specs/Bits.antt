@@ -1,6 +1,6 @@
 -- The bits of a number: cut, read with a sign, extended and taken apart.
 -- (Language Reference, "Integer Type"; RISC-V unprivileged ISA, chapter 1, "Base Integer ISAs": two's complement.)
-use Rattle.std.specs.Prelude.{ℕ, zero, suc, ◌+◌, ◌-◌, ◌*◌, ◌/◌, ◌%◌, ◌^◌, nat_lt, if◌then◌else◌, ℤ, pos, negsuc, ◌*ℤ◌, neg_ℤ}
+use Rattle.std.specs.Prelude.{ℕ, ◌-◌, ◌*◌, ◌/◌, ◌%◌, ◌^◌, nat_lt, if◌then◌else◌, ℤ, pos, negsuc, ◌*ℤ◌, neg_ℤ}
 
 -- the value modulo 2 to the number of bits
 abbrev pub wrapped : (bits value : ℕ) → ℕ

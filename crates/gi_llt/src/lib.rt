@@ -6,7 +6,7 @@ ghost use Rattle.gi_llt.specs.Llt.{width_of};
 
 mod bits;
 
-pub use bits::{part, sext, wrap};
+pub use bits::{high_product, part, sext, wrap};
 
 /// Memory ran out.
 #[derive(Clone, Copy, Debug, PartialEq, Eq)]
@@ -37,3 +37,6 @@ pub fn width(ty: Llt, target: Target) -> u16
         Llt::Pointer => target.xlen,
     }
 }
+
+#[cfg(test)]
+mod tests;

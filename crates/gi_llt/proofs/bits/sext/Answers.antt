@@ -1,4 +1,4 @@
-use Rattle.std.proofs.Common.{arith, ◌≡◌, ◌≤◌, ◌<◌, ◌-◌, ◌^◌, ◌%◌, ◌∙◌, sym, lit<}
+use Rattle.std.proofs.Common.{arith, ◌≤◌, ◌<◌, ◌^◌, ◌%◌, ◌∙◌, sym, lit<}
 use Rattle.std.proofs.Math.Nat.{pow-le-pow_right, mod-lt}
 use Rattle.std.proofs.lemmas.Nat.{pow_pos}
 use Rattle.gi_llt.proofs.Signs.{extended_below, extended_above}
@@ -13,6 +13,6 @@ returns-then-low-power c = c.wrap-low.ensures ∙ sym (extended_below c.args.fro
 
 pub returns-else-low-power : goal.returns-else-low-power
 returns-else-low-power c =
-  let within : c.args.value % 2 ^ c.args.from < 2 ^ c.args.from = mod-lt c.args.value (pow_pos c.args.from) in
-  let is_extended : _ = extended_above c.args.from c.args.to (wrapped c.args.from c.args.value) c.requires.upward (omega arith) within in
-  omega (arith, is_extended)
+    let within : c.args.value % 2 ^ c.args.from < 2 ^ c.args.from = mod-lt c.args.value (pow_pos c.args.from) in
+    let is_extended : _ = extended_above c.args.from c.args.to (wrapped c.args.from c.args.value) c.requires.upward (omega arith) within in
+    omega (arith, is_extended)
