@@ -2,8 +2,8 @@
 use Rattle.std.proofs.Common.{◌≡◌, List, [], ◌∷◌, None, true, false, refl}
 use Rattle.std.specs.Fmt.{digits}
 use Rattle.gi_mir.specs.AddExample.{block_of, function_of, generic_module, selected_module, stated_text, selected_text}
-use Rattle.gi_mir.specs.declared.opcode.Opcode.TheVariants.{GenericAdd}
-use Rattle.gi_mir.specs.declared.operand.Kind.TheVariants.{Banked}
+use Rattle.gi_mir.specs.declared.opcode.Opcode.TheVariants.{GenericAdd, Add}
+use Rattle.gi_mir.specs.declared.operand.Kind.TheVariants.{Banked, Class}
 use Rattle.gi_llt.specs.declared.Llt.TheVariants.{Scalar}
 use Rattle.gi_mir.specs.Printed.{printed}
 use Rattle.gi_mir.specs.Spelling.{Spells}
