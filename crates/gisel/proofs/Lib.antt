@@ -1,3 +1,4 @@
 pub mod SelectionLaws
 pub mod SelectFront
 pub mod CompileLaws
+pub mod AddRuns

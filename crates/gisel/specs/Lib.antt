@@ -1,3 +1,4 @@
+pub mod AddRuns
 pub mod Promise
 pub mod Reading
 pub mod Selectable
