@@ -4,3 +4,4 @@ pub mod Reading
 pub mod Selectable
 pub mod Selection
 pub mod Statement
+pub mod Stop
