@@ -3,6 +3,7 @@
 
 pub mod function;
 pub mod instr;
+pub mod module;
 pub mod names;
 pub mod opcode;
 pub mod operand;
