@@ -1,7 +1,10 @@
 //! GlobalISel for RISC-V: reads Machine IR, runs passes over it and prints it.
 #![tactic(auto)]
 
+mod header;
+mod line;
 mod lines;
+mod refusal;
 mod statement;
 
 fn main() {}
