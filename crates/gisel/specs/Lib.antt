@@ -1,4 +1,5 @@
 pub mod Header
 pub mod Lines
 pub mod Reading
+pub mod Standing
 pub mod Statement

@@ -8,7 +8,7 @@ ghost use Rattle.gisel.specs.Header.{IsKeyLine, IsKeyed, IsHead, liveins_line};
 
 use crate::lines::{after, next_line, past_spaces};
 use crate::line::physical_number;
-use crate::refusal::Refusal;
+use crate::refusal::{Refusal, append};
 use std::alloc::Global;
 
 /// The first line of what is left of a text, from this line on, and what is left after it. A text that ends
@@ -149,10 +149,10 @@ pub fn liveins_of(alloc: Global, line: &[u8], place: u32) -> Result<Vec<u8>, Ref
         return Err(Refusal::NotBuilt { line: place });
     };
     let mut liveins = Vec::new(alloc);
-    liveins.push(first).map_err(|_| Refusal::Memory)?;
+    append(&mut liveins, first)?;
     let mut rest = after_first;
     while let Some((next, more)) = argument_after(rest, b", $x") {
-        liveins.push(next).map_err(|_| Refusal::Memory)?;
+        append(&mut liveins, next)?;
         rest = more;
     }
     if rest.is_empty() {

@@ -5,6 +5,7 @@ mod header;
 mod line;
 mod lines;
 mod refusal;
+mod standing;
 mod statement;
 
 fn main() {}
