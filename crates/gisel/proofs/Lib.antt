@@ -1,3 +1,4 @@
 pub mod HeaderLemmas
 pub mod LineLemmas
 pub mod LinesLemmas
+pub mod StandingLemmas

@@ -1,3 +1,4 @@
+pub mod Body
 pub mod Header
 pub mod Lines
 pub mod Reading

@@ -1,6 +1,7 @@
 //! GlobalISel for RISC-V: reads Machine IR, runs passes over it and prints it.
 #![tactic(auto)]
 
+mod body;
 mod header;
 mod line;
 mod lines;

@@ -64,7 +64,7 @@ impl Standing {
         ensures { IfOk result (λ s. IsStanding s [] liveins.now) }
     {
         let mut live = HashSet::new(alloc);
-        for physical in liveins.iter().rev() {
+        for physical in liveins {
             add_live(&mut live, *physical)?;
         }
         Ok(Standing {
