@@ -1,3 +1,4 @@
+pub mod BodyLemmas
 pub mod HeaderLemmas
 pub mod LineLemmas
 pub mod LinesLemmas

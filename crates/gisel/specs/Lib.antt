@@ -1,4 +1,5 @@
 pub mod Body
+pub mod Built
 pub mod Header
 pub mod Lines
 pub mod Reading

@@ -23,12 +23,14 @@ fn end(text: &[u8], place: u32) -> Result<(), Refusal>
     match next_line(text) {
         None => Ok(()),
         Some((line, rest)) => {
-            if line != b"...".as_slice() {
-                Err(Refusal::NotBuilt { line: place })
-            } else if !rest.is_empty() {
-                Err(Refusal::NotBuilt { line: place + 1 })
+            if line == b"...".as_slice() {
+                if rest.is_empty() {
+                    Ok(())
+                } else {
+                    Err(Refusal::NotBuilt { line: place + 1 })
+                }
             } else {
-                Ok(())
+                Err(Refusal::NotBuilt { line: place })
             }
         }
     }

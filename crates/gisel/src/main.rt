@@ -2,6 +2,7 @@
 #![tactic(auto)]
 
 mod body;
+mod build;
 mod header;
 mod line;
 mod lines;
