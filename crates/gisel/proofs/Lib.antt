@@ -1,4 +1,5 @@
 pub mod BodyLemmas
+pub mod BuildLemmas
 pub mod HeaderLemmas
 pub mod LineLemmas
 pub mod LinesLemmas
