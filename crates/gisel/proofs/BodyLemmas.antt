@@ -1,6 +1,6 @@
 -- One more instruction that is read, and the last one.
-use Rattle.std.proofs.Common.{◌≡◌, ℕ, length, Bool, true, false, List, [], ◌∷◌, ◌++◌, map, refl, sym, ap, ◌∙◌, subst}
-use Rattle.std.proofs.lemmas.List.{append_assoc, map-append}
+use Rattle.std.proofs.Common.{◌≡◌, ℕ, ◌+◌, length, Bool, true, false, List, [], ◌∷◌, ◌++◌, map, refl, sym, ap, ◌∙◌, subst}
+use Rattle.std.proofs.lemmas.List.{append_assoc, map-append, length-append}
 use Rattle.std.specs.Prelude.{not, ◌&&◌, ◌==◌, if◌then◌else◌, codes}
 use Rattle.gi_mir.specs.Spelling.{lines_of}
 use Rattle.gi_mir.specs.Stated.{StatedInstr, are_stated, is_stated_after, is_return, defined_after, live_after}
@@ -74,3 +74,6 @@ none_read text liveins standing statements stands e =
 
 pub end_from : (text line rest : List ℕ) → lines_of text ≡ line ∷ lines_of rest → line ≡ codes "..." → true ≡ (length rest == 0) → IsEnd text
 end_from text line rest lines e none = record { closed = true; lines = lines ∙ ap (λ t. t ∷ lines_of rest) e ∙ ap (λ t. codes "..." ∷ lines_of t) (no_more rest none) }
+
+pub length_pushed : (statements all : List Statement) (statement : Statement) → all ≡ statements ++ statement ∷ [] → length all ≡ length statements + 1
+length_pushed statements all statement e = ap length e ∙ length-append statements (statement ∷ [])

@@ -1,6 +1,7 @@
 -- One more instruction that is built.
-use Rattle.std.proofs.Common.{◌≡◌, ℕ, suc, zero, ◌+◌, ◌<◌, ◌≤◌, Bool, true, false, List, [], ◌∷◌, ◌++◌, None, map, length, get_or, refl, sym, ap, ◌∙◌, subst, arith}
+use Rattle.std.proofs.Common.{◌≡◌, ℕ, suc, zero, ◌+◌, ◌<◌, ◌≤◌, Bool, true, false, List, [], ◌∷◌, ◌++◌, None, map, length, get_or, take, refl, sym, ap, ◌∙◌, subst, arith}
 use Rattle.std.proofs.lemmas.Bool.{and_parts}
+use Rattle.std.proofs.lemmas.List.{take_more, map-append}
 use Rattle.std.proofs.lemmas.Bool.Decides.{nat_tests}
 use Rattle.std.specs.Prelude.{◌&&◌, nat_lt, nat_le, slice_set, slice_index_or}
 use Rattle.std.specs.List.{list_all, AllZip}
@@ -58,3 +59,8 @@ arguments_at [] place s all within = absurd (omega arith)
 arguments_at (first ∷ statements) zero s all within = (and_parts (has_arguments (stated_of first)) (list_all has_arguments (map stated_of statements)) all).0
 arguments_at (first ∷ statements) (suc place) s all within =
     arguments_at statements place s (and_parts (has_arguments (stated_of first)) (list_all has_arguments (map stated_of statements)) all).1 (omega arith)
+
+pub one_built : (name : ℕ) (liveins : List ℕ) (statements : List Statement) (place : ℕ) (s : Statement) (f : FunctionData) → place < length statements
+    → IsBuilt name liveins (map stated_of (take place statements) ++ stated_of (get_or statements place s) ∷ []) f → IsBuilt name liveins (map stated_of (take (place + 1) statements)) f
+one_built name liveins statements place s f within built =
+    subst (λ t. IsBuilt name liveins t f) (sym (ap (map stated_of) (take_more statements place s within) ∙ map-append stated_of (take place statements) (get_or statements place s ∷ []))) built

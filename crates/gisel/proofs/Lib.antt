@@ -3,4 +3,5 @@ pub mod BuildLemmas
 pub mod HeaderLemmas
 pub mod LineLemmas
 pub mod LinesLemmas
+pub mod ReadLemmas
 pub mod StandingLemmas

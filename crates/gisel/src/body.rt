@@ -65,7 +65,8 @@ fn is_last(statement: Statement) -> bool
 /// The instructions of what is left of a text, from this line on, where these physical registers are live.
 pub fn body(alloc: Global, text: &[u8], first: u32, liveins: &[u8]) -> Result<Vec<Statement>, Refusal>
     requires { first + length text.now < 2 ^ 32 }
-    ensures { IfOk result (λ statements. IsBody text.now liveins.now (map stated_of statements.items)) }
+    ensures body { IfOk result (λ statements. IsBody text.now liveins.now (map stated_of statements.items)) }
+    ensures fits { IfOk result (λ statements. first + length statements.items < 2 ^ 32) }
 {
     let mut standing = Standing::new(alloc, liveins)?;
     let mut statements = Vec::new(alloc);

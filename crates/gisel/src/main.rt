@@ -6,8 +6,12 @@ mod build;
 mod header;
 mod line;
 mod lines;
+mod read;
 mod refusal;
 mod standing;
 mod statement;
+mod unused;
 
-fn main() {}
+fn main(rt: HostRuntime) {
+    let _ = read::read(rt.alloc(), b"---");
+}
