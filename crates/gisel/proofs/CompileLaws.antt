@@ -14,8 +14,8 @@ use Rattle.gi_meaning.proofs.Renaming.{runs_renamed}
 use Rattle.gisel.specs.declared.statement.Statement.{Statement}
 use Rattle.gisel.specs.declared.statement.Statement.TheVariants as statement
 use Rattle.gisel.specs.Statement.{stated_of}
-use Rattle.gisel.specs.Selection.{selected_instr, IsSelectedInstr, IsSelectedBlock, IsSelected}
-use Rattle.gisel.specs.Selectable.{IsSelectable}
+use Rattle.gisel.specs.Selection.{selected_instr, IsSelectedInstr, IsSelectedBlock, IsSelected, IsSelectedModule}
+use Rattle.gisel.specs.Selectable.{IsSelectable, AllSelectable}
 use Rattle.gisel.specs.Reading.{IsRead}
 use Rattle.gisel.specs.Promise.{Refines, Compiles}
 use Rattle.gisel.proofs.SelectionLaws.{Functions, only_block, runs_selected}
@@ -83,20 +83,14 @@ only_function f [] h = absurd h
 only_function f (g ∷ []) h = (g, refl, h.0)
 only_function f (g ∷ k ∷ gs) h = absurd h.1
 
--- the module after selection
-pub record IsSelectedModule (old new : ModuleData) : Type 0 where
-  pub ir : new.ir ≡ old.ir
-  pub names : new.names ≡ old.names
-  pub functions : AllZip IsSelected old.functions new.functions
-
 read_function : (text : List ℕ) (m : ModuleData) (h : IsRead text m) → IsReadFunction m.names h.stated.f
 read_function text m h = record {
   statements = h.statements; block = h.stated.block;
   stated = subst (λ instrs. IsStated m.names h.stated.f instrs h.stated.block) h.same h.stated.stated;
 }
 
-pub all_selectable : (text : List ℕ) (m : ModuleData) (h : IsRead text m) → (m.functions ≡ h.stated.f ∷ []) × IsSelectable h.stated.f
-all_selectable text m h = (h.stated.functions, read_selectable m.names h.stated.f (read_function text m h))
+pub all_selectable : (text : List ℕ) (m : ModuleData) → IsRead text m → AllSelectable m.functions
+all_selectable text m h = subst AllSelectable (sym h.stated.functions) (read_selectable m.names h.stated.f (read_function text m h), tt)
 
 pub compiled : (text written : List ℕ) (m s : ModuleData) → IsRead text m → IsSelectedModule m s → written ≡ printed (numbered_all s) → Compiles 32 text written
 compiled text written m s h made wrote =

@@ -10,7 +10,7 @@ use Rattle.gisel.specs.declared.statement.Statement.{Statement}
 use Rattle.gisel.specs.declared.statement.Statement.TheVariants as statement
 use Rattle.gisel.specs.Statement.{stated_of}
 use Rattle.gisel.specs.Selection.{selected_instr, IsSelectedInstr, IsSelectedBlock, IsSelected}
-use Rattle.gisel.specs.Selectable.{IsSelectable}
+use Rattle.gisel.specs.Selectable.{IsSelectable, AllSelectable}
 
 -- the new function has the old one's block, with what the first instructions become
 pub record SelectedFront (f : FunctionData) (items : List (ℕ × InstrData)) (count : ℕ) (g : FunctionData) : Type 0 where
@@ -25,7 +25,7 @@ pub record SelectedFront (f : FunctionData) (items : List (ℕ × InstrData)) (c
   pub liveins : block.liveins ≡ (block_at f 0).liveins
   pub instrs : AllZip IsSelectedInstr (take count items) block.instrs
 
-zip_more : {A B : Type 0} (R : A → B → Type 0) (xs : List A) (ys : List B) (x : A) (y : B) → AllZip R xs ys → R x y → AllZip R (xs ++ x ∷ []) (ys ++ y ∷ [])
+pub zip_more : {A B : Type 0} (R : A → B → Type 0) (xs : List A) (ys : List B) (x : A) (y : B) → AllZip R xs ys → R x y → AllZip R (xs ++ x ∷ []) (ys ++ y ∷ [])
 zip_more R [] [] x y h r = (r, tt)
 zip_more R [] (z ∷ ys) x y h r = absurd h
 zip_more R (z ∷ xs) [] x y h r = absurd h
@@ -92,3 +92,16 @@ selected_formed f k i d h within at same formed =
     let line : ℕ = (get_or (block_at f 0).instrs k i).1.line in
     let is_stated : d ≡ stated_instr (stated_of s) line = same ∙ ap (λ (j : ℕ × InstrData). j.1) at ∙ found.1 in
     subst (λ e. is_formed (selected_instr e) ≡ true) (sym is_stated) (formed_selected s line (subst (λ e. is_formed e ≡ true) is_stated formed))
+
+-- ══ Lists of functions ══
+
+pub selectable_at : (fs : List FunctionData) (k : ℕ) (f : FunctionData) → AllSelectable fs → k < length fs → f ≡ get_or fs k f → IsSelectable f
+selectable_at [] k f h within at = absurd (omega (arith, within))
+selectable_at (g ∷ fs) zero f h within at = subst IsSelectable (sym at) h.0
+selectable_at (g ∷ fs) (suc k) f h within at = selectable_at fs k f h.1 (omega (arith, within)) at
+
+-- one more function is selected
+pub functions_more : (fs gs : List FunctionData) (k : ℕ) (f g : FunctionData) → AllZip IsSelected (take k fs) gs → k < length fs → f ≡ get_or fs k f → IsSelected f g
+    → AllZip IsSelected (take (suc k) fs) (gs ++ g ∷ [])
+functions_more fs gs k f g h within at made =
+    subst (λ xs. AllZip IsSelected xs (gs ++ g ∷ [])) (ap (λ j. take k fs ++ j ∷ []) at ∙ sym (take-suc fs k f within)) (zip_more IsSelected (take k fs) gs f g h made)

@@ -1,5 +1,5 @@
 -- The functions that selection takes so far: one block of statements, and no stack object.
-use Rattle.std.specs.Prelude.{◌≡◌, ℕ, List, [], ◌∷◌, map}
+use Rattle.std.specs.Prelude.{◌≡◌, ℕ, List, [], ◌∷◌, map, ⊤}
 use Rattle.std.specs.List.{AllZip}
 use Rattle.gi_mir.specs.Data.{BlockData, FunctionData}
 use Rattle.gi_mir.specs.Stated.{IsStatedInstr}
@@ -12,3 +12,7 @@ pub record IsSelectable (f : FunctionData) : Type 0 where
   pub blocks : f.blocks ≡ block ∷ []
   pub stated : AllZip IsStatedInstr (map stated_of statements) block.instrs
   pub no_objects : f.stack ≡ []
+
+abbrev pub AllSelectable : List FunctionData → Type 0
+AllSelectable [] = ⊤
+AllSelectable (f ∷ fs) = IsSelectable f × AllSelectable fs

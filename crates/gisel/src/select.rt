@@ -1,15 +1,17 @@
 //! Instruction selection of what is built so far.
 
 ghost use Rattle.std.specs.Prelude.{◌≡◌, ◌∷◌, ◌++◌, [], true, map, length, None, IfOk, OnOk};
+ghost use Rattle.std.specs.List.{AllZip};
 ghost use Rattle.gi_mir.specs.Edit.{with_instr};
 ghost use Rattle.gi_mir.specs.Formed.{is_formed};
-ghost use Rattle.gisel.specs.Selection.{selected_op, selected_operand, selected_instr, IsSelected};
-ghost use Rattle.gisel.specs.Selectable.{IsSelectable};
+ghost use Rattle.gisel.specs.Selection.{selected_op, selected_operand, selected_instr, IsSelected, IsSelectedModule};
+ghost use Rattle.gisel.specs.Selectable.{IsSelectable, AllSelectable};
 
 use gi_llt::Memory;
 use gi_mir::block::Block;
 use gi_mir::function::Function;
 use gi_mir::instr::Instr;
+use gi_mir::module::Module;
 use gi_mir::opcode::Opcode;
 use gi_mir::operand::{Flags, Kind, Operand};
 use smallvec::SmallVec;
@@ -90,4 +92,35 @@ pub fn select(alloc: Global, function: &Function) -> Result<Function, Memory>
         append_selected(&mut selected, &numbered.instr)?;
     }
     Ok(selected)
+}
+
+/// The module after selection, function by function.
+pub fn select_module(alloc: Global, read: Module) -> Result<Module, Memory>
+    requires { AllSelectable read.functions }
+    ensures { IfOk result (λ selected. IsSelectedModule read selected) }
+{
+    let Module { ir, names, functions } = read;
+    let selected = select_all(alloc, functions.as_slice())?;
+    Ok(Module {
+        ir,
+        names,
+        functions: selected,
+    })
+}
+
+fn select_all(alloc: Global, functions: &[Function]) -> Result<Vec<Function>, Memory>
+    requires { AllSelectable functions.now }
+    ensures { IfOk result (λ selected. AllZip IsSelected functions.now selected.items) }
+{
+    let mut selected = Vec::new(alloc);
+    for function in functions {
+        append_function(&mut selected, select(alloc, function)?)?;
+    }
+    Ok(selected)
+}
+
+fn append_function(functions: &mut Vec<Function>, function: Function) -> Result<(), Memory>
+    ensures { OnOk result (functions.new.items ≡ functions.old.items ++ function ∷ []) }
+{
+    functions.push(function).map_err(|_| Memory)
 }
