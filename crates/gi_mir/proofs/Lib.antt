@@ -8,5 +8,6 @@ pub mod InstrPieces
 pub mod NamesLemmas
 pub mod Places
 pub mod PrintExamples
+pub mod StatedLines
 pub mod Texts
 pub mod Words
