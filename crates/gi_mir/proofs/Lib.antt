@@ -1,5 +1,6 @@
 pub mod Definitions
 pub mod FormedLemmas
+pub mod Live
 pub mod NamesLemmas
 pub mod Places
 pub mod Words
