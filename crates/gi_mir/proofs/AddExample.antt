@@ -14,10 +14,10 @@ use Rattle.gi_mir.specs.Printed.{printed, text_of}
 use Rattle.gi_mir.specs.Spelling.{Spells}
 use Rattle.gi_mir.specs.Stated.{CopyIn, AddUp, CopyOut, Return, reg_of, no_flags, IsStatedText}
 
-abbrev instr : Opcode → List Operand → InstrData
+abbrev pub instr : Opcode → List Operand → InstrData
 instr op operands = record { op = op; flags = no_flags; operands = operands; mem = None; line = 1 }
 
-abbrev block_of : Kind → Opcode → BlockData
+abbrev pub block_of : Kind → Opcode → BlockData
 block_of kind op = record {
   successors = [];
   liveins = 10 ∷ 11 ∷ [];
@@ -30,7 +30,7 @@ block_of kind op = record {
       ∷ [];
 }
 
-abbrev function_of : Kind → Opcode → FunctionData
+abbrev pub function_of : Kind → Opcode → FunctionData
 function_of kind op = record {
   name = 0;
   legalized = true;
@@ -42,10 +42,10 @@ function_of kind op = record {
   next_id = 5;
 }
 
-abbrev module_of : FunctionData → ModuleData
+abbrev pub module_of : FunctionData → ModuleData
 module_of f = record { ir = None; names = codes "add" ∷ []; functions = f ∷ [] }
 
-abbrev generic_module : ModuleData
+abbrev pub generic_module : ModuleData
 generic_module = module_of (function_of (Banked (Scalar 32)) GenericAdd)
 
 abbrev selected_module : ModuleData

@@ -1,6 +1,6 @@
 -- A definition's kind isn't looked at where an instruction is tested for being formed.
-use Rattle.std.proofs.Common.{◌≡◌, ℕ, zero, suc, Bool, true, false, List, [], ◌∷◌, Option, Some, None, refl, ap, sym, ◌∙◌, ◌&&◌}
-use Rattle.std.specs.Prelude.{if◌then◌else◌, slice_get, slice_set, map, ◌||◌, ◌<◌, ◌/◌, nat_eq, nat_lt}
+use Rattle.std.proofs.Common.{◌≡◌, ℕ, zero, suc, Bool, false, List, [], ◌∷◌, Option, Some, None, refl, ap, ◌&&◌}
+use Rattle.std.specs.Prelude.{slice_get, slice_set, map, ◌||◌, ◌<◌, ◌/◌, nat_eq, nat_lt}
 use Rattle.std.proofs.lemmas.Bool.Decides.{nat_tests}
 use Rattle.std.proofs.Math.Nat.{div-lt_iff_lt-mul}
 use Rattle.std.proofs.Common.{arith}
@@ -13,8 +13,8 @@ use Rattle.gi_mir.specs.declared.row.Form.{Form}
 use Rattle.gi_mir.specs.declared.row.Form.TheVariants as form
 use Rattle.gi_mir.specs.declared.operand.Reg.{Reg}
 use Rattle.gi_mir.specs.Data.{InstrData}
-use Rattle.gi_mir.specs.Row.{rows_of, access_of}
-use Rattle.gi_mir.specs.Formed.{admits, taken, fits, is_repeated, wanted_after, with_wanted, is_in_range, has_access, is_formed}
+use Rattle.gi_mir.specs.Row.{rows_of}
+use Rattle.gi_mir.specs.Formed.{admits, taken, fits, is_in_range, is_formed}
 use Rattle.gi_mir.specs.Edit.{changed_at, of_kind, with_kind}
 
 admits-Def : (r : Reg) (old new : Kind) (f : Form) → admits f (Def r new) ≡ admits f (Def r old)

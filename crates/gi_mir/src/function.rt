@@ -1,6 +1,6 @@
 //! Functions: blocks of numbered instructions.
 
-ghost use Rattle.std.specs.Prelude.{◌≡◌, ◌-◌, ◌^◌, ◌<◌, ◌≤◌, true, length, Contains, OnOk, OnErr, IfOk, IfSome, Some, option_map, position, slice_index_or};
+ghost use Rattle.std.specs.Prelude.{◌≡◌, ◌↔◌, IsTrue, ◌-◌, ◌^◌, ◌<◌, ◌≤◌, true, length, Contains, OnOk, OnErr, IfOk, IfSome, Some, option_map, position, slice_index_or};
 ghost use Rattle.std.specs.List.{list_any, position_or_len};
 ghost use Rattle.gi_mir.specs.Edit.{block_at, empty_block, has_instr, home_block, head_of, ids_of, empty_function, register_above, above_registers, with_block, with_stack, with_keys, with_instr, home_of, IsLive, instr_of, id_at, id_after, id_before, without_instr, with_new_reg, CanSetOperand, with_operand_of, IsDefAt, with_changed, with_kind, definition_in, definition_of};
 ghost use Rattle.gi_mir.specs.Formed.{is_formed};
@@ -32,6 +32,13 @@ fn above_registers(least: u64, operands: &[Operand]) -> u64
     operands
         .iter()
         .fold(least, |above, x| above.max(x.register_above()))
+}
+
+/// Whether a block has this instruction.
+fn any_has(blocks: &[Body], id: InstrId) -> bool
+    ensures { result ≡ list_any (has_instr id.0) blocks.now }
+{
+    blocks.iter().any(|body| body.has(id))
 }
 
 /// The place of the first block that has this instruction.
@@ -262,6 +269,20 @@ impl Function {
         ensures has { IsLive self.now id.0 → has_instr id.0 (home_block self.now id.0) ≡ true }
     {
         home_among(self.blocks.as_slice(), id)
+    }
+
+    /// Whether the instruction with this id is in the function.
+    pub fn is_live(&self, id: InstrId) -> bool
+        ensures { IsTrue result ↔ IsLive self.now id.0 }
+    {
+        any_has(self.blocks.as_slice(), id)
+    }
+
+    /// The number of the next virtual register.
+    pub fn next_reg(&self) -> u64
+        ensures { result ≡ self.now.next_reg }
+    {
+        self.next_reg
     }
 
     /// The place of the block that has this instruction.

@@ -1,4 +1,4 @@
-use Rattle.std.proofs.Common.{◌<◌, ◌^◌, arith, nat_eq, nat_lt, ◌≡◌, false, ◌/◌}
+use Rattle.std.proofs.Common.{◌^◌, arith, nat_lt, ◌≡◌, false}
 use Rattle.std.proofs.lemmas.Bool.Decides.{nat_tests}
 use Rattle.std.proofs.lemmas.Nat.{pow_pos}
 use Rattle.gi_mir.proofs.FormedLemmas.{div_is_zero}
