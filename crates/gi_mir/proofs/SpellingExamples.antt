@@ -1,10 +1,10 @@
 -- What a text may hold beside what is printed, and texts that spell nothing.
-use Rattle.std.proofs.Common.{◌≡◌, ℕ, List, [], ◌∷◌, ◌++◌, Some, None, true, false, refl, ap}
+use Rattle.std.proofs.Common.{◌≡◌, ℕ, List, [], ◌∷◌, ◌++◌, None, false, refl, ap}
 use Rattle.std.specs.Prelude.{codes}
 use Rattle.std.specs.Fmt.{digits}
 use Rattle.gi_llt.specs.declared.Llt.TheVariants.{Scalar}
 use Rattle.gi_mir.specs.declared.opcode.Opcode.TheVariants as op
-use Rattle.gi_mir.specs.declared.operand.Kind.TheVariants.{Generic, Banked}
+use Rattle.gi_mir.specs.declared.operand.Kind.TheVariants.{Generic}
 use Rattle.gi_mir.specs.declared.operand.Operand.TheVariants.{Def, Use, Phys, Block, ImplicitUse}
 use Rattle.gi_mir.specs.Data.{FunctionData, ModuleData}
 use Rattle.gi_mir.specs.Printed.{name_at, text_of}
@@ -46,29 +46,45 @@ unfolding digits
 spells_free = record {
   no_ir = refl;
   from_a_document = refl;
-  documents = (record {
-    from_a_key = refl;
-    entries = record {
-      keyed = refl; is_named = refl; named = refl; legal = (refl, refl); banked = (refl, refl); chosen = (refl, refl);
-      no_registers = refl; no_stack = refl; no_objects = refl;
-      bodied = (refl, refl, (record { numbered = refl; succeeded = refl; live = (λ empty. cc, refl); instructed = (refl, (refl, (refl, (refl, (refl, tt))))) }, tt))
-    }
-  }, tt)
+  documents = (
+    record {
+      from_a_key = refl;
+      entries = record {
+        keyed = refl;
+        is_named = refl;
+        named = refl;
+        legal = (refl, refl);
+        banked = (refl, refl);
+        chosen = (refl, refl);
+        no_registers = refl;
+        no_stack = refl;
+        no_objects = refl;
+        bodied = (refl, refl, (record { numbered = refl; succeeded = refl; live = (λ empty. cc, refl); instructed = (refl, (refl, (refl, (refl, (refl, tt))))) }, tt));
+      };
+    },
+    tt,
+  );
 }
 
 -- without a line for them, the successors are the targets of the branches, and then the next block
 abbrev two_ways : FunctionData
 two_ways = record {
-  name = 0; legalized = false; banked = false; selected = false; stack = [];
+  name = 0;
+  legalized = false;
+  banked = false;
+  selected = false;
+  stack = [];
   blocks =
-    record {
-      successors = 2 ∷ 1 ∷ []; liveins = 10 ∷ [];
-      instrs = (0, instr op.Copy (Def (reg_of 0) (Generic (Scalar 32)) ∷ Phys 10 ∷ [])) ∷ (1, instr op.GenericBranchConditional (Use (reg_of 0) ∷ Block 2 ∷ [])) ∷ []
-    }
-    ∷ record { successors = 2 ∷ []; liveins = []; instrs = [] }
-    ∷ record { successors = []; liveins = []; instrs = (2, instr op.PseudoReturn (ImplicitUse 10 ∷ [])) ∷ [] }
-    ∷ [];
-  next_reg = 1; next_id = 3
+      record {
+        successors = 2 ∷ 1 ∷ [];
+        liveins = 10 ∷ [];
+        instrs = (0, instr op.Copy (Def (reg_of 0) (Generic (Scalar 32)) ∷ Phys 10 ∷ [])) ∷ (1, instr op.GenericBranchConditional (Use (reg_of 0) ∷ Block 2 ∷ [])) ∷ [];
+      }
+      ∷ record { successors = 2 ∷ []; liveins = []; instrs = [] }
+      ∷ record { successors = []; liveins = []; instrs = (2, instr op.PseudoReturn (ImplicitUse 10 ∷ [])) ∷ [] }
+      ∷ [];
+  next_reg = 1;
+  next_id = 3;
 }
 
 abbrev two_ways_text : List ℕ
@@ -89,17 +105,34 @@ unfolding digits
 spells_two_ways = record {
   no_ir = refl;
   from_a_document = refl;
-  documents = (record {
-    from_a_key = refl;
-    entries = record {
-      keyed = refl; is_named = refl; named = refl; legal = refl; banked = refl; chosen = refl;
-      no_registers = refl; no_stack = refl; no_objects = refl;
-      bodied = (refl, refl, (
-        record { numbered = refl; succeeded = refl; live = (λ empty. cc, refl); instructed = (refl, (refl, tt)) },
-        (record { numbered = refl; succeeded = refl; live = refl; instructed = tt },
-        (record { numbered = refl; succeeded = refl; live = refl; instructed = (refl, tt) }, tt))))
-    }
-  }, tt)
+  documents = (
+    record {
+      from_a_key = refl;
+      entries = record {
+        keyed = refl;
+        is_named = refl;
+        named = refl;
+        legal = refl;
+        banked = refl;
+        chosen = refl;
+        no_registers = refl;
+        no_stack = refl;
+        no_objects = refl;
+        bodied = (
+          refl,
+          refl,
+          (
+            record { numbered = refl; succeeded = refl; live = (λ empty. cc, refl); instructed = (refl, (refl, tt)) },
+            (
+              record { numbered = refl; succeeded = refl; live = refl; instructed = tt },
+              (record { numbered = refl; succeeded = refl; live = refl; instructed = (refl, tt) }, tt),
+            ),
+          ),
+        );
+      };
+    },
+    tt,
+  );
 }
 
 -- an empty text spells a module without functions, and no other

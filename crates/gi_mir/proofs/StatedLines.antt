@@ -1,17 +1,17 @@
 -- The lines of a text as the program takes it so far are lines as they are printed.
-use Rattle.std.proofs.Common.{◌≡◌, ℕ, zero, suc, Bool, true, false, List, [], ◌∷◌, ◌++◌, length, Option, Some, None, sym, refl, ap, ◌∙◌, subst, inl, inr, append_assoc}
+use Rattle.std.proofs.Common.{◌≡◌, ℕ, Bool, true, false, List, [], ◌∷◌, ◌++◌, Option, Some, None, refl, ap, ◌∙◌, inl, inr}
 use Rattle.std.specs.Prelude.{◌⊎◌, ◌||◌, ◌&&◌, ◌==◌, not, codes, decimal, if◌then◌else◌, unwrap_or}
-use Rattle.std.specs.Fmt.{digits, signed_decimal}
-use Rattle.std.specs.List.{list_any, AllZip}
-use Rattle.std.proofs.lemmas.Bool.{and_parts, or_cases, false≢true, eqb-true, and_right, or_left, or_right}
+use Rattle.std.specs.Fmt.{digits}
+use Rattle.std.specs.List.{AllZip}
+use Rattle.std.proofs.lemmas.Bool.{and_parts, or_cases, false≢true, and_right, or_left, or_right}
 use Rattle.std.proofs.lemmas.List.{append-nil}
-use Rattle.gi_llt.specs.Tokens.{Piece, Spaces, piece_bytes}
+use Rattle.gi_llt.specs.Tokens.{Spaces, piece_bytes}
 use Rattle.gi_mir.specs.declared.operand.Kind.{Kind}
 use Rattle.gi_mir.specs.declared.operand.Kind.TheVariants.{Class}
 use Rattle.gi_mir.specs.Data.{InstrData, BlockData, FunctionData}
 use Rattle.gi_mir.specs.Registers.{first_there, kind_in_operands, kind_in_instrs, kind_in_blocks, kind_of}
-use Rattle.gi_mir.specs.Printed.{listed, physical_piece, physical_pieces, liveins_pieces, instr_line, instr_lines, is_branch_op, with_targets, with_branches, falls_through, implied_successors, states_successors, block_head_pieces, successors_lines, liveins_lines, set_off, block_lines, blocks_lines}
-use Rattle.gi_mir.specs.Stated.{StatedInstr, CopyIn, MakeConstant, AddUp, CopyOut, Return, stated_kind, stated_instr, stated_line, instrs_lines, physical_list, is_among, is_new, is_argument, is_short, is_stated_after, defined_after, live_after, is_return, are_stated, are_arguments, IsStatedInstr, IsStated}
+use Rattle.gi_mir.specs.Printed.{listed, physical_pieces, liveins_pieces, instr_line, instr_lines, is_branch_op, with_branches, falls_through, implied_successors, block_head_pieces, successors_lines, liveins_lines, set_off, blocks_lines}
+use Rattle.gi_mir.specs.Stated.{StatedInstr, CopyIn, MakeConstant, AddUp, CopyOut, Return, stated_kind, stated_instr, stated_line, instrs_lines, physical_list, is_among, is_argument, is_stated_after, defined_after, live_after, is_return, are_stated, are_arguments, IsStatedInstr, IsStated}
 
 decimal_10 : decimal 10 ≡ codes "10"
 unfolding digits
@@ -135,9 +135,9 @@ instr_lines-stated kinds names defined live (first ∷ next ∷ stated) (instr �
     let outer = and_parts (not (is_return first) && is_stated_after defined live first) (are_stated (defined_after defined first) (live_after live first) (next ∷ stated)) fine in
     let inner = and_parts (not (is_return first)) (is_stated_after defined live first) outer.0 in
     let rest : instr_lines kinds names instrs ≡ instrs_lines (next ∷ stated) =
-        instr_lines-stated kinds names (defined_after defined first) (live_after live first) (next ∷ stated) instrs all.1
-        (known_after kinds defined first known (λ r here. later r (or_left (defines r first) (defines_any r (next ∷ stated)) here)))
-        (λ r after. later r (or_right (defines r first) (defines_any r (next ∷ stated)) after)) outer.1 in
+    instr_lines-stated kinds names (defined_after defined first) (live_after live first) (next ∷ stated) instrs all.1
+    (known_after kinds defined first known (λ r here. later r (or_left (defines r first) (defines_any r (next ∷ stated)) here)))
+    (λ r after. later r (or_right (defines r first) (defines_any r (next ∷ stated)) after)) outer.1 in
     ap (λ lines. instr_line kinds names instr.1 ∷ lines) rest ∙ ap (λ line. line ∷ instrs_lines (next ∷ stated)) (one_line kinds names defined live first instr all.0 known inner.1)
 
 -- the list of registers that are live
@@ -184,7 +184,7 @@ pub blocks_lines-stated : (names : List (List ℕ)) (f : FunctionData) (instrs :
 blocks_lines-stated names f instrs block stated =
     let kinds = kind_of f in
     let lines : instr_lines kinds names block.instrs ≡ instrs_lines instrs =
-        instr_lines-stated kinds names [] block.liveins instrs block.instrs stated.instructed (λ r none. absurd (false≢true none)) (kind_of-stated names f instrs block stated) stated.ordered in
+    instr_lines-stated kinds names [] block.liveins instrs block.instrs stated.instructed (λ r none. absurd (false≢true none)) (kind_of-stated names f instrs block stated) stated.ordered in
     let implied : implied_successors 0 1 block.instrs ≡ [] = none_implied instrs block.instrs stated.instructed in
     let head = piece_bytes (Spaces 2 ∷ block_head_pieces 0) in
     ap (blocks_lines kinds names 0 1) stated.blocks

@@ -348,7 +348,7 @@ stated_lines-is gaps closed names f instrs block stated =
     let layout = stated_layout gaps closed in
     let name = name_at names f.name in
     let Body : List (List ℕ) → Type 0 = λ blocks. stated_lines gaps closed name block.liveins instrs
-        ≡ codes "---" ∷ (header_lines layout name true true false ++ (body_line layout ∷ (blocks ++ end_lines closed))) in
+    ≡ codes "---" ∷ (header_lines layout name true true false ++ (body_line layout ∷ (blocks ++ end_lines closed))) in
     let one : Body (blocks_lines (kind_of f) names 0 1 f.blocks) = subst Body (sym (blocks_lines-stated names f instrs block stated)) refl in
     let count : 1 ≡ length f.blocks = sym (ap length stated.blocks) in
     let Counted : ℕ → Type 0 = λ n. Body (blocks_lines (kind_of f) names 0 n f.blocks) in
