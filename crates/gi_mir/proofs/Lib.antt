@@ -5,9 +5,12 @@ pub mod Definitions
 pub mod Documents
 pub mod FormedLemmas
 pub mod InstrPieces
+pub mod Live
 pub mod NamesLemmas
 pub mod NumberingLaws
 pub mod Places
 pub mod PrintExamples
+pub mod SpellingExamples
+pub mod StatedLines
 pub mod Texts
 pub mod Words

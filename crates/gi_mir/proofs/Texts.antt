@@ -16,6 +16,7 @@ use Rattle.gi_mir.specs.Printable.{is_named_operand, is_named_instr, is_named_bl
 use Rattle.gi_mir.specs.Stated.{StatedInstr, CopyIn, MakeConstant, AddUp, CopyOut, Return, stated_instr, IsStatedInstr, is_name_byte, is_stated_name, IsStated, Gaps, stated_lines, IsStatedText}
 use Rattle.gi_mir.proofs.BlockLines.{EachLine, each-append, each-weaker}
 use Rattle.gi_mir.proofs.Blocks.{AllLiveAt, block_sections, blocks_spelled, kept_blocks, sections_of-append, sections_of-blocks, IsRaw, raw_blocks}
+use Rattle.gi_mir.proofs.StatedLines.{blocks_lines-stated}
 use Rattle.gi_mir.proofs.Documents.{IsSolid, entry_line, value_bytes-gap, name_solid, true_solid, Layout, header_lines, end_lines, body_line, function_lines, IsOuter, header_outer, body_outer, bar_solid, bare, function_sections, sections_of-function}
 
 -- the entries, by which of the keys stand
@@ -341,16 +342,18 @@ stated_printable names f instrs block stated =
 abbrev stated_layout : Gaps → (closed : Bool) → Layout
 stated_layout gaps closed = record { name = suc gaps.name; legal = suc gaps.legal; banked = suc gaps.banked; chosen = 0; body = suc gaps.body; tracks = false; closed = closed }
 
-stated_lines-is : (gaps : Gaps) (closed : Bool) (names : List (List ℕ)) (f : FunctionData) (instrs : List StatedInstr) (block : BlockData) → IsStated names f instrs block
-    → stated_lines gaps closed names f ≡ documents_lines (stated_layout gaps closed) names (f ∷ [])
+stated_lines-is : (gaps : Gaps) (closed : Bool) (names : List (List ℕ)) (f : FunctionData) (instrs : List StatedInstr) (block : BlockData)
+    → IsStated names f instrs block → stated_lines gaps closed (name_at names f.name) block.liveins instrs ≡ documents_lines (stated_layout gaps closed) names (f ∷ [])
 stated_lines-is gaps closed names f instrs block stated =
     let layout = stated_layout gaps closed in
+    let name = name_at names f.name in
+    let Body : List (List ℕ) → Type 0 = λ blocks. stated_lines gaps closed name block.liveins instrs
+    ≡ codes "---" ∷ (header_lines layout name true true false ++ (body_line layout ∷ (blocks ++ end_lines closed))) in
+    let one : Body (blocks_lines (kind_of f) names 0 1 f.blocks) = subst Body (sym (blocks_lines-stated names f instrs block stated)) refl in
     let count : 1 ≡ length f.blocks = sym (ap length stated.blocks) in
-    let Counted : ℕ → Type 0 = λ n. stated_lines gaps closed names f
-    ≡ codes "---" ∷ (header_lines layout (name_at names f.name) true true false ++ (body_line layout ∷ (blocks_lines (kind_of f) names 0 n f.blocks ++ end_lines closed))) in
-    let counted : Counted (length f.blocks) = subst Counted count refl in
-    let keyed : header_lines layout (name_at names f.name) f.legalized f.banked f.selected ≡ header_lines layout (name_at names f.name) true true false =
-    rw (stated.legal, stated.banked, stated.chosen) refl in
+    let Counted : ℕ → Type 0 = λ n. Body (blocks_lines (kind_of f) names 0 n f.blocks) in
+    let counted : Counted (length f.blocks) = subst Counted count one in
+    let keyed : header_lines layout name f.legalized f.banked f.selected ≡ header_lines layout name true true false = rw (stated.legal, stated.banked, stated.chosen) refl in
     let body = body_line layout ∷ (blocks_lines (kind_of f) names 0 (length f.blocks) f.blocks ++ end_lines closed) in
     counted ∙ (ap (λ header. codes "---" ∷ (header ++ body)) (sym keyed) ∙ ap (λ lines. codes "---" ∷ lines) (sym (append-nil (function_lines layout names f))))
 
