@@ -1,5 +1,6 @@
 pub mod Definitions
 pub mod FormedLemmas
+pub mod IdsLemmas
 pub mod Live
 pub mod NamesLemmas
 pub mod Places
