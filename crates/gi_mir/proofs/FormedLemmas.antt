@@ -81,7 +81,7 @@ taken-of_kind kind x [] = refl
 taken-of_kind kind x (f ∷ fs) = rw (admits-of_kind kind f x, taken-of_kind kind x fs) refl
 
 -- a change at a later place leaves the first element
-changed_at-suc : {X : Type 0} (edit : X → X) (k : ℕ) (x : X) (xs : List X) → changed_at edit (suc k) (x ∷ xs) ≡ x ∷ changed_at edit k xs
+pub changed_at-suc : {X : Type 0} (edit : X → X) (k : ℕ) (x : X) (xs : List X) → changed_at edit (suc k) (x ∷ xs) ≡ x ∷ changed_at edit k xs
 changed_at-suc {X = X} edit k x xs = by (slice_get xs k)
   where
     by : (o : Option X) → option_map_or (λ y. x ∷ slice_set xs k (edit y)) o (x ∷ xs) ≡ x ∷ option_map_or (λ y. slice_set xs k (edit y)) o xs

@@ -5,6 +5,7 @@ pub mod Definitions
 pub mod Documents
 pub mod FormedLemmas
 pub mod InstrPieces
+pub mod IdsLemmas
 pub mod Live
 pub mod NamesLemmas
 pub mod NumberingLaws

@@ -2,6 +2,7 @@ pub mod AddExample
 pub mod Data
 pub mod Edit
 pub mod Formed
+pub mod Ids
 pub mod Names
 pub mod Numbering
 pub mod Printable

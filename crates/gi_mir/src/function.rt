@@ -4,6 +4,7 @@ ghost use Rattle.std.specs.Prelude.{◌≡◌, ◌↔◌, IsTrue, ◌-◌, ◌^�
 ghost use Rattle.std.specs.List.{list_any, position_or_len};
 ghost use Rattle.gi_mir.specs.Edit.{block_at, empty_block, has_instr, home_block, head_of, ids_of, empty_function, register_above, above_registers, with_block, with_stack, with_keys, with_instr, home_of, IsLive, instr_of, id_at, id_after, id_before, without_instr, with_new_reg, CanSetOperand, with_operand_of, IsDefAt, with_changed, with_kind, definition_in, definition_of};
 ghost use Rattle.gi_mir.specs.Formed.{is_formed};
+ghost use Rattle.gi_mir.specs.Ids.{AreOwnIds};
 
 use crate::block::{Block, Body, InstrId, Numbered};
 use crate::instr::Instr;
@@ -88,12 +89,13 @@ impl Model for Function {
     ghost use Rattle.std.specs.Prelude.{◌^◌, ◌<◌, length};
     ghost use Rattle.std.specs.Vec.{vec_len};
     ghost use Rattle.gi_mir.specs.Data.{FunctionData};
+    ghost use Rattle.gi_mir.specs.Ids.{AreOwnIds};
 
     ghost Value = { FunctionData };
 
     ghost view = { λ a. record { name = a.name; legalized = a.legalized; banked = a.banked; selected = a.selected; stack = a.stack.items; blocks = a.blocks.items; next_reg = a.next_reg; next_id = vec_len a.homes } };
 
-    ghost invariant = { λ a. length a.blocks.items < 2 ^ 32 };
+    ghost invariant = { λ a. (length a.blocks.items < 2 ^ 32) × AreOwnIds a.blocks.items (vec_len a.homes) };
 }
 
 impl Function {
@@ -269,6 +271,13 @@ impl Function {
         ensures has { IsLive self.now id.0 → has_instr id.0 (home_block self.now id.0) ≡ true }
     {
         home_among(self.blocks.as_slice(), id)
+    }
+
+    /// Each id belongs to one instruction at most, and the next one to none.
+    pub fn own_ids(&self)
+        ensures { AreOwnIds self.now.blocks self.now.next_id }
+    {
+        let _homes = &self.homes;
     }
 
     /// Whether the instruction with this id is in the function.
