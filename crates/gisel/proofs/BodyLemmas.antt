@@ -1,7 +1,7 @@
 -- One more instruction that is read, and the last one.
 use Rattle.std.proofs.Common.{◌≡◌, ℕ, ◌+◌, length, Bool, true, false, List, [], ◌∷◌, ◌++◌, map, refl, sym, ap, ◌∙◌, subst}
 use Rattle.std.proofs.lemmas.List.{append_assoc, map-append, length-append}
-use Rattle.std.specs.Prelude.{not, ◌&&◌, ◌==◌, if◌then◌else◌, codes}
+use Rattle.std.specs.Prelude.{not, ◌&&◌, ◌==◌, codes}
 use Rattle.gi_mir.specs.Spelling.{lines_of}
 use Rattle.gi_mir.specs.Stated.{StatedInstr, are_stated, is_stated_after, is_return, defined_after, live_after}
 use Rattle.gisel.specs.declared.statement.Statement.{Statement}
@@ -36,10 +36,10 @@ next_instr text liveins rest more before after instrs instr so_far line admitted
   stands = passes so_far.defined so_far.live so_far.stands;
   lines = so_far.lines ∙ ap (λ t. statements_lines instrs ++ t) line ∙ sym (statements_lines-push instrs instr (lines_of more));
   ordered = λ next others.
-    ap (are_stated [] liveins) (append_assoc instrs (instr ∷ []) (next ∷ others))
-    ∙ so_far.ordered instr (next ∷ others)
-    ∙ passed (is_return instr) (is_stated_after so_far.defined so_far.live instr) (are_stated (defined_after so_far.defined instr) (live_after so_far.live instr) (next ∷ others))
-      last (admitted so_far.defined so_far.live so_far.stands)
+      ap (are_stated [] liveins) (append_assoc instrs (instr ∷ []) (next ∷ others))
+      ∙ so_far.ordered instr (next ∷ others)
+      ∙ passed (is_return instr) (is_stated_after so_far.defined so_far.live instr) (are_stated (defined_after so_far.defined instr) (live_after so_far.live instr) (next ∷ others))
+      last (admitted so_far.defined so_far.live so_far.stands);
 }
 
 last_instr : (text liveins rest more : List ℕ) (before : StandingData) (instrs : List StatedInstr) (instr : StatedInstr)
@@ -48,7 +48,7 @@ last_instr : (text liveins rest more : List ℕ) (before : StandingData) (instrs
 last_instr text liveins rest more before instrs instr so_far line admitted last end = record {
   closed = end.closed;
   lines = so_far.lines ∙ ap (λ t. statements_lines instrs ++ t) line ∙ sym (statements_lines-push instrs instr (lines_of more)) ∙ ap (λ t. statements_lines (instrs ++ instr ∷ []) ++ t) end.lines;
-  ordered = so_far.ordered instr [] ∙ ended (is_return instr) (is_stated_after so_far.defined so_far.live instr) last (admitted so_far.defined so_far.live so_far.stands)
+  ordered = so_far.ordered instr [] ∙ ended (is_return instr) (is_stated_after so_far.defined so_far.live instr) last (admitted so_far.defined so_far.live so_far.stands);
 }
 
 pushed : (statements all : List Statement) (statement : Statement) → all ≡ statements ++ statement ∷ [] → map stated_of statements ++ stated_of statement ∷ [] ≡ map stated_of all

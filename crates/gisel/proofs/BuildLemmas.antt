@@ -1,11 +1,11 @@
 -- One more instruction that is built.
-use Rattle.std.proofs.Common.{◌≡◌, ℕ, suc, zero, ◌+◌, ◌<◌, ◌≤◌, Bool, true, false, List, [], ◌∷◌, ◌++◌, None, map, length, get_or, take, refl, sym, ap, ◌∙◌, subst, arith}
+use Rattle.std.proofs.Common.{◌≡◌, ℕ, suc, zero, ◌+◌, ◌<◌, true, List, [], ◌∷◌, ◌++◌, None, map, length, get_or, take, refl, sym, ap, ◌∙◌, subst, arith}
 use Rattle.std.proofs.lemmas.Bool.{and_parts}
 use Rattle.std.proofs.lemmas.List.{take_more, map-append}
 use Rattle.std.proofs.lemmas.Bool.Decides.{nat_tests}
-use Rattle.std.specs.Prelude.{◌&&◌, nat_lt, nat_le, slice_set, slice_index_or}
+use Rattle.std.specs.Prelude.{nat_lt, slice_set, slice_index_or}
 use Rattle.std.specs.List.{list_all, AllZip}
-use Rattle.gi_mir.specs.Data.{InstrData, BlockData, FunctionData}
+use Rattle.gi_mir.specs.Data.{InstrData, FunctionData}
 use Rattle.gi_mir.specs.Edit.{with_instr, block_with_instr, empty_block}
 use Rattle.gi_mir.specs.Formed.{is_formed}
 use Rattle.gi_mir.specs.Stated.{StatedInstr, CopyIn, MakeConstant, AddUp, CopyOut, Return, stated_instr, IsStatedInstr, is_argument}
@@ -50,7 +50,7 @@ built_more name liveins instrs f new s line instr built same e = record {
   no_successors = built.no_successors;
   live = built.live;
   instructed = zip_push IsStatedInstr instrs (built.block).instrs s (f.next_id, instr) built.instructed
-    (same ∙ ap (λ n. stated_instr s n) (sym (ap (λ i. i.line) same ∙ line_of s line)))
+      (same ∙ ap (λ n. stated_instr s n) (sym (ap (λ i. i.line) same ∙ line_of s line)));
 }
 
 pub arguments_at : (statements : List Statement) (place : ℕ) (s : Statement) → list_all has_arguments (map stated_of statements) ≡ true → place < length statements

@@ -1,12 +1,11 @@
 -- The lines before the instructions, from the pieces that were taken.
-use Rattle.std.proofs.Common.{◌≡◌, ℕ, Bool, true, false, List, [], ◌∷◌, ◌++◌, length, refl, sym, ap, ◌∙◌, subst}
+use Rattle.std.proofs.Common.{◌≡◌, ℕ, Bool, true, List, [], ◌∷◌, ◌++◌, length, refl, sym, ap, ◌∙◌}
 use Rattle.std.proofs.lemmas.List.{append-nil, append_assoc}
 use Rattle.std.proofs.lemmas.Bool.{and_parts}
 use Rattle.std.specs.Prelude.{◌==◌, ◌&&◌, codes, decimal}
 use Rattle.std.specs.List.{list_all}
-use Rattle.std.specs.Fmt.{digits}
-use Rattle.gi_llt.specs.Tokens.{Spaces, piece_bytes}
-use Rattle.gi_mir.specs.Printed.{liveins_pieces, liveins_lines, listed, physical_pieces, mark, physical_piece}
+use Rattle.gi_llt.specs.Tokens.{piece_bytes}
+use Rattle.gi_mir.specs.Printed.{liveins_lines, listed, physical_pieces}
 use Rattle.gi_mir.specs.Spelling.{lines_of}
 use Rattle.gi_mir.specs.Stated.{key_line, is_argument, are_arguments}
 use Rattle.gisel.specs.Header.{IsKeyed, IsHead, more_liveins, liveins_line}
@@ -18,8 +17,8 @@ pub head_from : (text r1 name r2 r3 r4 r5 : List ℕ) → lines_of text ≡ code
 head_from text r1 name r2 r3 r4 r5 start named legal banked body = record {
   gaps = record { name = named.gap; legal = legal.gap; banked = banked.gap; body = body.gap };
   lines = start ∙ ap (λ t. codes "---" ∷ t) (named.lines ∙ ap (λ t. key_line (codes "name") named.gap name ∷ t) (legal.lines
-    ∙ ap (λ t. key_line (codes "legalized") legal.gap (codes "true") ∷ t) (banked.lines
-    ∙ ap (λ t. key_line (codes "regBankSelected") banked.gap (codes "true") ∷ t) body.lines)))
+      ∙ ap (λ t. key_line (codes "legalized") legal.gap (codes "true") ∷ t) (banked.lines
+      ∙ ap (λ t. key_line (codes "regBankSelected") banked.gap (codes "true") ∷ t) body.lines)));
 }
 
 -- the physical registers that were taken from the front of a line, and the rest of it
@@ -56,7 +55,7 @@ next_livein line before liveins rest more number so_far split argument items = r
   more = so_far.more ++ number ∷ [];
   items = items ∙ ap (λ t. t ++ number ∷ []) so_far.items;
   split = so_far.split ∙ ap (λ t. codes "    liveins: $x" ++ (decimal so_far.first ++ t)) (ap (λ t. more_liveins so_far.more ++ t) split ∙ sym (more_liveins-push so_far.more number more));
-  arguments = arguments-push (so_far.first ∷ so_far.more) number so_far.arguments argument
+  arguments = arguments-push (so_far.first ∷ so_far.more) number so_far.arguments argument;
 }
 
 pub all_liveins : (line liveins rest : List ℕ) → IsLiveinsTo line liveins rest → true ≡ (length rest == 0) → line ≡ liveins_line liveins

@@ -1,5 +1,5 @@
 -- The first line of a text by the place of its first line feed.
-use Rattle.std.proofs.Common.{Bor, ◌≡◌, ◌≢◌, ℕ, zero, suc, ◌+◌, ◌-◌, ◌<◌, Bool, true, false, cond, List, [], ◌∷◌, ◌++◌, Option, Some, None, length, take, drop, refl, sym, ap, ◌∙◌, subst, arith, zero-add, add-one}
+use Rattle.std.proofs.Common.{Bor, ◌≡◌, ◌≢◌, ℕ, suc, ◌+◌, ◌-◌, Bool, true, false, cond, List, [], ◌∷◌, ◌++◌, Option, Some, None, length, take, drop, refl, sym, ap, ◌∙◌, subst, arith, add-one}
 use Rattle.std.proofs.lemmas.List.{take_rest, append_assoc, replicate-append-replicate}
 use Rattle.std.proofs.lemmas.Iterator.Adapters.{position_from-zero}
 use Rattle.std.proofs.Math.Seq.{drop-length}
@@ -21,7 +21,7 @@ cut_from [] from place found = cc
 cut_from (byte ∷ text) from place found = chosen (is_feed byte) refl found (cut_from text (from + 1) place)
   where
     chosen : (test : Bool) → is_feed byte ≡ test → cond test (Some from) (position_from is_feed (from + 1) text) ≡ Some place
-      → (position_from is_feed (from + 1) text ≡ Some place → IsCutAt text (from + 1) place) → IsCutAt (byte ∷ text) from place
+        → (position_from is_feed (from + 1) text ≡ Some place → IsCutAt text (from + 1) place) → IsCutAt (byte ∷ text) from place
     chosen true is_it found more = record { count = 0; at = (let same : from ≡ place = cc in omega arith); lines = rw is_it refl }
     chosen false is_not found more = let cut = more found in record { count = suc cut.count; at = omega (arith, cut.at); lines = rw is_not (rw cut.lines refl) }
 
@@ -40,7 +40,7 @@ last_from byte [] from found = chosen (is_feed byte) refl found
 last_from byte (next ∷ text) from found = chosen (is_feed byte) refl found (last_from next text (from + 1))
   where
     chosen : (test : Bool) → is_feed byte ≡ test → cond test (Some from) (position_from is_feed (from + 1) (next ∷ text)) ≡ None
-      → (position_from is_feed (from + 1) (next ∷ text) ≡ None → lines_of (next ∷ text) ≡ (next ∷ text) ∷ []) → lines_of (byte ∷ next ∷ text) ≡ (byte ∷ next ∷ text) ∷ []
+        → (position_from is_feed (from + 1) (next ∷ text) ≡ None → lines_of (next ∷ text) ≡ (next ∷ text) ∷ []) → lines_of (byte ∷ next ∷ text) ≡ (byte ∷ next ∷ text) ∷ []
     chosen true is_it found more = cc
     chosen false is_not found more = let rest = more found in rw is_not (ap (onto_first byte) rest)
 
@@ -52,7 +52,7 @@ last_line (byte ∷ text) found some = rw (take_rest (byte ∷ text) (length (by
 pub past_one : (bytes rest more : List ℕ) → IsBehindSpaces bytes rest → rest ≡ 32 ∷ more → IsBehindSpaces bytes more
 past_one bytes rest more behind next = record {
   count = behind.count + 1;
-  split = behind.split ∙ ap (λ t. replicate behind.count 32 ++ t) next ∙ sym (append_assoc (replicate behind.count 32) (32 ∷ []) more) ∙ ap (λ t. t ++ more) (replicate-append-replicate behind.count 1 32)
+  split = behind.split ∙ ap (λ t. replicate behind.count 32 ++ t) next ∙ sym (append_assoc (replicate behind.count 32) (32 ∷ []) more) ∙ ap (λ t. t ++ more) (replicate-append-replicate behind.count 1 32);
 }
 
 -- what is stripped stood at the front

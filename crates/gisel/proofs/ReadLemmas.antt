@@ -1,5 +1,5 @@
 -- The text of what was read.
-use Rattle.std.proofs.Common.{◌≡◌, ℕ, suc, Bool, true, false, List, [], ◌∷◌, ◌++◌, Option, Some, None, Result, Ok, Err, map, refl, sym, ap, ◌∙◌, subst}
+use Rattle.std.proofs.Common.{◌≡◌, ℕ, Bool, true, false, List, [], ◌∷◌, ◌++◌, Option, Some, None, Result, Ok, Err, map, refl, sym, ap, ◌∙◌, subst}
 use Rattle.std.proofs.lemmas.Bool.{and_parts, eqb-true, eq-eqb, false≢true}
 use Rattle.std.specs.Prelude.{◌&&◌, ◌||◌, not, ◌==◌, if◌then◌else◌, codes, unwrap_or, IfOk}
 use Rattle.std.specs.List.{AllZip, list_all}
@@ -10,7 +10,7 @@ use Rattle.gi_mir.specs.Data.{InstrData, BlockData, FunctionData, ModuleData}
 use Rattle.gi_mir.specs.Printed.{instr_line, instr_lines, is_branch_op, with_branches, falls_through, implied_successors, block_lines, set_off, successors_lines, liveins_lines, block_head_pieces, blocks_lines, name_at}
 use Rattle.gi_llt.specs.Tokens.{Spaces, piece_bytes}
 use Rattle.gi_mir.specs.Registers.{kind_of, kind_in_instrs, kind_in_blocks, kind_in_operands, first_there}
-use Rattle.gi_mir.specs.Stated.{StatedInstr, CopyIn, MakeConstant, AddUp, CopyOut, Return, stated_instr, stated_kind, IsStatedInstr, is_among, is_return, is_stated_after, defined_after, live_after, are_stated, are_arguments, is_argument, is_new, is_stated_name, IsStated, IsStatedText, key_line, Gaps, stated_lines}
+use Rattle.gi_mir.specs.Stated.{StatedInstr, CopyIn, MakeConstant, AddUp, CopyOut, Return, stated_instr, stated_kind, IsStatedInstr, is_among, is_return, is_stated_after, defined_after, live_after, are_stated, are_arguments, is_argument, is_new, is_stated_name, key_line}
 use Rattle.gi_mir.specs.Spelling.{lines_of}
 use Rattle.gisel.specs.declared.statement.Statement.{Statement}
 use Rattle.gisel.specs.Body.{statements_lines, IsBody}
@@ -107,8 +107,8 @@ lines_are K names (instr ∷ next ∷ instrs) (first ∷ numbered) defined live 
     let here = and_parts (not (is_return instr)) (is_stated_after defined live instr) parts.0 in
     let line : instr_line K names first.1 ≡ statement_line instr = ap (instr_line K names) all.0 ∙ one_line K names instr (first.1).line defined live here.1 known in
     let more : instr_lines K names numbered ≡ statements_lines (next ∷ instrs) = lines_are K names (next ∷ instrs) numbered (defined_after defined instr) (live_after live instr) all.1 parts.1
-      (λ r among. defines r (among_more r instr (definitions (next ∷ instrs)) among))
-      (known_after K instr defined (definitions (next ∷ instrs)) defines known) in
+    (λ r among. defines r (among_more r instr (definitions (next ∷ instrs)) among))
+    (known_after K instr defined (definitions (next ∷ instrs)) defines known) in
     ap (λ l. l ∷ instr_lines K names numbered) line ∙ ap (λ ls. statement_line instr ∷ ls) more
 
 plain_op : (instr : StatedInstr) (line : ℕ) → is_branch_op (stated_instr instr line).op ≡ false
@@ -170,7 +170,7 @@ all_arguments (instr ∷ []) defined live stated =
 all_arguments (instr ∷ next ∷ instrs) defined live stated =
     let parts = and_parts (not (is_return instr) && is_stated_after defined live instr) (are_stated (defined_after defined instr) (live_after live instr) (next ∷ instrs)) stated in
     both (has_arguments instr) (list_all has_arguments (next ∷ instrs)) (arguments_first instr defined live (and_parts (not (is_return instr)) (is_stated_after defined live instr) parts.0).1)
-      (all_arguments (next ∷ instrs) (defined_after defined instr) (live_after live instr) parts.1)
+    (all_arguments (next ∷ instrs) (defined_after defined instr) (live_after live instr) parts.1)
 
 pub read_from : (text r1 r2 r3 r4 line name liveins : List ℕ) (statements : List Statement) (m : ModuleData) (read : List Statement)
     → IsHead text name r1 → is_stated_name name ≡ true → lines_of r1 ≡ codes "  bb.0:" ∷ lines_of r2 → lines_of r2 ≡ line ∷ lines_of r3 → line ≡ liveins_line liveins → are_arguments liveins ≡ true
@@ -185,11 +185,11 @@ read_from text r1 r2 r3 r4 line name liveins statements m read head is_named blo
     let name_is : name_at m.names f.name ≡ name = ap (λ n. name_at m.names n) built.named ∙ ap (λ ns. name_at ns 0) module_.names in
     let kinds : (r : ℕ) → is_among (definitions instrs) r ≡ true → kind_of f r ≡ stated_kind = λ r among. kind_is r block f.blocks built.blocks (found_kind r instrs block.instrs built.instructed among) in
     let printed : instr_lines (kind_of f) m.names block.instrs ≡ statements_lines instrs =
-      lines_are (kind_of f) m.names instrs block.instrs [] liveins built.instructed body.ordered kinds (λ r none. absurd (false≢true none)) in
+    lines_are (kind_of f) m.names instrs block.instrs [] liveins built.instructed body.ordered kinds (λ r none. absurd (false≢true none)) in
     let blocks : blocks_lines (kind_of f) m.names 0 1 f.blocks ≡ codes "  bb.0:" ∷ liveins_line liveins ∷ [] ∷ statements_lines instrs =
-      ap (λ bs. blocks_lines (kind_of f) m.names 0 1 bs) built.blocks ∙ block_lines_are (kind_of f) m.names instrs liveins block built.no_successors built.live arguments built.instructed printed in
+    ap (λ bs. blocks_lines (kind_of f) m.names 0 1 bs) built.blocks ∙ block_lines_are (kind_of f) m.names instrs liveins block built.no_successors built.live arguments built.instructed printed in
     let rest : lines_of r1 ≡ blocks_lines (kind_of f) m.names 0 1 f.blocks ++ end =
-      block_line ∙ ap (λ t. codes "  bb.0:" ∷ t) (live_line ∙ ap (λ l. l ∷ lines_of r3) live ∙ ap (λ t. liveins_line liveins ∷ t) (empty ∙ ap (λ t. [] ∷ t) body.lines)) ∙ ap (λ b. b ++ end) (sym blocks) in
+    block_line ∙ ap (λ t. codes "  bb.0:" ∷ t) (live_line ∙ ap (λ l. l ∷ lines_of r3) live ∙ ap (λ t. liveins_line liveins ∷ t) (empty ∙ ap (λ t. [] ∷ t) body.lines)) ∙ ap (λ b. b ++ end) (sym blocks) in
     record {
       statements = statements;
       stated = record {
@@ -210,7 +210,7 @@ read_from text r1 r2 r3 r4 line name liveins statements m read head is_named blo
           no_successors = built.no_successors;
           live = ap are_arguments built.live ∙ arguments;
           instructed = built.instructed;
-          ordered = ap (λ l. are_stated [] l instrs) built.live ∙ body.ordered
+          ordered = ap (λ l. are_stated [] l instrs) built.live ∙ body.ordered;
         };
         lines = head.lines ∙ ap (λ n. codes "---"
             ∷ key_line (codes "name") (head.gaps).name n
@@ -218,14 +218,14 @@ read_from text r1 r2 r3 r4 line name liveins statements m read head is_named blo
             ∷ key_line (codes "regBankSelected") (head.gaps).banked (codes "true")
             ∷ key_line (codes "body") (head.gaps).body (codes "|")
             ∷ lines_of r1) (sym name_is)
-          ∙ ap (λ t. codes "---"
+            ∙ ap (λ t. codes "---"
             ∷ key_line (codes "name") (head.gaps).name (name_at m.names f.name)
             ∷ key_line (codes "legalized") (head.gaps).legal (codes "true")
             ∷ key_line (codes "regBankSelected") (head.gaps).banked (codes "true")
             ∷ key_line (codes "body") (head.gaps).body (codes "|")
-            ∷ t) rest
+            ∷ t) rest;
       };
-      same = refl
+      same = refl;
     }
 
 pub if_ok : {T E : Type 0} (P Q : T → Type 0) (r : Result T E) → ((v : T) → P v → Q v) → IfOk r P → IfOk r Q

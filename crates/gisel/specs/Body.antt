@@ -1,10 +1,9 @@
 -- The instructions' lines up to the end of the text.
-use Rattle.std.specs.Prelude.{◌≡◌, ℕ, Bool, true, List, [], ◌∷◌, ◌++◌, map, if◌then◌else◌, codes}
+use Rattle.std.specs.Prelude.{◌≡◌, ℕ, Bool, true, List, [], ◌∷◌, ◌++◌, if◌then◌else◌, codes}
 use Rattle.gi_mir.specs.Spelling.{lines_of}
 use Rattle.gi_mir.specs.Stated.{StatedInstr, are_stated}
-use Rattle.gisel.specs.declared.statement.Statement.{Statement}
 use Rattle.gisel.specs.Standing.{StandingData, IsStanding}
-use Rattle.gisel.specs.Statement.{stated_of, statement_line}
+use Rattle.gisel.specs.Statement.{statement_line}
 
 -- the lines of instructions
 abbrev pub statements_lines : List StatedInstr → List (List ℕ)

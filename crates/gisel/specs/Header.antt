@@ -17,12 +17,12 @@ pub record IsKeyed (text key value rest : List ℕ) : Type 0 where
 pub record IsHead (text name rest : List ℕ) : Type 0 where
   pub gaps : Gaps
   pub lines : lines_of text
-    ≡ codes "---"
-    ∷ key_line (codes "name") gaps.name name
-    ∷ key_line (codes "legalized") gaps.legal (codes "true")
-    ∷ key_line (codes "regBankSelected") gaps.banked (codes "true")
-    ∷ key_line (codes "body") gaps.body (codes "|")
-    ∷ lines_of rest
+      ≡ codes "---"
+      ∷ key_line (codes "name") gaps.name name
+      ∷ key_line (codes "legalized") gaps.legal (codes "true")
+      ∷ key_line (codes "regBankSelected") gaps.banked (codes "true")
+      ∷ key_line (codes "body") gaps.body (codes "|")
+      ∷ lines_of rest
 
 -- the physical registers after the first
 abbrev pub more_liveins : List ℕ → List ℕ

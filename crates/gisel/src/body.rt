@@ -37,7 +37,11 @@ fn end(text: &[u8], place: u32) -> Result<(), Refusal>
 }
 
 /// The instruction on the next line, which has to be one that may stand there, and what is left after it.
-fn next_statement<'a>(text: &'a [u8], place: u32, standing: &Standing) -> Result<(Statement, &'a [u8]), Refusal>
+fn next_statement<'a>(
+    text: &'a [u8],
+    place: u32,
+    standing: &Standing,
+) -> Result<(Statement, &'a [u8]), Refusal>
     ensures lines { IfOk result (λ p. lines_of text.now ≡ statement_line (stated_of p.0) ∷ lines_of p.1.now) }
     ensures admitted { IfOk result (λ p. (defined live : List ℕ)
         → IsStanding standing.now defined live
@@ -63,7 +67,12 @@ fn is_last(statement: Statement) -> bool
 }
 
 /// The instructions of what is left of a text, from this line on, where these physical registers are live.
-pub fn body(alloc: Global, text: &[u8], first: u32, liveins: &[u8]) -> Result<Vec<Statement>, Refusal>
+pub fn body(
+    alloc: Global,
+    text: &[u8],
+    first: u32,
+    liveins: &[u8],
+) -> Result<Vec<Statement>, Refusal>
     requires { first + length text.now < 2 ^ 32 }
     ensures body { IfOk result (λ statements. IsBody text.now liveins.now (map stated_of statements.items)) }
     ensures fits { IfOk result (λ statements. first + length statements.items < 2 ^ 32) }

@@ -6,8 +6,8 @@ ghost use Rattle.gi_mir.specs.Stated.{is_argument, is_name_byte, is_stated_name,
 ghost use Rattle.gi_mir.specs.Spelling.{lines_of};
 ghost use Rattle.gisel.specs.Header.{IsKeyLine, IsKeyed, IsHead, liveins_line};
 
-use crate::lines::{after, next_line, past_spaces};
 use crate::line::physical_number;
+use crate::lines::{after, next_line, past_spaces};
 use crate::refusal::{Refusal, append};
 use std::alloc::Global;
 

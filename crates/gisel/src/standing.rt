@@ -93,7 +93,8 @@ impl Standing {
                 left,
                 right,
             } => {
-                self.is_new(register) && self.defined.contains(&left)
+                self.is_new(register)
+                    && self.defined.contains(&left)
                     && self.defined.contains(&right)
             }
             Statement::CopyOut { physical, register } => {

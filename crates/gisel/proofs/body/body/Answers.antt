@@ -1,4 +1,4 @@
-use Rattle.std.proofs.Common.{arith, sym, ◌∙◌, ◌+◌, ap, length}
+use Rattle.std.proofs.Common.{arith, sym}
 use Rattle.gisel.proofs.BodyLemmas.{next_read, last_read, length_pushed}
 use Rattle.gisel.proofs.body.body.Goals as goal
 
@@ -12,8 +12,8 @@ loop-statements-preserved c = record {
   within = omega (arith, c.loop-statements.invariant.within, c.in_ok-statement.ensures.shorter);
   counted = omega (arith, c.loop-statements.invariant.counted, length_pushed c.loop-statements.statements.items _ c.in_ok-statement.statement c.in_ok-append.ensures);
   read = next_read c.args.text.now c.args.liveins.now c.loop-statements.rest.now c.in_ok-statement.more.now c.loop-statements.standing c.pass.new.self
-    c.loop-statements.statements.items _ c.in_ok-statement.statement
-    c.loop-statements.invariant.read c.in_ok-statement.ensures.lines c.in_ok-statement.ensures.admitted c.in_ok-append.ensures (sym c.if-is_last.ensures) c.in_ok-pass.ensures
+      c.loop-statements.statements.items _ c.in_ok-statement.statement
+      c.loop-statements.invariant.read c.in_ok-statement.ensures.lines c.in_ok-statement.ensures.admitted c.in_ok-append.ensures (sym c.if-is_last.ensures) c.in_ok-pass.ensures;
 }
 
 pub returns-then-is_last-clause-fits : goal.returns-then-is_last-clause-fits

@@ -1,4 +1,4 @@
-use Rattle.std.proofs.Common.{◌≡◌, ℕ, ◌+◌, ◌<◌, ◌^◌, map, length}
+use Rattle.std.proofs.Common.{◌≡◌, ◌+◌, ◌<◌, ◌^◌, map, length}
 use Rattle.gisel.specs.Body.{IsReadTo}
 use Rattle.gisel.specs.Statement.{stated_of}
 use Rattle.gisel.proofs.body.body.Given as goal

@@ -1,4 +1,4 @@
-use Rattle.std.proofs.Common.{◌≡◌, true, ap, ◌∙◌}
+use Rattle.std.proofs.Common.{ap, ◌∙◌}
 use Rattle.gi_mir.specs.Formed.{is_formed}
 use Rattle.gisel.specs.Statement.{stated_of}
 use Rattle.gisel.proofs.BuildLemmas.{stated_formed, built_more}

@@ -1,6 +1,5 @@
 use Rattle.std.proofs.lemmas.Slice.Eq.{strip_prefix_is}
 use Rattle.std.proofs.lemmas.Bool.Decides.{Decides-eqb}
-use Rattle.std.proofs.Common.{◌≡◌, ℕ, List, ◌++◌}
 use Rattle.gisel.proofs.LinesLemmas.{after_some}
 use Rattle.gisel.proofs.lines.after.Goals as goal
 

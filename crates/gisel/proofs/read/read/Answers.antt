@@ -1,4 +1,4 @@
-use Rattle.std.proofs.Common.{◌≡◌, true, [], map, subst, ap, ◌∙◌}
+use Rattle.std.proofs.Common.{[], map, subst, ap, ◌∙◌}
 use Rattle.std.specs.List.{list_all}
 use Rattle.gisel.specs.Body.{IsBody}
 use Rattle.gisel.specs.Built.{has_arguments}
