@@ -4,8 +4,8 @@ pub mod Blocks
 pub mod Definitions
 pub mod Documents
 pub mod FormedLemmas
-pub mod InstrPieces
 pub mod IdsLemmas
+pub mod InstrPieces
 pub mod Live
 pub mod NamesLemmas
 pub mod NumberingLaws

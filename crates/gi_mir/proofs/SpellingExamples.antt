@@ -10,7 +10,7 @@ use Rattle.gi_mir.specs.Data.{FunctionData, ModuleData}
 use Rattle.gi_mir.specs.Printed.{name_at, text_of}
 use Rattle.gi_mir.specs.Stated.{reg_of}
 use Rattle.gi_mir.specs.Spelling.{Section, Spells}
-use Rattle.gi_mir.proofs.AddExample.{instr, generic_module}
+use Rattle.gi_mir.specs.AddExample.{instr, generic_module}
 
 -- comments, blanks, empty lines, other keys, and keys in another order
 abbrev free_text : List ℕ

@@ -6,13 +6,14 @@ use Rattle.gi_mir.specs.Spelling.{lines_of}
 use Rattle.gi_mir.specs.Stated.{StatedInstr, are_stated, is_stated_after, is_return, defined_after, live_after}
 use Rattle.gisel.specs.declared.statement.Statement.{Statement}
 use Rattle.gisel.specs.Standing.{StandingData, IsStanding}
-use Rattle.gisel.specs.Statement.{stated_of, statement_line}
+use Rattle.gi_mir.specs.Stated.{stated_line, instrs_lines}
+use Rattle.gisel.specs.Statement.{stated_of}
 use Rattle.gisel.proofs.LineLemmas.{no_more}
-use Rattle.gisel.specs.Body.{statements_lines, IsEnd, IsReadTo, IsBody}
+use Rattle.gisel.specs.Body.{IsEnd, IsReadTo, IsBody}
 
-statements_lines-push : (instrs : List StatedInstr) (instr : StatedInstr) (rest : List (List ℕ)) → statements_lines (instrs ++ instr ∷ []) ++ rest ≡ statements_lines instrs ++ (statement_line instr ∷ rest)
-statements_lines-push [] instr rest = refl
-statements_lines-push (first ∷ instrs) instr rest = ap (λ t. statement_line first ∷ t) (statements_lines-push instrs instr rest)
+instrs_lines-push : (instrs : List StatedInstr) (instr : StatedInstr) (rest : List (List ℕ)) → instrs_lines (instrs ++ instr ∷ []) ++ rest ≡ instrs_lines instrs ++ (stated_line instr ∷ rest)
+instrs_lines-push [] instr rest = refl
+instrs_lines-push (first ∷ instrs) instr rest = ap (λ t. stated_line first ∷ t) (instrs_lines-push instrs instr rest)
 
 passed : (last admitted after : Bool) → last ≡ false → admitted ≡ true → (not last && admitted && after) ≡ after
 passed last admitted after p q = rw (p, q) refl
@@ -28,13 +29,13 @@ abbrev pub IsPassed : StandingData → StandingData → StatedInstr → Type 0
 IsPassed before after instr = (defined live : List ℕ) → IsStanding before defined live → IsStanding after (defined_after defined instr) (live_after live instr)
 
 next_instr : (text liveins rest more : List ℕ) (before after : StandingData) (instrs : List StatedInstr) (instr : StatedInstr)
-    → IsReadTo text liveins rest before instrs → lines_of rest ≡ statement_line instr ∷ lines_of more → IsAdmitted before instr → is_return instr ≡ false → IsPassed before after instr
+    → IsReadTo text liveins rest before instrs → lines_of rest ≡ stated_line instr ∷ lines_of more → IsAdmitted before instr → is_return instr ≡ false → IsPassed before after instr
     → IsReadTo text liveins more after (instrs ++ instr ∷ [])
 next_instr text liveins rest more before after instrs instr so_far line admitted last passes = record {
   defined = defined_after so_far.defined instr;
   live = live_after so_far.live instr;
   stands = passes so_far.defined so_far.live so_far.stands;
-  lines = so_far.lines ∙ ap (λ t. statements_lines instrs ++ t) line ∙ sym (statements_lines-push instrs instr (lines_of more));
+  lines = so_far.lines ∙ ap (λ t. instrs_lines instrs ++ t) line ∙ sym (instrs_lines-push instrs instr (lines_of more));
   ordered = λ next others.
       ap (are_stated [] liveins) (append_assoc instrs (instr ∷ []) (next ∷ others))
       ∙ so_far.ordered instr (next ∷ others)
@@ -43,11 +44,11 @@ next_instr text liveins rest more before after instrs instr so_far line admitted
 }
 
 last_instr : (text liveins rest more : List ℕ) (before : StandingData) (instrs : List StatedInstr) (instr : StatedInstr)
-    → IsReadTo text liveins rest before instrs → lines_of rest ≡ statement_line instr ∷ lines_of more → IsAdmitted before instr → is_return instr ≡ true → IsEnd more
+    → IsReadTo text liveins rest before instrs → lines_of rest ≡ stated_line instr ∷ lines_of more → IsAdmitted before instr → is_return instr ≡ true → IsEnd more
     → IsBody text liveins (instrs ++ instr ∷ [])
 last_instr text liveins rest more before instrs instr so_far line admitted last end = record {
   closed = end.closed;
-  lines = so_far.lines ∙ ap (λ t. statements_lines instrs ++ t) line ∙ sym (statements_lines-push instrs instr (lines_of more)) ∙ ap (λ t. statements_lines (instrs ++ instr ∷ []) ++ t) end.lines;
+  lines = so_far.lines ∙ ap (λ t. instrs_lines instrs ++ t) line ∙ sym (instrs_lines-push instrs instr (lines_of more)) ∙ ap (λ t. instrs_lines (instrs ++ instr ∷ []) ++ t) end.lines;
   ordered = so_far.ordered instr [] ∙ ended (is_return instr) (is_stated_after so_far.defined so_far.live instr) last (admitted so_far.defined so_far.live so_far.stands);
 }
 
@@ -55,14 +56,14 @@ pushed : (statements all : List Statement) (statement : Statement) → all ≡ s
 pushed statements all statement e = sym (ap (map stated_of) e ∙ map-append stated_of statements (statement ∷ []))
 
 pub next_read : (text liveins rest more : List ℕ) (before after : StandingData) (statements all : List Statement) (statement : Statement)
-    → IsReadTo text liveins rest before (map stated_of statements) → lines_of rest ≡ statement_line (stated_of statement) ∷ lines_of more → IsAdmitted before (stated_of statement)
+    → IsReadTo text liveins rest before (map stated_of statements) → lines_of rest ≡ stated_line (stated_of statement) ∷ lines_of more → IsAdmitted before (stated_of statement)
     → all ≡ statements ++ statement ∷ [] → is_return (stated_of statement) ≡ false → IsPassed before after (stated_of statement) → IsReadTo text liveins more after (map stated_of all)
 next_read text liveins rest more before after statements all statement so_far line admitted e last passes =
     subst (λ t. IsReadTo text liveins more after t) (pushed statements all statement e)
     (next_instr text liveins rest more before after (map stated_of statements) (stated_of statement) so_far line admitted last passes)
 
 pub last_read : (text liveins rest more : List ℕ) (before : StandingData) (statements all : List Statement) (statement : Statement)
-    → IsReadTo text liveins rest before (map stated_of statements) → lines_of rest ≡ statement_line (stated_of statement) ∷ lines_of more → IsAdmitted before (stated_of statement)
+    → IsReadTo text liveins rest before (map stated_of statements) → lines_of rest ≡ stated_line (stated_of statement) ∷ lines_of more → IsAdmitted before (stated_of statement)
     → all ≡ statements ++ statement ∷ [] → is_return (stated_of statement) ≡ true → IsEnd more → IsBody text liveins (map stated_of all)
 last_read text liveins rest more before statements all statement so_far line admitted e last end =
     subst (λ t. IsBody text liveins t) (pushed statements all statement e)

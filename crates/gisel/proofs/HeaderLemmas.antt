@@ -4,10 +4,8 @@ use Rattle.std.proofs.lemmas.List.{append-nil, append_assoc}
 use Rattle.std.proofs.lemmas.Bool.{and_parts}
 use Rattle.std.specs.Prelude.{◌==◌, ◌&&◌, codes, decimal}
 use Rattle.std.specs.List.{list_all}
-use Rattle.gi_llt.specs.Tokens.{piece_bytes}
-use Rattle.gi_mir.specs.Printed.{liveins_lines, listed, physical_pieces}
 use Rattle.gi_mir.specs.Spelling.{lines_of}
-use Rattle.gi_mir.specs.Stated.{key_line, is_argument, are_arguments}
+use Rattle.gi_mir.specs.Stated.{key_line, is_argument, are_arguments, physical_list}
 use Rattle.gisel.specs.Header.{IsKeyed, IsHead, more_liveins, liveins_line}
 use Rattle.gisel.proofs.LineLemmas.{no_more}
 
@@ -65,10 +63,11 @@ all_liveins line liveins rest all end =
 pub are_all_arguments : (line liveins rest : List ℕ) → IsLiveinsTo line liveins rest → are_arguments liveins ≡ true
 are_all_arguments line liveins rest all = ap are_arguments all.items ∙ all.arguments
 
--- the line is the printed one
-listed_liveins : (first : ℕ) (numbers : List ℕ) → piece_bytes (listed (physical_pieces (first ∷ numbers))) ≡ codes "$x" ++ (decimal first ++ more_liveins numbers)
-listed_liveins first [] = refl
+-- the line is the stated one
+listed_liveins : (first : ℕ) (numbers : List ℕ) → codes "$x" ++ (decimal first ++ more_liveins numbers) ≡ physical_list (first ∷ numbers)
+listed_liveins first [] = ap (λ t. codes "$x" ++ t) (append-nil (decimal first))
 listed_liveins first (next ∷ numbers) = ap (λ t. codes "$x" ++ (decimal first ++ (codes ", " ++ t))) (listed_liveins next numbers)
 
-pub liveins_lines_are : (first : ℕ) (numbers : List ℕ) → liveins_lines (first ∷ numbers) ≡ liveins_line (first ∷ numbers) ∷ []
-liveins_lines_are first numbers = ap (λ t. (codes "    liveins: " ++ t) ∷ []) (listed_liveins first numbers)
+pub liveins_line_is : (liveins : List ℕ) → are_arguments liveins ≡ true → liveins_line liveins ≡ codes "    liveins: " ++ physical_list liveins
+liveins_line_is [] arguments = cc
+liveins_line_is (first ∷ numbers) arguments = ap (λ t. codes "    liveins: " ++ t) (listed_liveins first numbers)

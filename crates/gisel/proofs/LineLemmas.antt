@@ -2,26 +2,8 @@
 use Rattle.std.proofs.Common.{◌≡◌, ℕ, suc, arith, true, length, List, [], ◌∷◌, ◌++◌, refl, sym, ap, ◌∙◌}
 use Rattle.std.proofs.lemmas.Bool.{eqb-true}
 use Rattle.std.specs.Prelude.{codes, decimal, ◌==◌}
-use Rattle.std.specs.Fmt.{digits}
-use Rattle.gi_mir.specs.Stated.{CopyIn, AddUp, CopyOut, Return}
-use Rattle.gisel.specs.Statement.{statement_line}
-
-pub copy_in_line : (register physical : ℕ) → statement_line (CopyIn register physical) ≡ codes "    %" ++ (decimal register ++ (codes ":gprb(s32) = COPY $x" ++ (decimal physical ++ [])))
-unfolding digits
-copy_in_line register physical = refl
-
-pub add_up_line : (register left right : ℕ)
-    → statement_line (AddUp register left right) ≡ codes "    %" ++ (decimal register ++ (codes ":gprb(s32) = G_ADD %" ++ (decimal left ++ (codes ", %" ++ (decimal right ++ [])))))
-unfolding digits
-add_up_line register left right = refl
-
-pub copy_out_line : (physical register : ℕ) → statement_line (CopyOut physical register) ≡ codes "    $x" ++ (decimal physical ++ (codes " = COPY %" ++ (decimal register ++ codes "(s32)")))
-unfolding digits
-copy_out_line physical register = refl
-
-pub return_line : statement_line Return ≡ codes "    PseudoRET implicit $x10"
-unfolding digits
-return_line = refl
+use Rattle.std.proofs.lemmas.List.{append-nil}
+use Rattle.gi_mir.specs.Stated.{CopyIn, AddUp, CopyOut, stated_line}
 
 -- a list whose length was tested
 pub no_more : (rest : List ℕ) → true ≡ (length rest == 0) → rest ≡ []
@@ -31,21 +13,21 @@ no_more (byte ∷ rest) h = let none : suc (length rest) ≡ 0 = eqb-true (suc (
 -- the line, from the pieces that were taken off its front
 pub copy_in_from : (line r1 r2 r3 r4 : List ℕ) (register physical : ℕ)
     → line ≡ codes "    %" ++ r1 → r1 ≡ decimal register ++ r2 → r2 ≡ codes ":gprb(s32) = COPY $x" ++ r3 → r3 ≡ decimal physical ++ r4
-    → true ≡ (length r4 == 0) → line ≡ statement_line (CopyIn register physical)
+    → true ≡ (length r4 == 0) → line ≡ stated_line (CopyIn register physical)
 copy_in_from line r1 r2 r3 r4 register physical e1 e2 e3 e4 end =
     e1 ∙ ap (λ t. codes "    %" ++ t) (e2 ∙ ap (λ t. decimal register ++ t) (e3 ∙ ap (λ t. codes ":gprb(s32) = COPY $x" ++ t) (e4
-    ∙ ap (λ t. decimal physical ++ t) (no_more r4 end)))) ∙ sym (copy_in_line register physical)
+    ∙ ap (λ t. decimal physical ++ t) (no_more r4 end) ∙ append-nil (decimal physical))))
 
 pub add_up_from : (line r1 r2 r3 r4 r5 r6 : List ℕ) (register left right : ℕ)
     → line ≡ codes "    %" ++ r1 → r1 ≡ decimal register ++ r2 → r2 ≡ codes ":gprb(s32) = G_ADD %" ++ r3 → r3 ≡ decimal left ++ r4
-    → r4 ≡ codes ", %" ++ r5 → r5 ≡ decimal right ++ r6 → true ≡ (length r6 == 0) → line ≡ statement_line (AddUp register left right)
+    → r4 ≡ codes ", %" ++ r5 → r5 ≡ decimal right ++ r6 → true ≡ (length r6 == 0) → line ≡ stated_line (AddUp register left right)
 add_up_from line r1 r2 r3 r4 r5 r6 register left right e1 e2 e3 e4 e5 e6 end =
     e1 ∙ ap (λ t. codes "    %" ++ t) (e2 ∙ ap (λ t. decimal register ++ t) (e3 ∙ ap (λ t. codes ":gprb(s32) = G_ADD %" ++ t) (e4
-    ∙ ap (λ t. decimal left ++ t) (e5 ∙ ap (λ t. codes ", %" ++ t) (e6 ∙ ap (λ t. decimal right ++ t) (no_more r6 end)))))) ∙ sym (add_up_line register left right)
+    ∙ ap (λ t. decimal left ++ t) (e5 ∙ ap (λ t. codes ", %" ++ t) (e6 ∙ ap (λ t. decimal right ++ t) (no_more r6 end) ∙ append-nil (decimal right))))))
 
 pub copy_out_from : (line r1 r2 r3 r4 : List ℕ) (physical register : ℕ)
     → line ≡ codes "    $x" ++ r1 → r1 ≡ decimal physical ++ r2 → r2 ≡ codes " = COPY %" ++ r3 → r3 ≡ decimal register ++ r4
-    → r4 ≡ codes "(s32)" → line ≡ statement_line (CopyOut physical register)
+    → r4 ≡ codes "(s32)" → line ≡ stated_line (CopyOut physical register)
 copy_out_from line r1 r2 r3 r4 physical register e1 e2 e3 e4 end =
     e1 ∙ ap (λ t. codes "    $x" ++ t) (e2 ∙ ap (λ t. decimal physical ++ t) (e3 ∙ ap (λ t. codes " = COPY %" ++ t) (e4
-    ∙ ap (λ t. decimal register ++ t) end))) ∙ sym (copy_out_line physical register)
+    ∙ ap (λ t. decimal register ++ t) end)))

@@ -5,7 +5,8 @@ ghost use Rattle.gi_mir.specs.Spelling.{lines_of};
 ghost use Rattle.gi_mir.specs.Stated.{is_stated_after, is_return};
 ghost use Rattle.gisel.specs.Body.{IsBody, IsEnd};
 ghost use Rattle.gisel.specs.Standing.{IsStanding};
-ghost use Rattle.gisel.specs.Statement.{stated_of, statement_line};
+ghost use Rattle.gi_mir.specs.Stated.{stated_line};
+ghost use Rattle.gisel.specs.Statement.{stated_of};
 
 use crate::header::line_taken;
 use crate::line::statement_of;
@@ -42,7 +43,7 @@ fn next_statement<'a>(
     place: u32,
     standing: &Standing,
 ) -> Result<(Statement, &'a [u8]), Refusal>
-    ensures lines { IfOk result (λ p. lines_of text.now ≡ statement_line (stated_of p.0) ∷ lines_of p.1.now) }
+    ensures lines { IfOk result (λ p. lines_of text.now ≡ stated_line (stated_of p.0) ∷ lines_of p.1.now) }
     ensures admitted { IfOk result (λ p. (defined live : List ℕ)
         → IsStanding standing.now defined live
         → is_stated_after defined live (stated_of p.0) ≡ true) }

@@ -1,7 +1,8 @@
 //! The line of one instruction.
 
 ghost use Rattle.std.specs.Prelude.{◌≡◌, ◌++◌, decimal, IfSome};
-ghost use Rattle.gisel.specs.Statement.{stated_of, statement_line};
+ghost use Rattle.gi_mir.specs.Stated.{stated_line};
+ghost use Rattle.gisel.specs.Statement.{stated_of};
 
 use crate::lines::{after, number};
 use crate::statement::Statement;
@@ -19,7 +20,7 @@ pub fn physical_number(bytes: &[u8]) -> Option<(u8, &[u8])>
 
 /// `%N:gprb(s32) = COPY $xK`
 fn copy_in(line: &[u8]) -> Option<Statement>
-    ensures { IfSome result (λ s. line.now ≡ statement_line (stated_of s)) }
+    ensures { IfSome result (λ s. line.now ≡ stated_line (stated_of s)) }
 {
     let rest = after(line, b"    %")?;
     let (register, rest) = number(rest)?;
@@ -34,7 +35,7 @@ fn copy_in(line: &[u8]) -> Option<Statement>
 
 /// `%N:gprb(s32) = G_ADD %A, %B`
 fn add_up(line: &[u8]) -> Option<Statement>
-    ensures { IfSome result (λ s. line.now ≡ statement_line (stated_of s)) }
+    ensures { IfSome result (λ s. line.now ≡ stated_line (stated_of s)) }
 {
     let rest = after(line, b"    %")?;
     let (register, rest) = number(rest)?;
@@ -55,7 +56,7 @@ fn add_up(line: &[u8]) -> Option<Statement>
 
 /// `$xK = COPY %N(s32)`
 fn copy_out(line: &[u8]) -> Option<Statement>
-    ensures { IfSome result (λ s. line.now ≡ statement_line (stated_of s)) }
+    ensures { IfSome result (λ s. line.now ≡ stated_line (stated_of s)) }
 {
     let rest = after(line, b"    $x")?;
     let (physical, rest) = physical_number(rest)?;
@@ -70,7 +71,7 @@ fn copy_out(line: &[u8]) -> Option<Statement>
 
 /// `PseudoRET implicit $x10`
 fn returns(line: &[u8]) -> Option<Statement>
-    ensures { IfSome result (λ s. line.now ≡ statement_line (stated_of s)) }
+    ensures { IfSome result (λ s. line.now ≡ stated_line (stated_of s)) }
 {
     if line == b"    PseudoRET implicit $x10".as_slice() {
         Some(Statement::Return)
@@ -81,7 +82,7 @@ fn returns(line: &[u8]) -> Option<Statement>
 
 /// The instruction that a line spells, four spaces in.
 pub fn statement_of(line: &[u8]) -> Option<Statement>
-    ensures { IfSome result (λ s. line.now ≡ statement_line (stated_of s)) }
+    ensures { IfSome result (λ s. line.now ≡ stated_line (stated_of s)) }
 {
     match copy_in(line) {
         Some(statement) => Some(statement),
