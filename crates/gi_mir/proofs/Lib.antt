@@ -5,4 +5,5 @@ pub mod InstrPieces
 pub mod NamesLemmas
 pub mod Places
 pub mod Words
+pub mod KindLemmas
 pub mod NumberingLaws

@@ -1,0 +1,6 @@
+//! The text of a Machine IR module.
+#![tactic(auto)]
+
+mod instruction;
+mod pieces;
+mod registers;
