@@ -1,3 +1,5 @@
-pub mod NoteLemmas
-pub mod PieceLemmas
+pub mod LineLemmas
 pub mod ListSteps
+pub mod NoteLemmas
+pub mod OperandLemmas
+pub mod PieceLemmas

@@ -1,5 +1,5 @@
 -- What is left of a list in a loop.
-use Rattle.std.proofs.Common.{◌≡◌, ℕ, suc, ◌++◌, Ok, Err, OnOk, append_assoc, ◌+◌, ◌<◌, ◌≤◌, List, [], ◌∷◌, length, get_or, drop, refl, sym, ap, ◌∙◌, subst, add-one}
+use Rattle.std.proofs.Common.{◌≡◌, ℕ, suc, ◌++◌, Ok, Err, OnOk, append_assoc, append-nil, ◌+◌, ◌<◌, ◌≤◌, List, [], ◌∷◌, length, get_or, drop, refl, sym, ap, ◌∙◌, subst, add-one}
 use Rattle.std.specs.Prelude.{Result}
 use Rattle.std.proofs.Math.ListN.{drop_of_length-le}
 use Rattle.std.proofs.Math.Seq.{drop-cons}
@@ -22,3 +22,17 @@ on_ok_same (Err e) o a b y same h = h
 
 pub drop_end : {X : Type 0} (xs : List X) (i : ℕ) → length xs ≤ i → drop i xs ≡ []
 drop_end xs i h = drop_of_length-le xs h
+
+-- one more cell after its lead
+pub led_step : (o lead cell rest o1 o2 total : List ℕ) → o1 ≡ o ++ lead → o2 ≡ o1 ++ cell → o ++ (lead ++ (cell ++ rest)) ≡ total → o2 ++ rest ≡ total
+led_step o lead cell rest o1 o2 total first second all =
+    ap (λ bs. bs ++ rest) (second ∙ ap (λ bs. bs ++ cell) first)
+    ∙ append_assoc (o ++ lead) cell rest ∙ append_assoc o lead (cell ++ rest) ∙ all
+
+-- one more piece of text
+pub text_step : (o piece rest o1 total : List ℕ) → o1 ≡ o ++ piece → o ++ (piece ++ rest) ≡ total → o1 ++ rest ≡ total
+text_step o piece rest o1 total first all = ap (λ bs. bs ++ rest) first ∙ append_assoc o piece rest ∙ all
+
+-- nothing is left
+pub text_end : (o rest total : List ℕ) → rest ≡ [] → o ++ rest ≡ total → o ≡ total
+text_end o rest total none all = sym (append-nil o) ∙ ap (λ bs. o ++ bs) (sym none) ∙ all

@@ -1,5 +1,5 @@
 -- What a printer knows of a function's registers, and what it shows by it.
-use Rattle.std.specs.Prelude.{◌≡◌, ℕ, ◌-◌, Bool, true, false, ◌∷◌, List, [], ◌++◌, Option, Some, None, nat_eq, nat_lt, if◌then◌else◌, length, fold, map, slice_index, unwrap_or, codes, decimal}
+use Rattle.std.specs.Prelude.{◌≡◌, ℕ, ◌-◌, Bool, true, false, ◌∷◌, List, [], ◌++◌, ◌&&◌, Option, Some, None, nat_eq, nat_lt, if◌then◌else◌, length, fold, map, slice_index, unwrap_or, codes, decimal}
 use Rattle.std.specs.Map.{lookup}
 use Rattle.gi_mir.specs.Data.{InstrData, BlockData}
 use Rattle.gi_mir.specs.Numbering.{number_in, with_register}
@@ -8,6 +8,10 @@ use Rattle.gi_mir.specs.Renaming.{renamed_operand, renamed_instr, renamed_pair, 
 use Rattle.gi_mir.specs.declared.operand.Kind.{Kind}
 use Rattle.gi_mir.specs.declared.operand.Kind.TheVariants.{Class}
 use Rattle.gi_mir.specs.declared.operand.Operand.{Operand}
+use Rattle.gi_mir.specs.declared.operand.Operand.TheVariants as operand
+use Rattle.gi_mir.specs.Printed.{is_branch_op, successors_pieces}
+use Rattle.gi_llt.specs.Tokens.{Spaces, piece_bytes}
+use Rattle.std.specs.List.{list_any}
 use Rattle.gi_mir.specs.declared.row.Form.{Form}
 use Rattle.gi_mir.specs.declared.row.Form.TheVariants as form
 
@@ -58,3 +62,20 @@ is_definition_form form.Def = true
 is_definition_form form.PhysicalDef = true
 is_definition_form form.Results = true
 is_definition_form _ = false
+
+-- whether an operand is a block, and whether an instruction branches to one
+abbrev pub is_target : Operand → Bool
+is_target (operand.Block place) = true
+is_target _ = false
+
+abbrev pub has_target : ℕ × InstrData → Bool
+has_target i = is_branch_op (i.1).op && list_any is_target (i.1).operands
+
+-- the line of successors, where it is stated
+abbrev pub successors_stated : Bool → List ℕ → List (List ℕ)
+successors_stated is_stated successors = if is_stated then piece_bytes (Spaces 4 ∷ successors_pieces successors) ∷ [] else []
+
+-- the line feed of an empty line after lines, if there are any
+abbrev pub gap_after : List (List ℕ) → List ℕ
+gap_after [] = []
+gap_after (line ∷ lines) = 10 ∷ []

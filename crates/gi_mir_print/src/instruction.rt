@@ -1,7 +1,7 @@
 //! An instruction, written at the end of a text.
 
-ghost use Rattle.std.specs.Prelude.{◌≡◌, ◌++◌, ◌∷◌, [], true, false, not, decimal, if◌then◌else◌, OnOk};
-ghost use Rattle.std.specs.List.{list_all, position_or_len};
+ghost use Rattle.std.specs.Prelude.{◌≡◌, ◌≤◌, ◌++◌, ◌∷◌, [], true, false, not, decimal, length, position, take, drop, if◌then◌else◌, OnOk};
+ghost use Rattle.std.specs.List.{list_all};
 ghost use Rattle.gi_llt.specs.Tokens.{piece_bytes};
 ghost use Rattle.gi_mir.specs.Numbering.{number_in};
 ghost use Rattle.gi_mir.specs.Printed.{kind_pieces, use_pieces, operand_pieces, is_definition, definitions_of, sources_of, source_forms, first_row, is_typed_form, is_typed_by, forms_after, source_pieces, sources_pieces, definition_pieces, defined_pieces, instr_pieces};
@@ -121,14 +121,44 @@ fn is_definition(operand: Operand) -> bool
     matches!(operand, Operand::Def(_, _) | Operand::PhysDef(_))
 }
 
-/// How many definitions the operands begin with.
-fn definition_count(operands: &[Operand]) -> usize
-    ensures { result ≡ position_or_len (λ operand. not (is_definition operand)) operands.now }
+/// The place of the first operand that is no definition.
+fn definition_end(operands: &[Operand]) -> Option<usize>
+    ensures { result ≡ position (λ operand. not (is_definition operand)) operands.now }
 {
     operands
         .iter()
         .position(|operand| !is_definition(*operand))
-        .unwrap_or(operands.len())
+}
+
+/// How many definitions the operands begin with.
+fn definition_count(operands: &[Operand]) -> usize
+    ensures within { result ≤ length operands.now }
+    ensures definitions { take result operands.now ≡ definitions_of operands.now }
+    ensures sources { drop result operands.now ≡ sources_of operands.now }
+{
+    definition_end(operands).unwrap_or(operands.len())
+}
+
+/// The place of the first form that is not one of a definition.
+fn form_end(forms: &[Form]) -> Option<usize>
+    ensures { result ≡ position (λ form. not (is_definition_form form)) forms.now }
+{
+    forms.iter().position(|form| !is_definition_form(*form))
+}
+
+/// How many forms of definitions the forms begin with.
+fn form_count(forms: &[Form]) -> usize
+    ensures within { result ≤ length forms.now }
+    ensures sources { drop result forms.now ≡ source_forms forms.now }
+{
+    form_end(forms).unwrap_or(forms.len())
+}
+
+/// Whether a form is one of a definition.
+fn is_definition_form(form: Form) -> bool
+    ensures { result ≡ is_definition_form form }
+{
+    matches!(form, Form::Def | Form::PhysicalDef | Form::Results)
 }
 
 /// The operands before `=`.
@@ -148,21 +178,11 @@ fn sources(operands: &[Operand]) -> &[Operand]
     &operands[count..]
 }
 
-/// Whether a form is one of a definition.
-fn is_definition_form(form: Form) -> bool
-    ensures { result ≡ is_definition_form form }
-{
-    matches!(form, Form::Def | Form::PhysicalDef | Form::Results)
-}
-
 /// The forms of what is no definition.
 fn source_forms(forms: &[Form]) -> &[Form]
     ensures { result.now ≡ source_forms forms.now }
 {
-    let count = forms
-        .iter()
-        .position(|form| !is_definition_form(*form))
-        .unwrap_or(forms.len());
+    let count = form_count(forms);
     &forms[count..]
 }
 
@@ -250,6 +270,31 @@ fn push_sources(
     Ok(())
 }
 
+/// The definitions among the operands of an instruction.
+fn push_all_definitions(
+    registers: &Registers,
+    operands: &[Operand],
+    out: &mut Vec<u8>,
+) -> Result<(), Memory>
+    ensures { OnOk result (out.new.items ≡ out.old.items ++ piece_bytes (defined_pieces (definition_pieces (definitions_of (shown_operands registers.now operands.now))))) }
+{
+    push_definitions(registers, definitions(operands), out)
+}
+
+/// The other operands of an instruction, each with its type where its form shows one.
+fn push_all_sources(
+    registers: &Registers,
+    names: &Names,
+    op: Opcode,
+    operands: &[Operand],
+    out: &mut Vec<u8>,
+) -> Result<(), Memory>
+    ensures { OnOk result (out.new.items ≡ out.old.items ++ piece_bytes (sources_pieces (source_pieces (kind_at registers.now) names.now (source_forms (first_row (rows_of op))) (sources_of (shown_operands registers.now operands.now))))) }
+{
+    let forms = source_forms(first_row(op));
+    push_sources(registers, names, forms, sources(operands), out)
+}
+
 /// An instruction.
 pub(crate) fn push_instr(
     registers: &Registers,
@@ -260,15 +305,9 @@ pub(crate) fn push_instr(
     ensures { OnOk result (out.new.items ≡ out.old.items ++ piece_bytes (instr_pieces (kind_at registers.now) names.now (shown_instr registers.now instr.now))) }
 {
     let operands = instr.operands.as_slice();
-    push_definitions(registers, definitions(operands), out)?;
+    push_all_definitions(registers, operands, out)?;
     push_flags(instr.flags, out)?;
     push(instr.op.word().as_bytes(), out)?;
-    push_sources(
-        registers,
-        names,
-        source_forms(first_row(instr.op)),
-        sources(operands),
-        out,
-    )?;
+    push_all_sources(registers, names, instr.op, operands, out)?;
     push_memory(instr.mem, out)
 }
