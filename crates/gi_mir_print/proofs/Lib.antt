@@ -1,3 +1,4 @@
+pub mod FunctionLemmas
 pub mod LineLemmas
 pub mod ListSteps
 pub mod NoteLemmas

@@ -1,10 +1,11 @@
 -- The lines of a block.
 use Rattle.std.proofs.Common.{◌≡◌, ℕ, suc, ◌+◌, ◌-◌, ◌<◌, ◌≤◌, Bool, true, false, not, ◌&&◌, ◌||◌, ◌==◌, if◌then◌else◌, List, [], ◌∷◌, ◌++◌, length, get_or, map, refl, sym, ap, ap₂, ◌∙◌, subst, arith, append_assoc, add-one}
+use Rattle.std.specs.Prelude.{codes}
 use Rattle.std.specs.List.{list_any}
 use Rattle.gi_llt.specs.Tokens.{Spaces, piece_bytes}
 use Rattle.gi_mir.specs.Data.{InstrData, BlockData}
 use Rattle.gi_mir.specs.Renaming.{renamed_operand, renamed_pair}
-use Rattle.gi_mir.specs.Printed.{is_branch_op, with_place, with_targets, with_branches, falls_through, implied_successors, states_successors, set_off, text_of, instr_lines, liveins_lines, block_head_pieces, block_lines}
+use Rattle.gi_mir.specs.Printed.{sources_pieces, physical_pieces, is_branch_op, with_place, with_targets, with_branches, falls_through, implied_successors, states_successors, set_off, text_of, instr_lines, liveins_lines, block_head_pieces, block_lines}
 use Rattle.gi_mir.specs.Row.{is_unconditional_op}
 use Rattle.gi_mir.specs.declared.operand.Kind.{Kind}
 use Rattle.gi_mir.specs.declared.operand.Operand.{Operand}
@@ -131,3 +132,7 @@ block_bytes kinds names place count is_stated b h =
     ∙ ap (λ bs. piece_bytes (Spaces 2 ∷ block_head_pieces place) ++ (10 ∷ bs))
         (sym (text_of_append (set_off (successors_stated is_stated b.successors ++ liveins_lines b.liveins)) (instr_lines kinds names b.instrs)))
     ∙ ap (λ s. text_of (piece_bytes (Spaces 2 ∷ block_head_pieces place) ∷ (set_off (successors_stated s b.successors ++ liveins_lines b.liveins) ++ instr_lines kinds names b.instrs))) h
+
+pub liveins_bytes : (xs : List ℕ) → (length xs == 0) ≡ false → codes "    liveins:" ++ (piece_bytes (sources_pieces (physical_pieces xs)) ++ (10 ∷ [])) ≡ text_of (liveins_lines xs)
+liveins_bytes [] h = cc
+liveins_bytes (x ∷ xs) h = refl

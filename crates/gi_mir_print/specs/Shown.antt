@@ -1,7 +1,7 @@
 -- What a printer knows of a function's registers, and what it shows by it.
 use Rattle.std.specs.Prelude.{◌≡◌, ℕ, ◌-◌, Bool, true, false, ◌∷◌, List, [], ◌++◌, ◌&&◌, Option, Some, None, nat_eq, nat_lt, if◌then◌else◌, length, fold, map, slice_index, unwrap_or, codes, decimal}
 use Rattle.std.specs.Map.{lookup}
-use Rattle.gi_mir.specs.Data.{InstrData, BlockData}
+use Rattle.gi_mir.specs.Data.{InstrData, BlockData, FunctionData}
 use Rattle.gi_mir.specs.Numbering.{number_in, with_register}
 use Rattle.gi_mir.specs.Registers.{first_there}
 use Rattle.gi_mir.specs.Renaming.{renamed_operand, renamed_instr, renamed_pair, renamed_block}
@@ -9,7 +9,7 @@ use Rattle.gi_mir.specs.declared.operand.Kind.{Kind}
 use Rattle.gi_mir.specs.declared.operand.Kind.TheVariants.{Class}
 use Rattle.gi_mir.specs.declared.operand.Operand.{Operand}
 use Rattle.gi_mir.specs.declared.operand.Operand.TheVariants as operand
-use Rattle.gi_mir.specs.Printed.{is_branch_op, successors_pieces}
+use Rattle.gi_mir.specs.Printed.{is_branch_op, successors_pieces, name_at, key_lines, stack_lines, blocks_lines, text_of}
 use Rattle.gi_llt.specs.Tokens.{Spaces, piece_bytes}
 use Rattle.std.specs.List.{list_any}
 use Rattle.gi_mir.specs.declared.row.Form.{Form}
@@ -79,3 +79,17 @@ successors_stated is_stated successors = if is_stated then piece_bytes (Spaces 4
 abbrev pub gap_after : List (List ℕ) → List ℕ
 gap_after [] = []
 gap_after (line ∷ lines) = 10 ∷ []
+
+-- the text of a function up to its stack objects
+abbrev pub begun_lines : (names : List (List ℕ)) → FunctionData → List ℕ
+begun_lines names f =
+    (codes "---" ++ (10 ∷ codes "name:            ")) ++ (name_at names f.name ++ (10 ∷ (text_of (key_lines f.legalized (codes "legalized:       true"))
+    ++ (text_of (key_lines f.banked (codes "regBankSelected: true"))
+    ++ (text_of (key_lines f.selected (codes "selected:        true"))
+    ++ (codes "tracksRegLiveness: true" ++ (10 ∷ [])))))))
+
+-- the text of a function, with the new numbers of its registers
+abbrev pub shown_function : RegistersData → (names : List (List ℕ)) → FunctionData → List ℕ
+shown_function registers names f =
+    begun_lines names f ++ (text_of (stack_lines f.stack) ++ ((codes "body:             |" ++ (10 ∷ []))
+    ++ (text_of (blocks_lines (kind_at registers) names 0 (length f.blocks) (shown_blocks registers f.blocks)) ++ (codes "..." ++ (10 ∷ [])))))

@@ -1,6 +1,6 @@
 //! A block and its instructions, written line by line at the end of a text.
 
-ghost use Rattle.std.specs.Prelude.{◌≡◌, ◌++◌, ◌∷◌, ◌<◌, [], not, OnOk};
+ghost use Rattle.std.specs.Prelude.{◌≡◌, ◌++◌, ◌∷◌, ◌<◌, ◌+◌, ◌==◌, ◌&&◌, ◌||◌, [], not, OnOk};
 ghost use Rattle.std.specs.List.{list_any};
 ghost use Rattle.gi_llt.specs.Tokens.{Spaces, piece_bytes};
 ghost use Rattle.gi_mir.specs.Printed.{sources_pieces, instr_line, instr_lines, is_branch_op, falls_through, implied_successors, block_pieces, physical_pieces, block_head_pieces, states_successors, liveins_lines, set_off, block_lines, text_of};
@@ -200,12 +200,27 @@ fn falls_through(instrs: &[Numbered]) -> bool
     }
 }
 
+/// Whether control may go on to the next block.
+fn goes_past(place: u32, count: u32, instrs: &[Numbered]) -> bool
+    requires { place < count }
+    ensures { result ≡ (falls_through instrs.now && not (place + 1 == count)) }
+{
+    falls_through(instrs) && place + 1 != count
+}
+
+/// Whether either holds.
+fn either(first: bool, second: bool) -> bool
+    ensures { result ≡ (first || second) }
+{
+    first || second
+}
+
 /// Whether a block that states no successors would have some.
 fn has_implied(place: u32, count: u32, instrs: &[Numbered]) -> bool
     requires { place < count }
     ensures { result ≡ states_successors [] (implied_successors place count instrs.now) }
 {
-    (falls_through(instrs) && place + 1 != count) || any_branch(instrs)
+    either(goes_past(place, count, instrs), any_branch(instrs))
 }
 
 /// Whether a block has a line of its successors.

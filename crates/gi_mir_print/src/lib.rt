@@ -2,6 +2,9 @@
 #![tactic(auto)]
 
 mod blocks;
+mod functions;
 mod instruction;
 mod pieces;
 mod registers;
+
+pub use functions::{print, print_instr};
