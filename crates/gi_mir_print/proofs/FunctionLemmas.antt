@@ -1,12 +1,12 @@
 -- The text of a function, with its registers numbered by their first appearance.
-use Rattle.std.proofs.Common.{◌≡◌, ℕ, suc, ◌+◌, Bool, true, false, List, [], ◌∷◌, ◌++◌, length, map, Option, refl, sym, ap, ap₂, ◌∙◌, subst, append_assoc, append-nil, unwrap_or, add-one}
+use Rattle.std.proofs.Common.{◌≡◌, ℕ, suc, ◌+◌, Bool, true, false, List, [], ◌∷◌, ◌++◌, length, map, Option, refl, sym, ap, ap₂, ◌∙◌, subst, append_assoc, append-nil, unwrap_or, add-one, zero-add, Some}
 use Rattle.std.specs.Prelude.{codes}
 use Rattle.gi_llt.specs.Tokens.{Piece, Spaces, piece_bytes}
 use Rattle.gi_mir.specs.Data.{InstrData, BlockData, FunctionData}
 use Rattle.gi_mir.specs.Numbering.{number_in, order_of, numbered}
 use Rattle.gi_mir.specs.Registers.{kind_of, kind_in_blocks, type_of_kind}
 use Rattle.gi_mir.specs.Renaming.{renamed_operand, renamed_instr, renamed_pair, renamed_block, renamed}
-use Rattle.gi_mir.specs.Printed.{is_definition, definitions_of, sources_of, source_forms, first_row, is_typed_by, forms_after, use_pieces, operand_pieces, definition_pieces, defined_pieces, source_pieces, sources_pieces, flags_pieces, word, memory_pieces, instr_pieces, instr_line, instr_lines, block_head_pieces, set_off, successors_lines, liveins_lines, implied_successors, block_lines, blocks_lines, key_lines, stack_lines, name_at, printed_lines, functions_lines, text_of}
+use Rattle.gi_mir.specs.Printed.{is_definition, definitions_of, sources_of, source_forms, first_row, is_typed_by, forms_after, use_pieces, operand_pieces, definition_pieces, defined_pieces, source_pieces, sources_pieces, flags_pieces, word, memory_pieces, instr_pieces, instr_line, instr_lines, block_head_pieces, set_off, successors_lines, liveins_lines, implied_successors, block_lines, blocks_lines, key_lines, stack_lines, name_at, printed_lines, functions_lines, ir_lines, text_of}
 use Rattle.gi_mir.specs.Row.{word_of, rows_of}
 use Rattle.gi_mir.specs.declared.operand.Kind.{Kind}
 use Rattle.gi_mir.specs.declared.operand.Kind.TheVariants.{Class}
@@ -15,7 +15,7 @@ use Rattle.gi_mir.specs.declared.operand.Operand.TheVariants as operand
 use Rattle.gi_mir.specs.declared.row.Form.{Form}
 use Rattle.gi_mir.proofs.KindLemmas.{kind_in_blocks_old}
 use Rattle.gi_mir.proofs.NumberingLaws.{number_in_apart}
-use Rattle.gi_mir_print.specs.Shown.{RegistersData, kind_noted, kind_at, shown_blocks, begun_lines, shown_function}
+use Rattle.gi_mir_print.specs.Shown.{RegistersData, kind_noted, kind_at, register_at, shown_blocks, begun_lines, shown_function}
 use Rattle.gi_mir_print.proofs.LineLemmas.{text_of_append}
 use Rattle.gi_mir_print.proofs.NoteLemmas.{kind_at-number_in}
 use Rattle.gi_mir_print.proofs.OperandLemmas.{sources_renamed}
@@ -94,13 +94,67 @@ length_renamed : (number : ℕ → ℕ) (bs : List BlockData) → length (map (r
 length_renamed number [] = refl
 length_renamed number (b ∷ bs) = ap suc (length_renamed number bs)
 
+six : (n o x y z t w : List ℕ) → (n ++ (o ++ (x ++ (y ++ (z ++ t))))) ++ w ≡ n ++ (o ++ (x ++ (y ++ (z ++ (t ++ w)))))
+six n o x y z t w = simp append_assoc
+
 text_parts : (name : List ℕ) (x y z stack blocks : List (List ℕ))
-    → text_of (codes "---" ∷ (codes "name:            " ++ name) ∷ (x ++ (y ++ (z ++ (codes "tracksRegLiveness: true"
-        ∷ (stack ++ (codes "body:             |" ∷ (blocks ++ (codes "..." ∷ [])))))))))
-    ≡ ((codes "---" ++ (10 ∷ codes "name:            ")) ++ (name ++ (10 ∷ (text_of x ++ (text_of y ++ (text_of z ++ (codes "tracksRegLiveness: true" ++ (10 ∷ []))))))))
+    → ((codes "---" ++ (10 ∷ codes "name:            ")) ++ (name ++ (10 ∷ (text_of x ++ (text_of y ++ (text_of z ++ (codes "tracksRegLiveness: true" ++ (10 ∷ []))))))))
         ++ (text_of stack ++ ((codes "body:             |" ++ (10 ∷ [])) ++ (text_of blocks ++ (codes "..." ++ (10 ∷ [])))))
-text_parts name x y z stack blocks = ?
+    ≡ text_of (codes "---" ∷ (codes "name:            " ++ name) ∷ (x ++ (y ++ (z ++ (codes "tracksRegLiveness: true"
+        ∷ (stack ++ (codes "body:             |" ∷ (blocks ++ (codes "..." ∷ [])))))))))
+text_parts name x y z stack blocks =
+    ap (λ bs. (codes "---" ++ (10 ∷ codes "name:            ")) ++ bs)
+        (six name (10 ∷ []) (text_of x) (text_of y) (text_of z) (codes "tracksRegLiveness: true" ++ (10 ∷ []))
+            (text_of stack ++ ((codes "body:             |" ++ (10 ∷ [])) ++ (text_of blocks ++ (codes "..." ++ (10 ∷ []))))))
+    ∙ sym (ap (λ bs. (codes "---" ++ (10 ∷ codes "name:            ")) ++ (name ++ (10 ∷ bs)))
+        (text_of_append x (y ++ (z ++ (codes "tracksRegLiveness: true" ∷ (stack ++ (codes "body:             |" ∷ (blocks ++ (codes "..." ∷ [])))))))
+        ∙ ap (λ bs. text_of x ++ bs) (text_of_append y (z ++ (codes "tracksRegLiveness: true" ∷ (stack ++ (codes "body:             |" ∷ (blocks ++ (codes "..." ∷ []))))))
+        ∙ ap (λ bs. text_of y ++ bs) (text_of_append z (codes "tracksRegLiveness: true" ∷ (stack ++ (codes "body:             |" ∷ (blocks ++ (codes "..." ∷ [])))))
+        ∙ ap (λ bs. text_of z ++ (codes "tracksRegLiveness: true" ++ (10 ∷ bs))) (text_of_append stack (codes "body:             |" ∷ (blocks ++ (codes "..." ∷ [])))
+        ∙ ap (λ bs. text_of stack ++ (codes "body:             |" ++ (10 ∷ bs))) (text_of_append blocks (codes "..." ∷ [])))))))
+
+function_text_by : (d : RegistersData) (names : List (List ℕ)) (f : FunctionData) → IsAlike (number_in d.order) (kind_at d) (kind_of (renamed (number_in d.order) f))
+    → shown_function d names f ≡ text_of (printed_lines names (renamed (number_in d.order) f))
+function_text_by d names f alike =
+    let number = number_in d.order in
+    text_parts (name_at names f.name) (key_lines f.legalized (codes "legalized:       true")) (key_lines f.banked (codes "regBankSelected: true"))
+        (key_lines f.selected (codes "selected:        true")) (stack_lines f.stack) (blocks_lines (kind_at d) names 0 (length f.blocks) (shown_blocks d f.blocks))
+    ∙ ap (λ (blocks : List (List ℕ)). text_of (codes "---" ∷ (codes "name:            " ++ name_at names f.name) ∷ (key_lines f.legalized (codes "legalized:       true")
+            ++ (key_lines f.banked (codes "regBankSelected: true") ++ (key_lines f.selected (codes "selected:        true") ++ (codes "tracksRegLiveness: true"
+            ∷ (stack_lines f.stack ++ (codes "body:             |" ∷ (blocks ++ (codes "..." ∷ []))))))))))
+        (blocks_alike number (kind_at d) (kind_of (renamed number f)) alike names 0 (length f.blocks) f.blocks
+        ∙ ap (λ n. blocks_lines (kind_of (renamed number f)) names 0 n (map (renamed_block number) f.blocks)) (sym (length_renamed number f.blocks)))
 
 pub function_text : (d : RegistersData) (names : List (List ℕ)) (f : FunctionData) → d.order ≡ order_of f → ((r : ℕ) → kind_noted d.kinds r ≡ kind_in_blocks r f.blocks)
     → shown_function d names f ≡ text_of (printed_lines names (numbered f))
-function_text d names f o h = ?
+function_text d names f o h =
+    function_text_by d names f (kinds_alike d f o h) ∙ ap (λ order. text_of (printed_lines names (renamed (number_in order) f))) o
+
+-- ══ An instruction alone ══
+
+operands_same : (number : ℕ → ℕ) → ((r : ℕ) → number r ≡ r) → (xs : List Operand) → map (renamed_operand number) xs ≡ xs
+operands_same number same [] = refl
+operands_same number same (operand.Def r k ∷ xs) = ap₂ (λ (n : ℕ) ys. operand.Def (record { 0 = n }) k ∷ ys) (same r.0) (operands_same number same xs)
+operands_same number same (operand.Use r ∷ xs) = ap₂ (λ (n : ℕ) ys. operand.Use (record { 0 = n }) ∷ ys) (same r.0) (operands_same number same xs)
+operands_same number same (x ∷ xs) = ap (λ ys. x ∷ ys) (operands_same number same xs)
+
+kind_of_none : (d : RegistersData) → d.kinds ≡ [] → (n : ℕ) → kind_at d n ≡ Class
+unfolding kind_at
+kind_of_none d h n = ap (λ ks. unwrap_or (kind_noted ks (register_at d.order n)) Class) h
+
+-- with no registers noted, each keeps its number and none shows a type
+pub plain_text : (d : RegistersData) (names : List (List ℕ)) (i : InstrData) → d.order ≡ [] → d.kinds ≡ []
+    → piece_bytes (instr_pieces (kind_at d) names (renamed_instr (number_in d.order) i)) ≡ piece_bytes (instr_pieces (λ r. Class) names i)
+plain_text d names i o h =
+    let none : (r : ℕ) → number_in d.order r ≡ r = λ r. ap (λ order. number_in order r) o ∙ zero-add r in
+    ap piece_bytes
+        (instr_alike (number_in d.order) (kind_at d) (λ r. Class) (record { at = λ r. kind_of_none d h (number_in d.order r) }) names i
+        ∙ ap (λ operands. let j : InstrData = record i { operands = operands } in instr_pieces (λ r. Class) names j) (operands_same (number_in d.order) none i.operands))
+
+-- ══ A module ══
+
+pub ir_bytes : (lines : List (List ℕ)) → codes "--- |" ++ (10 ∷ (text_of lines ++ (codes "..." ++ (10 ∷ [])))) ≡ text_of (ir_lines (Some lines))
+ir_bytes lines = ap (λ bs. codes "--- |" ++ (10 ∷ bs)) (sym (text_of_append lines (codes "..." ∷ [])))
+
+pub eight : (a b c d e f g h : List ℕ) → a ++ (b ++ (c ++ (d ++ (e ++ (f ++ (g ++ h)))))) ≡ (a ++ (b ++ (c ++ (d ++ (e ++ (f ++ g)))))) ++ h
+eight a b c d e f g h = sym (simp append_assoc)

@@ -185,7 +185,7 @@ fn push_any_ir(ir: &Option<Vec<String>>, out: &mut Vec<u8>) -> Result<(), Memory
 /// Writes the text of a module at the end, with the registers of each function numbered from 0 in the order in
 /// which they first appear.
 pub fn print(module: &Module, out: &mut Vec<u8>) -> Result<(), Memory>
-    ensures text { OnOk result (out.new.items ≡ out.old.items ++ printed (numbered_module module.now)) }
+    ensures text { OnOk result (out.new.items ≡ out.old.items ++ printed (numbered_module «module».now)) }
 {
     push_any_ir(&module.ir, out)?;
     push_functions(&module.names, module.functions.as_slice(), out)
