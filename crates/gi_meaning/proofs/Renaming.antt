@@ -4,7 +4,7 @@ use mathlib.Core.Path.{fun_ext}
 use Rattle.std.proofs.lemmas.Option.{slice_get-map}
 use Rattle.gi_llt.specs.Llt.{width_of}
 use Rattle.gi_mir.specs.Data.{InstrData, BlockData, FunctionData}
-use Rattle.gi_mir.specs.Registers.{first_there, kind_in_operand, kind_in_operands, kind_in_instrs, kind_in_blocks, kind_of}
+use Rattle.gi_mir.specs.Registers.{kind_of}
 use Rattle.gi_mir.specs.declared.operand.Kind.{Kind}
 use Rattle.gi_mir.specs.declared.operand.Kind.TheVariants as kind
 use Rattle.gi_mir.specs.declared.operand.MemOp.{MemOp}
@@ -15,23 +15,8 @@ use Rattle.gi_meaning.specs.State.{World, State, outside_of, start, Outcome, Fai
 use Rattle.gi_meaning.specs.Meaning.{Meaning, Calling, Nothing, meaning_of}
 use Rattle.gi_meaning.specs.Act.{Answer, Results, Leaves, Returns, Asks, Breaks, Act, clobbered, is_result_register}
 use Rattle.gi_meaning.specs.Runs.{Setting, width_of_kind, setting_of, argument_of, joined_lists, arguments_of, places_of, result_places, written_places, width_of_place, put_all, Progress, On, Left, Over, going_on, progress_of, StepsFrom, Steps, After, Executes, is_phi, phis_of, after_phis, entry_of, chosen, entry_for, value_at, from_block, put_value, joined, is_among, Follows, RunsAfterPhis, RunsBlock, Enters, Runs}
+use Rattle.gi_mir.proofs.KindLemmas.{same_test, kind_in_blocks_old}
 use Rattle.gi_mir.specs.Renaming.{IsInjective, renamed_operand, renamed_instr, renamed_pair, renamed_block, renamed}
-
--- ══ Tests on numbers ══
-
-test_cases : (b : Bool) → (b ≡ true) ⊎ (b ≡ false)
-test_cases true = inl refl
-test_cases false = inr refl
-
--- the same test on the new numbers
-pub same_test : (number : ℕ → ℕ) → IsInjective number → (a b : ℕ) → (number a == number b) ≡ (a == b)
-same_test number h a b = ⊎_elim
-    (λ (yes : (a == b) ≡ true). eq-eqb (number a) (number b) (ap number (eqb-true a b yes)) ∙ sym yes)
-    (λ (no : (a == b) ≡ false). ⊎_elim
-        (λ (yes : (number a == number b) ≡ true). absurd (true≢false (sym (eq-eqb a b (h.apart a b (eqb-true (number a) (number b) yes))) ∙ no)))
-        (λ (still : (number a == number b) ≡ false). still ∙ sym no)
-        (test_cases (number a == number b)))
-    (test_cases (a == b))
 
 -- ══ The old setting and the old state ══
 
@@ -280,22 +265,6 @@ enters_old number h s w blocks (suc n) = record { by = λ from b state o run.
             (slice_get-map (renamed_block number) blocks b) run) }
 
 -- ══ Kinds ══
-
-kind_in_operand_old : (number : ℕ → ℕ) → IsInjective number → (r : ℕ) (o : Operand) → kind_in_operand (number r) (renamed_operand number o) ≡ kind_in_operand r o
-kind_in_operand_old number h r (operand.Def d k) = ap (λ b. cond b (Some k) None) (same_test number h d.0 r)
-kind_in_operand_old number h r _ = refl
-
-kind_in_operands_old : (number : ℕ → ℕ) → IsInjective number → (r : ℕ) (os : List Operand) → kind_in_operands (number r) (map (renamed_operand number) os) ≡ kind_in_operands r os
-kind_in_operands_old number h r [] = refl
-kind_in_operands_old number h r (o ∷ os) = ap₂ first_there (kind_in_operand_old number h r o) (kind_in_operands_old number h r os)
-
-kind_in_instrs_old : (number : ℕ → ℕ) → IsInjective number → (r : ℕ) (is : List (ℕ × InstrData)) → kind_in_instrs (number r) (map (renamed_pair number) is) ≡ kind_in_instrs r is
-kind_in_instrs_old number h r [] = refl
-kind_in_instrs_old number h r (i ∷ is) = ap₂ first_there (kind_in_operands_old number h r i.1.operands) (kind_in_instrs_old number h r is)
-
-kind_in_blocks_old : (number : ℕ → ℕ) → IsInjective number → (r : ℕ) (bs : List BlockData) → kind_in_blocks (number r) (map (renamed_block number) bs) ≡ kind_in_blocks r bs
-kind_in_blocks_old number h r [] = refl
-kind_in_blocks_old number h r (b ∷ bs) = ap₂ first_there (kind_in_instrs_old number h r b.instrs) (kind_in_blocks_old number h r bs)
 
 setting_old : (number : ℕ → ℕ) → IsInjective number → (x : ℕ) (names : List (List ℕ)) (f : FunctionData)
     → old_setting number (setting_of x names (renamed number f)) ≡ setting_of x names f

@@ -8,6 +8,9 @@ pub mod IdsLemmas
 pub mod InstrPieces
 pub mod Live
 pub mod NamesLemmas
+pub mod Places
+pub mod Words
+pub mod KindLemmas
 pub mod NumberingLaws
 pub mod Places
 pub mod PrintExamples

@@ -1,8 +1,8 @@
 -- Virtual registers numbered from 0 in the order in which they first appear.
 -- (How registers are numbered in a printed text is this project's own.)
-use Rattle.std.specs.Prelude.{ℕ, ◌+◌, List, [], ◌∷◌, ◌++◌, Option, nat_eq, if◌then◌else◌, length, position, unwrap_or, flat_map, fold}
+use Rattle.std.specs.Prelude.{ℕ, ◌+◌, List, [], ◌∷◌, ◌++◌, Option, nat_eq, if◌then◌else◌, length, position, unwrap_or, map, flat_map, fold}
 use Rattle.std.specs.List.{list_any}
-use Rattle.gi_mir.specs.Data.{InstrData, BlockData, FunctionData}
+use Rattle.gi_mir.specs.Data.{InstrData, BlockData, FunctionData, ModuleData}
 use Rattle.gi_mir.specs.declared.operand.Operand.{Operand}
 use Rattle.gi_mir.specs.declared.operand.Operand.TheVariants.{Def, Use}
 use Rattle.gi_mir.specs.Renaming.{renamed}
@@ -34,3 +34,7 @@ number_in order r = unwrap_or (position (nat_eq r) order) (length order + r)
 -- the function with its registers numbered so
 abbrev pub numbered : FunctionData → FunctionData
 numbered f = renamed (number_in (order_of f)) f
+
+-- the module with the registers of each function numbered so
+abbrev pub numbered_module : ModuleData → ModuleData
+numbered_module m = record m { functions = map numbered m.functions }

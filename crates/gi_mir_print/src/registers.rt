@@ -1,0 +1,151 @@
+//! What a printer knows of a function's registers.
+
+ghost use Rattle.std.specs.Prelude.{◌≡◌, ℕ, [], unwrap_or, flat_map, OnOk, IfOk};
+ghost use Rattle.gi_mir.specs.Numbering.{number_in, with_register, order_of, registers_in_operand, registers_in_instr};
+ghost use Rattle.gi_mir.specs.Registers.{first_there, kind_in_operand, kind_in_operands, kind_in_instrs, kind_in_blocks};
+ghost use Rattle.gi_mir_print.specs.Shown.{IsNoted, kind_at, kind_noted};
+
+use gi_llt::Memory;
+use gi_mir::block::Numbered;
+use gi_mir::function::Function;
+use gi_mir::operand::{Kind, Operand, Reg};
+use indexmap::{IndexMap, IndexSet};
+use std::alloc::Global;
+use std::marker::Model;
+
+/// The registers of a function in the order of their first appearance, and the kind of each at its first
+/// definition.
+#[derive(Drop)]
+pub(crate) struct Registers {
+    order: IndexSet<u32>,
+    kinds: IndexMap<u32, Kind>,
+}
+
+impl Model for Registers {
+    ghost use Rattle.gi_mir_print.specs.Shown.{RegistersData};
+
+    ghost Value = { RegistersData };
+
+    ghost view = { λ a. record { order = a.order.keys; kinds = a.kinds.entries } };
+}
+
+/// Adds a register to the order, unless it is there.
+fn note_register(order: &mut IndexSet<u32>, reg: u32) -> Result<(), Memory>
+    ensures { OnOk result (order.new.keys ≡ with_register order.old.keys reg) }
+{
+    match order.insert_full(reg) {
+        Ok(_) => Ok(()),
+        Err(_) => Err(Memory),
+    }
+}
+
+/// Notes the kind of a register, unless one is noted.
+fn note_kind(kinds: &mut IndexMap<u32, Kind>, reg: Reg, kind: Kind) -> Result<(), Memory>
+    ensures { OnOk result ((r : ℕ) → kind_noted kinds.new.entries r ≡ first_there (kind_noted kinds.old.entries r) (kind_in_operand r (Operand.Def reg kind))) }
+{
+    if kinds.contains_key(&reg.0) {
+        return Ok(());
+    }
+    match kinds.insert(reg.0, kind) {
+        Ok(_) => Ok(()),
+        Err(_) => Err(Memory),
+    }
+}
+
+/// The place of a register in the order, and a number past the end where it has none.
+fn number_among(order: &IndexSet<u32>, reg: Reg) -> u64
+    ensures { result ≡ number_in order.now.keys reg.0 }
+{
+    let count = order.len() as u64;
+    match order.get_index_of(&reg.0) {
+        Some(place) => place as u64,
+        None => count + reg.0 as u64,
+    }
+}
+
+/// The kind of a register, and `Class` where none is noted.
+fn kind_among(kinds: &IndexMap<u32, Kind>, reg: Reg) -> Kind
+    ensures { result ≡ unwrap_or (kind_noted kinds.now.entries reg.0) Kind.Class }
+{
+    kinds.get(&reg.0).copied().unwrap_or(Kind::Class)
+}
+
+impl Registers {
+    /// No registers.
+    pub(crate) fn new(alloc: Global) -> Registers
+        ensures order { result.order ≡ [] }
+        ensures kinds { result.kinds ≡ [] }
+    {
+        Registers {
+            order: IndexSet::new(alloc),
+            kinds: IndexMap::new(alloc),
+        }
+    }
+
+    /// The number that a register is shown with.
+    pub(crate) fn number(&self, reg: Reg) -> u64
+        ensures { result ≡ number_in self.now.order reg.0 }
+    {
+        number_among(&self.order, reg)
+    }
+
+    /// What a register is.
+    pub(crate) fn kind(&self, reg: Reg) -> Kind
+        ensures { result ≡ kind_at self.now (number_in self.now.order reg.0) }
+    {
+        kind_among(&self.kinds, reg)
+    }
+
+    /// Notes the register of an operand, and its kind where it is defined.
+    fn note_operand(&mut self, operand: Operand) -> Result<(), Memory>
+        ensures { OnOk result (IsNoted self.old self.new (registers_in_operand operand) (λ r. kind_in_operand r operand)) }
+    {
+        match operand {
+            Operand::Def(reg, kind) => {
+                note_register(&mut self.order, reg.0)?;
+                note_kind(&mut self.kinds, reg, kind)
+            }
+            Operand::Use(reg) => note_register(&mut self.order, reg.0),
+            _ => Ok(()),
+        }
+    }
+
+    /// Notes the registers of operands.
+    fn note_operands(&mut self, operands: &[Operand]) -> Result<(), Memory>
+        ensures { OnOk result (IsNoted self.old self.new (flat_map registers_in_operand operands.now) (λ r. kind_in_operands r operands.now)) }
+    {
+        for operand in operands {
+            self.note_operand(*operand)?;
+        }
+        Ok(())
+    }
+
+    /// Notes the registers of an instruction.
+    fn note_instr(&mut self, numbered: &Numbered) -> Result<(), Memory>
+        ensures { OnOk result (IsNoted self.old self.new (registers_in_instr numbered.now) (λ r. kind_in_operands r (numbered.now).1.operands)) }
+    {
+        self.note_operands(numbered.instr.operands.as_slice())
+    }
+
+    /// Notes the registers of a block.
+    fn note_instrs(&mut self, instrs: &[Numbered]) -> Result<(), Memory>
+        ensures { OnOk result (IsNoted self.old self.new (flat_map registers_in_instr instrs.now) (λ r. kind_in_instrs r instrs.now)) }
+    {
+        for numbered in instrs {
+            self.note_instr(numbered)?;
+        }
+        Ok(())
+    }
+
+    /// Notes the registers of a function.
+    pub(crate) fn of(alloc: Global, function: &Function) -> Result<Registers, Memory>
+        ensures order { IfOk result (λ registers. registers.order ≡ order_of function.now) }
+        ensures kinds { IfOk result (λ registers. (r : ℕ) → kind_noted registers.kinds r ≡ kind_in_blocks r function.now.blocks) }
+    {
+        let mut registers = Registers::new(alloc);
+        for place in 0..function.block_count() {
+            registers.note_instrs(function.instrs(place))?;
+        }
+        Ok(registers)
+    }
+}
