@@ -1,7 +1,6 @@
 //! The meaning of Machine IR: what each opcode gives, memory, calls, blocks and whole runs.
 #![tactic(auto)]
 
-/// The number of bits in a byte.
-pub fn byte_bits() -> u16 {
-    8
-}
+mod laws;
+
+pub use laws::renaming_keeps_runs;

@@ -6,11 +6,9 @@ pub mod Documents
 pub mod FormedLemmas
 pub mod IdsLemmas
 pub mod InstrPieces
+pub mod KindLemmas
 pub mod Live
 pub mod NamesLemmas
-pub mod Places
-pub mod Words
-pub mod KindLemmas
 pub mod NumberingLaws
 pub mod Places
 pub mod PrintExamples

@@ -2,7 +2,7 @@
 use Rattle.std.proofs.Common.{◌≡◌, ℕ, Bool, true, ◌&&◌, List, [], ◌∷◌, map, Option, None, refl, sym, ap, ap₂, ◌∙◌, subst, inl}
 use Rattle.std.specs.List.{AllZip, list_all}
 use Rattle.gi_mir.specs.Data.{InstrData, BlockData, FunctionData, ModuleData}
-use Rattle.gi_mir.specs.Numbering.{order_of, number_in, numbered}
+use Rattle.gi_mir.specs.Numbering.{order_of, number_in, numbered, numbered_module}
 use Rattle.gi_mir.specs.Renaming.{renamed_pair, renamed_block, renamed_instr}
 use Rattle.gi_mir.specs.Printable.{is_named_instr, is_named_block, has_no_liveins, later_blocks, IsPrintable, AllPrintable, IsPrintableModule}
 use Rattle.gi_mir.specs.Printed.{name_at, printed}
@@ -75,9 +75,6 @@ numbered_refines names f g h made = record {
           (runs_renamed (number_in (order_of g)) (number_in_apart (order_of g)) 32 names g world n outcome run));
 }
 
-abbrev pub numbered_all : ModuleData → ModuleData
-numbered_all m = record m { functions = map numbered m.functions }
-
 only_function : (f : FunctionData) (gs : List FunctionData) → AllZip IsSelected (f ∷ []) gs → (g : FunctionData) × (gs ≡ g ∷ []) × IsSelected f g
 only_function f [] h = absurd h
 only_function f (g ∷ []) h = (g, refl, h.0)
@@ -92,21 +89,21 @@ read_function text m h = record {
 pub all_selectable : (text : List ℕ) (m : ModuleData) → IsRead text m → AllSelectable m.functions
 all_selectable text m h = subst AllSelectable (sym h.stated.functions) (read_selectable m.names h.stated.f (read_function text m h), tt)
 
-pub compiled : (text written : List ℕ) (m s : ModuleData) → IsRead text m → IsSelectedModule m s → written ≡ printed (numbered_all s) → Compiles 32 text written
+pub compiled : (text written : List ℕ) (m s : ModuleData) → IsRead text m → IsSelectedModule m s → written ≡ printed (numbered_module s) → Compiles 32 text written
 compiled text written m s h made wrote =
     let f : FunctionData = h.stated.f in
     let read : IsReadFunction m.names f = read_function text m h in
     let one = only_function f s.functions (subst (λ fs. AllZip IsSelected fs s.functions) h.stated.functions made.functions) in
     let g : FunctionData = one.0 in
-    let printable : IsPrintableModule (numbered_all s) = record {
+    let printable : IsPrintableModule (numbered_module s) = record {
             no_ir = made.ir ∙ h.stated.no_ir;
             functions = subst (λ names. AllPrintable names (map numbered s.functions)) (sym made.names)
                 (subst (λ gs. AllPrintable m.names (map numbered gs)) (sym one.1) (numbered_printable m.names f g read one.2, tt));
           } in
     record {
-      old = m; new = numbered_all s;
+      old = m; new = numbered_module s;
       spells_old = stated_spells text m h.stated;
-      spells_new = subst (λ bytes. Spells bytes (numbered_all s)) (sym wrote) (printed_spells (numbered_all s) printable);
+      spells_new = subst (λ bytes. Spells bytes (numbered_module s)) (sym wrote) (printed_spells (numbered_module s) printable);
       refines = subst (λ names. AllZip (Refines 32 m.names names) m.functions (map numbered s.functions)) (sym made.names)
           (subst (λ fs. AllZip (Refines 32 m.names m.names) fs (map numbered s.functions)) (sym h.stated.functions)
           (subst (λ gs. AllZip (Refines 32 m.names m.names) (f ∷ []) (map numbered gs)) (sym one.1) (numbered_refines m.names f g read one.2, tt)));

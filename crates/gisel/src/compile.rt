@@ -7,6 +7,7 @@ use crate::read::read;
 use crate::refusal::Refusal;
 use crate::select::select_module;
 use gi_llt::Memory;
+use gi_mir_print::print;
 use std::alloc::Global;
 
 /// The text after instruction selection.
@@ -14,9 +15,13 @@ pub fn compile(alloc: Global, bytes: &[u8]) -> Result<Vec<u8>, Refusal>
     requires { length bytes.now < 2 ^ 32 - 1 }
     ensures { IfOk result (λ text. Compiles 32 bytes.now text.items) }
 {
-    let _selected = match select_module(alloc, read(alloc, bytes)?) {
+    let selected = match select_module(alloc, read(alloc, bytes)?) {
         Ok(selected) => selected,
         Err(Memory) => return Err(Refusal::Memory),
     };
-    Err(Refusal::Memory)
+    let mut text = Vec::new(alloc);
+    match print(&selected, &mut text) {
+        Ok(()) => Ok(text),
+        Err(Memory) => Err(Refusal::Memory),
+    }
 }
