@@ -26,20 +26,24 @@ instr op operands = record { op = op; flags = no_flags; operands = operands; mem
 
 abbrev added : Kind → Opcode → FunctionData
 added kind op = record {
-  name = 0; legalized = true; banked = true; selected = false; stack = [];
+  name = 0;
+  legalized = true;
+  banked = true;
+  selected = false;
+  stack = [];
   blocks = record {
     successors = [];
     liveins = 10 ∷ 11 ∷ [];
     instrs =
-      (0, instr Copy (Def (reg 0) kind ∷ Phys 10 ∷ []))
-      ∷ (1, instr Copy (Def (reg 1) kind ∷ Phys 11 ∷ []))
-      ∷ (2, instr op (Def (reg 2) kind ∷ Use (reg 0) ∷ Use (reg 1) ∷ []))
-      ∷ (3, instr Copy (PhysDef 10 ∷ Use (reg 2) ∷ []))
-      ∷ (4, instr PseudoReturn (ImplicitUse 10 ∷ []))
-      ∷ []
+        (0, instr Copy (Def (reg 0) kind ∷ Phys 10 ∷ []))
+        ∷ (1, instr Copy (Def (reg 1) kind ∷ Phys 11 ∷ []))
+        ∷ (2, instr op (Def (reg 2) kind ∷ Use (reg 0) ∷ Use (reg 1) ∷ []))
+        ∷ (3, instr Copy (PhysDef 10 ∷ Use (reg 2) ∷ []))
+        ∷ (4, instr PseudoReturn (ImplicitUse 10 ∷ []))
+        ∷ [];
   } ∷ [];
   next_reg = 3;
-  next_id = 5
+  next_id = 5;
 }
 
 abbrev module_of : FunctionData → ModuleData
@@ -95,17 +99,27 @@ unfolding digits
 spells_selected = record {
   no_ir = refl;
   from_a_document = refl;
-  documents = (record {
-    started = refl;
-    function = record {
-      from_a_key = refl;
-      entries = record {
-        keyed = refl; is_named = refl; named = refl; legal = (refl, refl); banked = (refl, refl); chosen = (refl, refl);
-        no_registers = refl; no_stack = refl; no_objects = refl;
-        bodied = (refl, refl, (record { numbered = refl; succeeded = refl; live = (λ empty. cc, refl); instructed = (refl, (refl, (refl, (refl, (refl, tt))))) }, tt))
-      }
-    }
-  }, tt)
+  documents = (
+    record {
+      started = refl;
+      function = record {
+        from_a_key = refl;
+        entries = record {
+          keyed = refl;
+          is_named = refl;
+          named = refl;
+          legal = (refl, refl);
+          banked = (refl, refl);
+          chosen = (refl, refl);
+          no_registers = refl;
+          no_stack = refl;
+          no_objects = refl;
+          bodied = (refl, refl, (record { numbered = refl; succeeded = refl; live = (λ empty. cc, refl); instructed = (refl, (refl, (refl, (refl, (refl, tt))))) }, tt));
+        };
+      };
+    },
+    tt,
+  );
 }
 
 pub spells_stated : Spells stated_text generic_module
@@ -113,15 +127,25 @@ unfolding digits
 spells_stated = record {
   no_ir = refl;
   from_a_document = refl;
-  documents = (record {
-    started = refl;
-    function = record {
-      from_a_key = refl;
-      entries = record {
-        keyed = refl; is_named = refl; named = refl; legal = (refl, refl); banked = (refl, refl); chosen = refl;
-        no_registers = refl; no_stack = refl; no_objects = refl;
-        bodied = (refl, refl, (record { numbered = refl; succeeded = refl; live = (λ empty. cc, refl); instructed = (refl, (refl, (refl, (refl, (refl, tt))))) }, tt))
-      }
-    }
-  }, tt)
+  documents = (
+    record {
+      started = refl;
+      function = record {
+        from_a_key = refl;
+        entries = record {
+          keyed = refl;
+          is_named = refl;
+          named = refl;
+          legal = (refl, refl);
+          banked = (refl, refl);
+          chosen = refl;
+          no_registers = refl;
+          no_stack = refl;
+          no_objects = refl;
+          bodied = (refl, refl, (record { numbered = refl; succeeded = refl; live = (λ empty. cc, refl); instructed = (refl, (refl, (refl, (refl, (refl, tt))))) }, tt));
+        };
+      };
+    },
+    tt,
+  );
 }

@@ -45,12 +45,16 @@ token_starts : (kind : LexemeKind) (bytes : List ℕ) (cell : List Piece) (cells
     → Starts (piece_lexemes (defined_pieces ((token kind bytes ∷ cell) ∷ cells) ++ after))
 token_starts kind bytes cell cells after fine =
     let (more, e) = listed_first (token kind bytes) cell cells in
-    record { first = lexeme kind bytes; rest = piece_lexemes ((more ++ (Spaces 1 ∷ mark 61 ∷ Spaces 1 ∷ [])) ++ after);
-             whole = ap (λ pieces. piece_lexemes ((pieces ++ (Spaces 1 ∷ mark 61 ∷ Spaces 1 ∷ [])) ++ after)) e; fine = fine }
+    record {
+      first = lexeme kind bytes;
+      rest = piece_lexemes ((more ++ (Spaces 1 ∷ mark 61 ∷ Spaces 1 ∷ [])) ++ after);
+      whole = ap (λ pieces. piece_lexemes ((pieces ++ (Spaces 1 ∷ mark 61 ∷ Spaces 1 ∷ [])) ++ after)) e;
+      fine = fine;
+    }
 
 flags_start : (nuw nsw exact disjoint nneg : Bool) (op : Opcode) (after : List Piece)
     → Starts (piece_lexemes ((flag_pieces nuw (codes "nuw") ++ (flag_pieces nsw (codes "nsw") ++ (flag_pieces exact (codes "exact")
-        ++ (flag_pieces disjoint (codes "disjoint") ++ flag_pieces nneg (codes "nneg"))))) ++ (word (word_of op) ∷ after)))
+    ++ (flag_pieces disjoint (codes "disjoint") ++ flag_pieces nneg (codes "nneg"))))) ++ (word (word_of op) ∷ after)))
 flags_start true nsw exact disjoint nneg op after = record { first = _; rest = _; whole = refl; fine = refl }
 flags_start false true exact disjoint nneg op after = record { first = _; rest = _; whole = refl; fine = refl }
 flags_start false false true disjoint nneg op after = record { first = _; rest = _; whole = refl; fine = refl }
@@ -88,11 +92,11 @@ no_list lexemes s =
     let outer = and_parts (not (starts_with nat_eq s.first.bytes (codes "bb.")) && not (bytes_eq s.first.bytes (codes "successors"))) (not (bytes_eq s.first.bytes (codes "liveins"))) s.fine in
     let inner = and_parts (not (starts_with nat_eq s.first.bytes (codes "bb."))) (not (bytes_eq s.first.bytes (codes "successors"))) outer.0 in
     let one : begins_list (codes "successors") (Some lexemes) ≡ false =
-        ap (λ ls. begins_list (codes "successors") (Some ls)) s.whole
-        ∙ no_list_from (codes "successors") s.first s.rest (not-true (bytes_eq s.first.bytes (codes "successors")) inner.1) in
+    ap (λ ls. begins_list (codes "successors") (Some ls)) s.whole
+    ∙ no_list_from (codes "successors") s.first s.rest (not-true (bytes_eq s.first.bytes (codes "successors")) inner.1) in
     let two : begins_list (codes "liveins") (Some lexemes) ≡ false =
-        ap (λ ls. begins_list (codes "liveins") (Some ls)) s.whole
-        ∙ no_list_from (codes "liveins") s.first s.rest (not-true (bytes_eq s.first.bytes (codes "liveins")) outer.1) in
+    ap (λ ls. begins_list (codes "liveins") (Some ls)) s.whole
+    ∙ no_list_from (codes "liveins") s.first s.rest (not-true (bytes_eq s.first.bytes (codes "liveins")) outer.1) in
     or_from (begins_list (codes "successors") (Some lexemes)) (begins_list (codes "liveins") (Some lexemes)) one two
 
 -- P of each line
@@ -237,7 +241,7 @@ successors_listed successors = record {
   inner = inner_line 3 (successors_pieces successors) (lexeme Word (codes "successors")) _ (successors_apart successors) refl;
   no_head = ap begins_block (successors_items successors);
   one = ap (begins_list (codes "successors")) (successors_items successors);
-  other = ap (begins_list (codes "liveins")) (successors_items successors)
+  other = ap (begins_list (codes "liveins")) (successors_items successors);
 }
 
 pub liveins_listed : (liveins : List ℕ) → IsListLine (liveins_line liveins) false
@@ -245,5 +249,5 @@ liveins_listed liveins = record {
   inner = inner_line 3 (liveins_pieces liveins) (lexeme Word (codes "liveins")) _ (liveins_apart liveins) refl;
   no_head = ap begins_block (liveins_items liveins);
   one = ap (begins_list (codes "successors")) (liveins_items liveins);
-  other = ap (begins_list (codes "liveins")) (liveins_items liveins)
+  other = ap (begins_list (codes "liveins")) (liveins_items liveins);
 }

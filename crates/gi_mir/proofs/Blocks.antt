@@ -93,20 +93,20 @@ block_spelled kinds names place count block named live =
     let stated = states_successors block.successors implied in
     let heads = stated_lists stated block.successors block.liveins in
     let run : run_of is_list_line (heads ++ instr_lines kinds names block.instrs) ≡ heads =
-        run_of-append is_list_line heads (instr_lines kinds names block.instrs) (lists_listed stated block.successors block.liveins) (instrs_stop kinds names block.instrs named) in
+    run_of-append is_list_line heads (instr_lines kinds names block.instrs) (lists_listed stated block.successors block.liveins) (instrs_stop kinds names block.instrs named) in
     let past : past_run is_list_line (heads ++ instr_lines kinds names block.instrs) ≡ instr_lines kinds names block.instrs =
-        past_run-append is_list_line heads (instr_lines kinds names block.instrs) (lists_listed stated block.successors block.liveins) (instrs_stop kinds names block.instrs named) in
+    past_run-append is_list_line heads (instr_lines kinds names block.instrs) (lists_listed stated block.successors block.liveins) (instrs_stop kinds names block.instrs named) in
     record {
       numbered = head_items place;
       succeeded =
-        let P : List (List ℕ) → Type 0 = λ stated_by. SpellsSuccessors stated_by implied block.successors in
-        subst P (sym (ap (filter (lists (codes "successors"))) run ∙ lists_successors stated block.successors block.liveins)) (successors_spelled stated implied block.successors refl);
+          let P : List (List ℕ) → Type 0 = λ stated_by. SpellsSuccessors stated_by implied block.successors in
+          subst P (sym (ap (filter (lists (codes "successors"))) run ∙ lists_successors stated block.successors block.liveins)) (successors_spelled stated implied block.successors refl);
       live =
-        let P : List (List ℕ) → Type 0 = λ stated_by. SpellsLiveins place stated_by block.liveins in
-        subst P (sym (ap (filter (lists (codes "liveins"))) run ∙ lists_liveins stated block.successors block.liveins)) (liveins_spelled place block.liveins live);
+          let P : List (List ℕ) → Type 0 = λ stated_by. SpellsLiveins place stated_by block.liveins in
+          subst P (sym (ap (filter (lists (codes "liveins"))) run ∙ lists_liveins stated block.successors block.liveins)) (liveins_spelled place block.liveins live);
       instructed =
-        let P : List (List ℕ) → Type 0 = λ lines. AllZip (SpellsInstr kinds names) lines block.instrs in
-        subst P (sym past) (instrs_spelled kinds names block.instrs named)
+          let P : List (List ℕ) → Type 0 = λ lines. AllZip (SpellsInstr kinds names) lines block.instrs in
+          subst P (sym past) (instrs_spelled kinds names block.instrs named);
     }
 
 -- blocks from a place on, by their sections
@@ -157,9 +157,9 @@ kept_block kinds names place count block named =
     let stated = states_successors block.successors (implied_successors place count block.instrs) in
     let heads = stated_lists stated block.successors block.liveins in
     let rest : kept_lines (set_off heads ++ instr_lines kinds names block.instrs) ≡ heads ++ instr_lines kinds names block.instrs =
-        kept-append (set_off heads) (instr_lines kinds names block.instrs)
-        ∙ (ap (λ xs. xs ++ kept_lines (instr_lines kinds names block.instrs)) (kept_set_off heads (lists_inner stated block.successors block.liveins))
-        ∙ ap (λ ys. heads ++ ys) (kept_each (instr_lines kinds names block.instrs) (instrs_inner kinds names block.instrs named))) in
+    kept-append (set_off heads) (instr_lines kinds names block.instrs)
+    ∙ (ap (λ xs. xs ++ kept_lines (instr_lines kinds names block.instrs)) (kept_set_off heads (lists_inner stated block.successors block.liveins))
+    ∙ ap (λ ys. heads ++ ys) (kept_each (instr_lines kinds names block.instrs) (instrs_inner kinds names block.instrs named))) in
     rw ((head_inner place).kept) (ap (λ lines. head_line place ∷ lines) rest)
 
 pub kept_blocks_lines : (kinds : ℕ → Kind) (names : List (List ℕ)) (place count : ℕ) (blocks : List BlockData) → list_all (is_named_block names) blocks ≡ true
@@ -179,10 +179,11 @@ pub kept_blocks_inner : (kinds : ℕ → Kind) (names : List (List ℕ)) (place 
     → EachLine IsInner (kept_blocks kinds names place count blocks)
 kept_blocks_inner kinds names place count [] named = tt
 kept_blocks_inner kinds names place count (block ∷ blocks) named =
-    let parts = and_parts (is_named_block names block) (list_all (is_named_block names) blocks) named in
-    (head_inner place,
-    each-append IsInner (under_lines kinds names place count block) (kept_blocks kinds names (suc place) count blocks)
-    (under_inner kinds names place count block parts.0) (kept_blocks_inner kinds names (suc place) count blocks parts.1))
+    let parts = and_parts (is_named_block names block) (list_all (is_named_block names) blocks) named in (
+      head_inner place,
+      each-append IsInner (under_lines kinds names place count block) (kept_blocks kinds names (suc place) count blocks)
+          (under_inner kinds names place count block parts.0) (kept_blocks_inner kinds names (suc place) count blocks parts.1),
+    )
 
 -- sections after lines that are no heads
 pub sections_of-append : (is_head : List ℕ → Bool) (xs ys : List (List ℕ)) → EachLine (λ line. is_head line ≡ false) xs
@@ -205,10 +206,10 @@ sections_of-blocks kinds names place count (block ∷ blocks) named =
     let under = under_lines kinds names place count block in
     let later = kept_blocks kinds names (suc place) count blocks in
     let ih : sections_of is_block_head later ≡ record { before = []; sections = block_sections kinds names (suc place) count blocks } =
-        sections_of-blocks kinds names (suc place) count blocks parts.1 in
+    sections_of-blocks kinds names (suc place) count blocks parts.1 in
     let rest : sections_of is_block_head (under ++ later) ≡ record { before = under ++ []; sections = block_sections kinds names (suc place) count blocks } =
-        sections_of-append is_block_head under later (under_no_head kinds names place count block parts.0)
-        ∙ ap (λ (s : Sections). record { before = under ++ s.before; sections = s.sections }) ih in
+    sections_of-append is_block_head under later (under_no_head kinds names place count block parts.0)
+    ∙ ap (λ (s : Sections). record { before = under ++ s.before; sections = s.sections }) ih in
     let Goal : List (List ℕ) → Type 0 = λ lines. sections_of is_block_head (under ++ later) ≡ record { before = lines; sections = block_sections kinds names (suc place) count blocks } in
     let exact : Goal under = subst Goal (append-nil under) rest in
     rw (head_begins place) (ap (with_head (head_line place)) exact)
@@ -239,10 +240,11 @@ raw_block : (kinds : ℕ → Kind) (names : List (List ℕ)) (place count : ℕ)
     → EachLine IsRaw (block_lines kinds names place count block)
 raw_block kinds names place count block named =
     let stated = states_successors block.successors (implied_successors place count block.instrs) in
-    let heads = stated_lists stated block.successors block.liveins in
-    (raw_inner (head_line place) (head_inner place),
-    each-append IsRaw (set_off heads) (instr_lines kinds names block.instrs) (raw_set_off heads (lists_inner stated block.successors block.liveins))
-    (each-weaker IsInner IsRaw raw_inner (instr_lines kinds names block.instrs) (instrs_inner kinds names block.instrs named)))
+    let heads = stated_lists stated block.successors block.liveins in (
+      raw_inner (head_line place) (head_inner place),
+      each-append IsRaw (set_off heads) (instr_lines kinds names block.instrs) (raw_set_off heads (lists_inner stated block.successors block.liveins))
+          (each-weaker IsInner IsRaw raw_inner (instr_lines kinds names block.instrs) (instrs_inner kinds names block.instrs named)),
+    )
 
 pub raw_blocks : (kinds : ℕ → Kind) (names : List (List ℕ)) (place count : ℕ) (blocks : List BlockData) → list_all (is_named_block names) blocks ≡ true
     → EachLine IsRaw (blocks_lines kinds names place count blocks)

@@ -261,10 +261,10 @@ instr_apart kinds names instr named =
     let cells = source_pieces kinds names (source_forms (first_row (rows_of instr.op))) (sources_of instr.operands) in
     let safe : AllSafe cells = source_safe kinds names (source_forms (first_row (rows_of instr.op))) (sources_of instr.operands) (sources_named names instr.operands named) in
     let after : IsApart (sources_pieces cells ++ memory_pieces instr.mem) =
-        sources_apart cells safe (memory_pieces instr.mem) (memory_apart instr.mem) (memory_closed instr.mem) in
+    sources_apart cells safe (memory_pieces instr.mem) (memory_apart instr.mem) (memory_closed instr.mem) in
     let closed : is_closed (sources_pieces cells ++ memory_pieces instr.mem) ≡ true = sources_closed cells (memory_pieces instr.mem) (memory_closed instr.mem) in
     let ended : is_ended Word (piece_bytes (sources_pieces cells ++ memory_pieces instr.mem)) ≡ true =
-        ended_from_stopped Word (piece_bytes (sources_pieces cells ++ memory_pieces instr.mem)) closed in
+    ended_from_stopped Word (piece_bytes (sources_pieces cells ++ memory_pieces instr.mem)) closed in
     let worded : IsApart (word (word_of instr.op) ∷ (sources_pieces cells ++ memory_pieces instr.mem)) = (op_formed instr.op, ended, after) in
     defined_apart (definition_pieces (definitions_of instr.operands)) (definition_safe (definitions_of instr.operands) (defined_named instr.operands))
     (flags_pieces instr.flags ++ (word (word_of instr.op) ∷ (sources_pieces cells ++ memory_pieces instr.mem)))
