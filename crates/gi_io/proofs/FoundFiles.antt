@@ -1,10 +1,10 @@
 -- Files found by their names.
-use Rattle.std.proofs.Common.{◌≡◌, ℕ, ◌+◌, ◌<◌, List, [], length, take, drop, get_or, true, refl, sym, Some, String, Vec, string_bytes}
+use Rattle.std.proofs.Common.{◌≡◌, ℕ, ◌<◌, List, [], length, drop, get_or, true, refl, Some, String, Vec, string_bytes}
 use Rattle.std.proofs.Math.Seq.{drop-cons}
 use Rattle.std.proofs.lemmas.Option.{slice_get-map, slice_get_read}
 use Rattle.std.specs.Str.{bytes_eq}
 use Rattle.std.specs.declared.alloc.Global.{Global}
-use Rattle.gi_io.specs.Files.{File, file_of, files_of, bytes_under}
+use Rattle.gi_io.specs.Files.{files_of, bytes_under}
 use Rattle.gi_io.specs.Opened.{opened_bytes}
 use Rattle.gi_io.specs.declared.memory_source.Opened.TheVariants.{File as FileAt}
 

@@ -1,5 +1,5 @@
 -- A sink in memory.
-use Rattle.std.specs.Prelude.{ℕ, ◌-◌, List, [], ◌∷◌, ◌++◌, Bool, true, not, Option, length, take, min, max, nat_le, nat_lt, ◌||◌, ◌&&◌}
+use Rattle.std.specs.Prelude.{ℕ, ◌-◌, List, Bool, true, not, Option, length, min, max, nat_le, nat_lt, ◌||◌, ◌&&◌}
 use Rattle.std.specs.Option.{option_eq}
 use Rattle.std.specs.Str.{bytes_eq}
 use Rattle.gi_io.specs.Calls.{call_after, fault_after, is_made_to_fail}

@@ -1,5 +1,5 @@
 -- A source in memory.
-use Rattle.std.specs.Prelude.{ℕ, List, [], Bool, false, Option, Some, None, unwrap_or, is_none, ◌||◌, if◌then◌else◌}
+use Rattle.std.specs.Prelude.{ℕ, List, [], Bool, false, Option, Some, None, unwrap_or, is_none, ◌||◌}
 use Rattle.gi_io.specs.Calls.{call_after, fault_after, is_made_to_fail}
 use Rattle.gi_io.specs.Files.{File, bytes_under}
 

@@ -1,11 +1,11 @@
 -- What is written in pieces that stand apart is read as their tokens.
-use Rattle.std.proofs.Common.{◌≡◌, ℕ, zero, suc, ◌+◌, ◌<◌, ◌≤◌, Bool, true, false, cond, eqb, leb, List, [], ◌∷◌, ◌++◌, length, Option, Some, None, sym, refl, ap, ◌∙◌, subst, inl, inr, arith}
-use Rattle.std.specs.Prelude.{◌||◌, ◌&&◌, not, ◌⊎◌, ◌==◌, nat_le, replicate, option_map, codes, ⊤}
+use Rattle.std.proofs.Common.{◌≡◌, ℕ, zero, suc, Bool, true, false, List, [], ◌∷◌, ◌++◌, length, Option, Some, sym, refl, ap, ◌∙◌, subst, inl, inr, arith}
+use Rattle.std.specs.Prelude.{◌||◌, ◌&&◌, not, ◌⊎◌, ◌==◌, replicate, option_map, codes, ⊤}
 use Rattle.std.specs.List.{list_any, list_all}
 use Rattle.std.specs.Cmp.Derive.{both_true}
-use Rattle.std.proofs.lemmas.Bool.{and_parts, or_cases, cases_Bool, not-true, false≢true, eqb-true, leb-true, leb-false, lt-leb, le-leb, ne_eqb, eq-eqb, both_ways, or_from, or_parts}
+use Rattle.std.proofs.lemmas.Bool.{and_parts, or_cases, not-true, false≢true, eqb-true}
 use Rattle.std.proofs.lemmas.Bool.Decides.{nat_tests}
-use Rattle.gi_llt.specs.Tokens.{LexemeKind, Word, Number, Register, Physical, Global, Routine, Quoted, Metadata, Mark, Lexeme, lexeme, is_within, is_digit, is_hexadecimal_digit, is_word_start, is_word_byte, is_blank, is_mark, Start, OfBlank, OfComment, OfWord, OfNumber, OfMinus, OfName, OfQuoted, OfMetadata, OfMark, OfNothing, start_of, run_of, past_run, Found, FoundBlank, FoundComment, FoundToken, FoundNothing, found_some, found_minus, found_number, found_hexadecimal, found, tokens_from, tokens_past, tokens_of, Piece, Token, Spaces, piece_bytes, piece_lexemes, token, is_formed, is_ended, IsApart}
+use Rattle.gi_llt.specs.Tokens.{LexemeKind, Word, Number, Register, Physical, Global, Routine, Quoted, Metadata, Mark, Lexeme, lexeme, is_digit, is_word_start, is_word_byte, is_mark, OfNumber, OfName, start_of, run_of, past_run, FoundToken, found_some, found_minus, found_number, found, tokens_past, tokens_of, Piece, Token, Spaces, piece_bytes, piece_lexemes, token, is_formed, is_ended, IsApart}
 
 pub and_right_false : (b : Bool) → (b && false) ≡ false
 and_right_false true = refl
@@ -83,7 +83,7 @@ found_digits : (byte digit : ℕ) (more rest : List ℕ) → is_digit digit ≡ 
 found_digits byte digit more rest first all stopped =
     let no_letter : (byte == 48 && digit == 120) ≡ false = rw (digit_no_letter digit first) (and_right_false (byte == 48)) in
     let run : run_of is_digit ((digit ∷ more) ++ rest) ≡ digit ∷ more =
-        run_of-append is_digit (digit ∷ more) rest (both_true first all) (stopped_digits rest stopped) in
+    run_of-append is_digit (digit ∷ more) rest (both_true first all) (stopped_digits rest stopped) in
     rw no_letter (ap (FoundToken Number) run)
 
 found_minus_digits : (digit : ℕ) (more rest : List ℕ) → is_digit digit ≡ true → list_all is_digit more ≡ true → is_stopped is_word_byte rest ≡ true

@@ -1,3 +1,4 @@
 pub mod Bits
 pub mod Llt
+pub mod Signs
 pub mod Tokens

@@ -1,27 +1,24 @@
 -- The lines of a printed block are read as its head, its lists and its instructions.
-use Rattle.std.proofs.Common.{◌≡◌, ℕ, zero, suc, Bool, true, false, cond, List, [], ◌∷◌, ◌++◌, length, Option, Some, None, sym, refl, ap, ◌∙◌, subst, append_assoc}
-use Rattle.std.specs.Prelude.{◌≢◌, ◌||◌, ◌&&◌, ◌==◌, not, filter, replicate, bytes_eq, nat_eq, if◌then◌else◌, codes, decimal, ⊤}
-use Rattle.std.specs.List.{list_all, list_any, starts_with, AllZip}
-use Rattle.std.specs.Cmp.Derive.{both_true}
-use Rattle.std.proofs.lemmas.Bool.{and_parts, not-true, false≢true, cases_Bool, or_from, and_left, and_right}
-use Rattle.std.proofs.lemmas.List.Elements.{filter-append}
+use Rattle.std.proofs.Common.{◌≡◌, ℕ, suc, Bool, true, false, List, [], ◌∷◌, ◌++◌, Some, refl, ap, ◌∙◌, subst}
+use Rattle.std.specs.Prelude.{◌||◌, ◌&&◌, not, bytes_eq, nat_eq, codes, decimal, ⊤}
+use Rattle.std.specs.List.{list_all, starts_with, AllZip}
+use Rattle.std.proofs.lemmas.Bool.{and_parts, not-true, or_from, and_left, and_right}
 use Rattle.std.proofs.lemmas.List.{append-nil}
-use Rattle.gi_llt.specs.Tokens.{LexemeKind, Word, Register, Physical, Mark, Lexeme, lexeme, is_word_byte, is_blank, run_of, past_run, Piece, Token, Spaces, token, tokens_of, piece_bytes, piece_lexemes, is_formed, is_ended, IsApart}
-use Rattle.gi_llt.proofs.Pieces.{is_stopped, run_of-append, past_run-append, tokens_of-pieces}
+use Rattle.gi_llt.specs.Tokens.{LexemeKind, Word, Register, Physical, Mark, Lexeme, lexeme, is_blank, Piece, Spaces, token, tokens_of, piece_bytes, piece_lexemes, is_ended, IsApart}
+use Rattle.gi_llt.proofs.Pieces.{is_stopped, tokens_of-pieces}
 use Rattle.gi_llt.proofs.Apart.{decimal_words, is_no_feed, pieces_no_feed}
 use Rattle.gi_mir.specs.declared.opcode.Opcode.{Opcode}
 use Rattle.gi_mir.specs.declared.opcode.Opcode.TheVariants.{Copy}
 use Rattle.gi_mir.specs.declared.operand.Kind.{Kind}
-use Rattle.gi_mir.specs.declared.operand.Kind.TheVariants.{Generic, Banked, Class}
 use Rattle.gi_mir.specs.declared.operand.Flags.{Flags}
 use Rattle.gi_mir.specs.declared.operand.Operand.{Operand}
 use Rattle.gi_mir.specs.declared.operand.Operand.TheVariants.{Def, PhysDef}
-use Rattle.gi_mir.specs.Data.{InstrData, BlockData, FunctionData}
+use Rattle.gi_mir.specs.Data.{InstrData}
 use Rattle.gi_mir.specs.Row.{word_of, rows_of}
-use Rattle.gi_mir.specs.Printed.{mark, word, listed, register_piece, physical_piece, block_piece, kind_pieces, definitions_of, sources_of, source_forms, first_row, source_pieces, definition_pieces, defined_pieces, flag_pieces, flags_pieces, sources_pieces, memory_pieces, instr_pieces, instr_line, instr_lines, implied_successors, block_pieces, physical_pieces, block_head_pieces, successors_pieces, liveins_pieces, states_successors, successors_lines, liveins_lines, set_off, block_lines, blocks_lines}
-use Rattle.gi_mir.specs.Spelling.{line_items, is_empty_line, begins_comment, is_dropped, kept_lines, Section, Sections, with_head, with_line, sections_of, is_word_kind, begins_block, is_block_head, begins_list, lists, is_list_line, SpellsSuccessors, SpellsLiveins, SpellsInstr, SpellsBlock, SpellsBlocks}
-use Rattle.gi_mir.specs.Printable.{is_named_operand, is_named_instr, is_named_block, has_no_liveins}
-use Rattle.gi_mir.proofs.InstrPieces.{AllSafe, IsSafe, sources_apart, instr_apart, block_safe, physical_safe}
+use Rattle.gi_mir.specs.Printed.{mark, word, listed, kind_pieces, definitions_of, sources_of, source_forms, first_row, source_pieces, definition_pieces, defined_pieces, flag_pieces, flags_pieces, sources_pieces, memory_pieces, instr_pieces, instr_line, instr_lines, block_pieces, physical_pieces, block_head_pieces, successors_pieces, liveins_pieces}
+use Rattle.gi_mir.specs.Spelling.{line_items, is_empty_line, is_dropped, is_word_kind, begins_block, is_block_head, begins_list, lists, is_list_line, SpellsInstr}
+use Rattle.gi_mir.specs.Printable.{is_named_instr}
+use Rattle.gi_mir.proofs.InstrPieces.{AllSafe, sources_apart, instr_apart, block_safe, physical_safe}
 
 -- the first token of an instruction is no block's head and no list's key
 abbrev pub is_instr_start : Lexeme → Bool

@@ -1,22 +1,22 @@
 -- The lines of printed blocks spell these blocks.
-use Rattle.std.proofs.Common.{◌≡◌, ℕ, zero, suc, Bool, true, false, cond, List, [], ◌∷◌, ◌++◌, length, Option, Some, None, sym, refl, ap, ◌∙◌, subst, append_assoc, inl, inr}
-use Rattle.std.specs.Prelude.{◌≢◌, ◌⊎◌, ◌||◌, ◌&&◌, ◌==◌, not, filter, take, drop, bytes_eq, nat_eq, if◌then◌else◌, codes, ⊤}
+use Rattle.std.proofs.Common.{◌≡◌, ℕ, zero, suc, Bool, true, false, List, [], ◌∷◌, ◌++◌, sym, refl, ap, ◌∙◌, subst, inl, inr}
+use Rattle.std.specs.Prelude.{◌⊎◌, ◌==◌, not, filter, bytes_eq, if◌then◌else◌, codes, ⊤}
 use Rattle.std.specs.List.{list_all, AllZip}
 use Rattle.std.specs.Cmp.Derive.{both_true}
-use Rattle.std.proofs.lemmas.Bool.{and_parts, not-true, false≢true, or_left, or_right, and_left}
+use Rattle.std.proofs.lemmas.Bool.{and_parts, or_left, or_right}
 use Rattle.std.proofs.lemmas.Bool.Decides.{nat_tests}
 use Rattle.std.proofs.Common.{arith}
 use Rattle.std.proofs.lemmas.List.Elements.{filter-append}
 use Rattle.std.proofs.lemmas.List.{append-nil}
-use Rattle.gi_llt.specs.Tokens.{is_blank, run_of, past_run, piece_lexemes}
-use Rattle.gi_llt.proofs.Pieces.{is_stopped, run_of-append, past_run-append}
+use Rattle.gi_llt.specs.Tokens.{is_blank, run_of, past_run}
+use Rattle.gi_llt.proofs.Pieces.{run_of-append, past_run-append}
 use Rattle.gi_llt.proofs.Apart.{is_no_feed}
 use Rattle.gi_mir.specs.declared.operand.Kind.{Kind}
-use Rattle.gi_mir.specs.Data.{InstrData, BlockData, FunctionData}
-use Rattle.gi_mir.specs.Printed.{instr_lines, implied_successors, successors_pieces, liveins_pieces, states_successors, successors_lines, liveins_lines, set_off, block_lines, blocks_lines}
-use Rattle.gi_mir.specs.Spelling.{line_items, is_dropped, kept_lines, Section, Sections, with_head, with_line, sections_of, is_separated, is_start, is_block_head, lists, is_list_line, SpellsSuccessors, SpellsLiveins, SpellsInstr, SpellsBlock, SpellsBlocks}
-use Rattle.gi_mir.specs.Printable.{is_named_instr, is_named_block, has_no_liveins}
-use Rattle.gi_mir.proofs.BlockLines.{EachLine, each-append, each-weaker, begins_blank, IsInner, instrs_inner, instrs_spelled, instrs_no_block, instrs_stop, head_line, head_items, head_inner, head_begins, successors_line, liveins_line, successors_items, liveins_items, IsListLine, successors_listed, liveins_listed}
+use Rattle.gi_mir.specs.Data.{BlockData}
+use Rattle.gi_mir.specs.Printed.{instr_lines, implied_successors, states_successors, liveins_lines, set_off, block_lines, blocks_lines}
+use Rattle.gi_mir.specs.Spelling.{is_dropped, kept_lines, Section, Sections, with_head, with_line, sections_of, without_comment, with_byte, without_last_blanks, line_bytes, is_start, is_end, is_block_head, lists, is_list_line, SpellsSuccessors, SpellsLiveins, SpellsInstr, SpellsBlock, SpellsBlocks}
+use Rattle.gi_mir.specs.Printable.{is_named_block}
+use Rattle.gi_mir.proofs.BlockLines.{EachLine, each-append, each-weaker, begins_blank, IsInner, instrs_inner, instrs_spelled, instrs_no_block, instrs_stop, head_line, head_items, head_inner, head_begins, successors_line, successors_items, liveins_items, IsListLine, successors_listed, liveins_listed}
 
 -- the lists of a block, by whether its successors are stated
 abbrev pub stated_lists : (stated : Bool) (successors liveins : List ℕ) → List (List ℕ)
@@ -219,12 +219,42 @@ pub record IsRaw (line : List ℕ) : Type 0 where
   pub no_start : is_start line ≡ false
   pub no_feed : list_all is_no_feed line ≡ true
 
+-- a line that begins with another byte than a text of three equal ones is not that text
+marks_differ : (mark byte : ℕ) (rest : List ℕ) → (byte == mark) ≡ false → bytes_eq (with_byte byte rest) (mark ∷ mark ∷ mark ∷ []) ≡ false
+marks_differ mark byte [] other = go (is_blank byte)
+  where
+    go : (blank : Bool) → bytes_eq (if blank then [] else byte ∷ []) (mark ∷ mark ∷ mark ∷ []) ≡ false
+    go true = refl
+    go false = rw other refl
+marks_differ mark byte (next ∷ rest) other = rw other refl
+
+abbrev pub begins : List ℕ → ℕ → Bool
+begins [] mark = false
+begins (byte ∷ rest) mark = byte == mark
+
+line_differs : (mark : ℕ) (line : List ℕ) → begins line mark ≡ false → bytes_eq (line_bytes line) (mark ∷ mark ∷ mark ∷ []) ≡ false
+line_differs mark [] other = refl
+line_differs mark (byte ∷ rest) other = go (byte == 59)
+  where
+    go : (comment : Bool) → bytes_eq (without_last_blanks (if not comment then byte ∷ without_comment rest else [])) (mark ∷ mark ∷ mark ∷ []) ≡ false
+    go true = refl
+    go false = marks_differ mark byte (without_last_blanks (without_comment rest)) other
+
+pub no_end : (line : List ℕ) → begins line 46 ≡ false → is_end line ≡ false
+no_end line other = line_differs 46 line other
+
+pub no_start : (line : List ℕ) → begins line 45 ≡ false → is_start line ≡ false
+no_start line other = line_differs 45 line other
+
 blank_no_minus : (byte : ℕ) → is_blank byte ≡ true → (byte == 45) ≡ false
 blank_no_minus byte blank = grind (arith, nat_tests)
 
+begins_no_minus : (line : List ℕ) → begins_blank line ≡ true → begins line 45 ≡ false
+begins_no_minus [] blank = refl
+begins_no_minus (byte ∷ rest) blank = blank_no_minus byte blank
+
 pub inner_no_start : (line : List ℕ) → begins_blank line ≡ true → is_start line ≡ false
-inner_no_start [] blank = refl
-inner_no_start (byte ∷ rest) blank = rw (blank_no_minus byte blank) refl
+inner_no_start line blank = no_start line (begins_no_minus line blank)
 
 pub raw_inner : (line : List ℕ) → IsInner line → IsRaw line
 raw_inner line inner = record { no_start = inner_no_start line inner.indented; no_feed = inner.no_feed }

@@ -1,12 +1,11 @@
 -- The pieces of an instruction's line stand apart.
-use Rattle.std.proofs.Common.{◌≡◌, ℕ, zero, suc, Bool, true, false, cond, List, [], ◌∷◌, ◌++◌, Option, Some, None, sym, refl, ap, ◌∙◌, subst, append_assoc}
-use Rattle.std.specs.Prelude.{◌&&◌, ◌==◌, if◌then◌else◌, codes, decimal, ⊤}
+use Rattle.std.proofs.Common.{◌≡◌, ℕ, Bool, true, false, List, [], ◌∷◌, ◌++◌, Option, Some, None, sym, refl, subst, append_assoc}
+use Rattle.std.specs.Prelude.{◌==◌, if◌then◌else◌, codes, decimal, ⊤}
 use Rattle.std.specs.Fmt.{signed_decimal}
 use Rattle.std.specs.List.{list_all}
-use Rattle.std.specs.Cmp.Derive.{both_true}
-use Rattle.std.proofs.lemmas.Bool.{and_parts, cond_both}
+use Rattle.std.proofs.lemmas.Bool.{and_parts}
 use Rattle.gi_llt.specs.Bits.{signed}
-use Rattle.gi_llt.specs.Tokens.{LexemeKind, Word, Number, Register, Physical, Global as GlobalName, Routine as RoutineName, Mark, Lexeme, lexeme, is_word_byte, Piece, Token, Spaces, token, piece_bytes, piece_lexemes, is_formed, is_ended, IsApart}
+use Rattle.gi_llt.specs.Tokens.{LexemeKind, Word, Number, Register, Physical, Global as GlobalName, Routine as RoutineName, Mark, is_word_byte, Piece, Spaces, token, piece_bytes, is_formed, is_ended, IsApart}
 use Rattle.gi_llt.proofs.Pieces.{is_stopped}
 use Rattle.gi_llt.proofs.Apart.{decimal_words, decimal_number, signed_decimal_number, decimal_register, ended_from_stopped}
 use Rattle.gi_llt.specs.declared.Llt.{Llt}
@@ -27,9 +26,9 @@ use Rattle.gi_mir.specs.declared.row.Form.{Form}
 use Rattle.gi_mir.specs.Data.{InstrData}
 use Rattle.gi_mir.specs.Registers.{type_of_kind}
 use Rattle.gi_mir.specs.Row.{word_of, rows_of}
-use Rattle.gi_mir.specs.Printed.{mark, word, listed, bracketed, type_piece, register_piece, physical_piece, block_piece, frame_piece, kind_pieces, shown_type, predicate_word, symbol_flag_pieces, routine_names, name_at, constant_pieces, use_pieces, operand_pieces, is_definition, definitions_of, sources_of, source_forms, first_row, is_typed_by, forms_after, source_pieces, definition_pieces, defined_pieces, flag_pieces, flags_pieces, sources_pieces, usual_align, align_pieces, memory_pieces, instr_pieces, block_pieces, physical_pieces, block_head_pieces, successors_pieces, liveins_pieces}
+use Rattle.gi_mir.specs.Printed.{mark, word, listed, bracketed, type_piece, register_piece, physical_piece, block_piece, frame_piece, kind_pieces, shown_type, predicate_word, symbol_flag_pieces, routine_names, name_at, constant_pieces, use_pieces, operand_pieces, definitions_of, sources_of, source_forms, first_row, is_typed_by, forms_after, source_pieces, definition_pieces, defined_pieces, flag_pieces, flags_pieces, sources_pieces, usual_align, align_pieces, memory_pieces, instr_pieces}
 use Rattle.gi_mir.specs.Spelling.{is_name}
-use Rattle.gi_mir.specs.Printable.{is_named_operand, is_named_instr}
+use Rattle.gi_mir.specs.Printable.{is_named_operand}
 
 -- what follows begins with no word byte
 abbrev pub is_closed : List Piece → Bool

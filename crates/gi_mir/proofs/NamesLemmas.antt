@@ -1,5 +1,5 @@
 -- The names of a map's keys: where a name stands, and a name that is added.
-use Rattle.std.proofs.Common.{◌≡◌, ℕ, ◌+◌, Bool, not, List, [], ◌∷◌, ◌++◌, Option, None, cond, map, length, position, nat_lt, refl, ap, ◌∙◌, sym}
+use Rattle.std.proofs.Common.{◌≡◌, ℕ, ◌+◌, Bool, not, List, [], ◌∷◌, ◌++◌, cond, map, position, refl, ap, ◌∙◌, sym}
 use Rattle.std.specs.Prelude.{String, string_bytes, bytes_eq}
 use Rattle.std.specs.List.{prefix_len}
 use Rattle.std.proofs.lemmas.List.{length-map}

@@ -1,5 +1,5 @@
 -- What the edits of a function make of it.
-use Rattle.std.specs.Prelude.{◌≡◌, ℕ, ◌+◌, ◌-◌, ◌<◌, max, Bool, true, false, List, [], ◌∷◌, ◌++◌, Option, Some, None, ◌==◌, map, flat_map, fold, length, insert, remove, position, unwrap_or, option_map, if◌then◌else◌, slice_get, find, IfSome, slice_index_or, slice_set}
+use Rattle.std.specs.Prelude.{◌≡◌, ℕ, ◌+◌, ◌-◌, ◌<◌, max, Bool, true, false, List, [], ◌∷◌, ◌++◌, Option, Some, None, ◌==◌, map, flat_map, fold, length, insert, remove, option_map, if◌then◌else◌, slice_get, find, IfSome, slice_index_or, slice_set}
 use Rattle.std.specs.List.{list_any, position_or_len}
 use Rattle.std.specs.Option.{option_map_or}
 use Rattle.gi_mir.specs.Data.{InstrData, BlockData, FunctionData}
@@ -152,9 +152,13 @@ abbrev pub CanSetOperand : FunctionData → ℕ → ℕ → Operand → Type 0
 CanSetOperand f id place new =
     IfSome (instr_of f id) (λ i. (place < length i.operands) × (is_formed (with_operand i place new) ≡ true))
 
--- whether this instruction has a definition there
+-- whether an instruction has a definition there
+abbrev pub HasDefAt : Option InstrData → ℕ → Type 0
+HasDefAt found place =
+    IfSome found (λ i. (place < length i.operands) × IfSome (slice_get i.operands place) (λ x. is_def x ≡ true))
+
 abbrev pub IsDefAt : FunctionData → ℕ → ℕ → Type 0
-IsDefAt f id place = IfSome (instr_of f id) (λ i. IfSome (slice_get i.operands place) (λ x. is_def x ≡ true))
+IsDefAt f id place = HasDefAt (instr_of f id) place
 
 -- whether an instruction defines a register
 abbrev pub is_def_of : ℕ → Operand → Bool
@@ -169,8 +173,11 @@ abbrev pub all_instrs : List BlockData → List (ℕ × InstrData)
 all_instrs blocks = flat_map (λ b. b.instrs) blocks
 
 -- the first instruction in layout order that defines this register
+abbrev pub definition_in : ℕ → List BlockData → Option ℕ
+definition_in reg blocks = option_map (λ p. p.0) (find (defines reg) (all_instrs blocks))
+
 abbrev pub definition_of : FunctionData → ℕ → Option ℕ
-definition_of f reg = option_map (λ p. p.0) (find (defines reg) (all_instrs f.blocks))
+definition_of f reg = definition_in reg f.blocks
 
 abbrev pub with_new_reg : FunctionData → FunctionData
 with_new_reg f = record f { next_reg = f.next_reg + 1 }

@@ -1,6 +1,6 @@
 -- When an instruction is formed: its operands agree with a row of its opcode, its memory operand is the row's
 -- and aligned, and its registers and constants are in range.
-use Rattle.std.specs.Prelude.{ℕ, ◌+◌, ◌/◌, ◌^◌, Bool, true, false, ◌&&◌, ◌||◌, not, List, [], ◌∷◌, Option, Some, None, nat_lt, nat_le, ◌==◌, if◌then◌else◌}
+use Rattle.std.specs.Prelude.{ℕ, ◌+◌, ◌/◌, ◌^◌, Bool, true, false, ◌&&◌, ◌||◌, not, List, [], ◌∷◌, Option, Some, None, nat_lt, ◌==◌, if◌then◌else◌}
 use Rattle.std.specs.Int.{is_power_of_two}
 use Rattle.std.specs.List.{list_all, list_any}
 use Rattle.std.specs.Option.{option_map_or}
@@ -9,7 +9,6 @@ use Rattle.gi_llt.specs.declared.Llt.TheVariants.{Scalar, Pointer}
 use Rattle.gi_mir.specs.declared.operand.MemOp.{MemOp}
 use Rattle.gi_mir.specs.declared.operand.Operand.{Operand}
 use Rattle.gi_mir.specs.declared.operand.Operand.TheVariants as operand
-use Rattle.gi_mir.specs.declared.operand.SymbolFlag.{SymbolFlag}
 use Rattle.gi_mir.specs.declared.operand.SymbolFlag.TheVariants.{Plain, Call, Hi, Lo}
 use Rattle.gi_mir.specs.declared.row.Form.{Form}
 use Rattle.gi_mir.specs.declared.row.Form.TheVariants as form
@@ -167,18 +166,26 @@ has_access access.Load (Some m) = m.load && is_alignment m.ty m.align
 has_access access.Store (Some m) = not m.load && is_alignment m.ty m.align
 has_access _ _ = false
 
--- a physical register is below 32, and a constant of a width up to 128 is below 2 to that
+-- a constant of a width up to 128 is below 2 to that
+abbrev pub is_constant_in_range : ℕ → ℕ → Bool
+is_constant_in_range bits value = nat_lt 128 bits || nat_lt value (2 ^ bits)
+
+-- a physical register is below 32, and a constant within its width
 abbrev pub is_in_range : Operand → Bool
 is_in_range (operand.Phys n) = nat_lt n 32
 is_in_range (operand.PhysDef n) = nat_lt n 32
 is_in_range (operand.ImplicitUse n) = nat_lt n 32
 is_in_range (operand.ImplicitDef n) = nat_lt n 32
-is_in_range (operand.Constant bits value) = nat_lt 128 bits || nat_lt value (2 ^ bits)
+is_in_range (operand.Constant bits value) = is_constant_in_range bits value
 is_in_range _ = true
+
+-- whether operands have one of these rows
+abbrev pub fits_one_of : List (List Form) → List Operand → Bool
+fits_one_of rows operands = list_any (λ forms. fits forms operands) rows
 
 -- an instruction is formed
 unfoldable pub is_formed : InstrData → Bool
 is_formed i =
-    list_any (λ forms. fits forms i.operands) (rows_of i.op)
+    fits_one_of (rows_of i.op) i.operands
     && has_access (access_of i.op) i.mem
     && list_all is_in_range i.operands

@@ -1,12 +1,14 @@
+pub mod AddExample
 pub mod Data
 pub mod Edit
 pub mod Formed
+pub mod Ids
 pub mod Names
+pub mod Numbering
 pub mod Printable
 pub mod Printed
 pub mod Registers
+pub mod Renaming
 pub mod Row
 pub mod Spelling
 pub mod Stated
-pub mod Numbering
-pub mod Renaming

@@ -1,5 +1,5 @@
 -- The names of a module, in the order in which they first appear.
-use Rattle.std.specs.Prelude.{ℕ, Bool, List, [], ◌∷◌, ◌++◌, String, string_bytes, Option, bytes_eq, map, length, position, is_some, if◌then◌else◌, unwrap_or, slice_index_or}
+use Rattle.std.specs.Prelude.{ℕ, List, [], ◌∷◌, ◌++◌, String, string_bytes, Option, bytes_eq, map, position, is_some, if◌then◌else◌, slice_index_or}
 
 -- the texts of a map's keys
 abbrev pub texts_of : {A : Type 0} → List (String A × ℕ) → List (List ℕ)

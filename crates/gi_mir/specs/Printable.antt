@@ -1,6 +1,6 @@
 -- The functions whose printed text spells them so far: they have no stack object, only their first block has
 -- registers that are live at its start, and each name that stands in them is a name.
-use Rattle.std.specs.Prelude.{◌≡◌, ℕ, Bool, true, false, ◌&&◌, List, [], ◌∷◌, None, ⊤}
+use Rattle.std.specs.Prelude.{◌≡◌, ℕ, Bool, true, false, List, [], ◌∷◌, None, ⊤}
 use Rattle.std.specs.List.{list_all}
 use Rattle.gi_mir.specs.declared.operand.Operand.{Operand}
 use Rattle.gi_mir.specs.declared.operand.Operand.TheVariants.{Global, Routine}
@@ -19,12 +19,12 @@ is_named_instr names instr = list_all (is_named_operand names) (instr.1).operand
 abbrev pub is_named_block : (names : List (List ℕ)) → BlockData → Bool
 is_named_block names block = list_all (is_named_instr names) block.instrs
 
+abbrev pub are_none : List ℕ → Bool
+are_none [] = true
+are_none (number ∷ numbers) = false
+
 abbrev pub has_no_liveins : BlockData → Bool
-has_no_liveins block = is_empty block.liveins
-  where
-    is_empty : List ℕ → Bool
-    is_empty [] = true
-    is_empty (number ∷ numbers) = false
+has_no_liveins block = are_none block.liveins
 
 abbrev pub later_blocks : List BlockData → List BlockData
 later_blocks [] = []

@@ -2,11 +2,11 @@
 -- (Machine IR (MIR) Format Reference Manual, "High Level Structure", "Machine Functions", "Machine Basic
 -- Blocks", "Machine Instructions" and "Machine Operands"; which keys stand, in what order, and which uses
 -- show their types are this project's own.)
-use Rattle.std.specs.Prelude.{◌≡◌, ℕ, zero, suc, ◌+◌, ◌/◌, ℤ, pos, negsuc, Bool, true, false, not, ◌&&◌, ◌||◌, List, [], ◌∷◌, ◌++◌, Option, Some, None, length, map, ◌==◌, if◌then◌else◌, slice_get, unwrap_or, codes, decimal}
+use Rattle.std.specs.Prelude.{ℕ, suc, ◌+◌, ◌/◌, Bool, true, false, not, ◌&&◌, List, [], ◌∷◌, ◌++◌, Option, Some, None, length, ◌==◌, if◌then◌else◌, slice_get, unwrap_or, codes, decimal}
 use Rattle.std.specs.Fmt.{signed_decimal}
-use Rattle.std.specs.List.{concat, list_any}
+use Rattle.std.specs.List.{list_any}
 use Rattle.gi_llt.specs.Bits.{signed}
-use Rattle.gi_llt.specs.Tokens.{Word, Number, Register, Physical, Global as GlobalName, Routine as RoutineName, Mark, Piece, Token, Spaces, token, piece_bytes}
+use Rattle.gi_llt.specs.Tokens.{Word, Number, Register, Physical, Global as GlobalName, Routine as RoutineName, Mark, Piece, Spaces, token, piece_bytes}
 use Rattle.gi_llt.specs.declared.Llt.{Llt}
 use Rattle.gi_llt.specs.declared.Llt.TheVariants.{Scalar, Pointer}
 use Rattle.gi_mir.specs.declared.opcode.Opcode.{Opcode}

@@ -6,9 +6,9 @@
 -- So far nothing is spelled by what follows: an IR block; the keys `registers` and `stack`; numbers of blocks
 -- other than their places, names and attributes of blocks; words that are passed over in a line; a use that
 -- lacks its type, a constant that isn't written as it is printed, and an alignment that need not be written.
-use Rattle.std.specs.Prelude.{◌≡◌, ◌≢◌, ℕ, zero, suc, Bool, true, false, not, ◌&&◌, ◌||◌, List, [], ◌∷◌, ◌++◌, Option, Some, None, length, take, drop, filter, filter_map, ◌==◌, bytes_eq, nat_eq, if◌then◌else◌, codes, ⊤}
+use Rattle.std.specs.Prelude.{◌≡◌, ◌≢◌, ℕ, zero, suc, Bool, true, false, not, ◌&&◌, ◌||◌, List, [], ◌∷◌, Option, Some, None, length, drop, filter, filter_map, ◌==◌, bytes_eq, nat_eq, if◌then◌else◌, codes, ⊤}
 use Rattle.std.specs.List.{list_all, starts_with, AllZip}
-use Rattle.gi_llt.specs.Tokens.{LexemeKind, Word, Number, Register, Physical, Global, Routine, Quoted, Metadata, Mark, Lexeme, lexeme, is_word_start, is_word_byte, is_blank, run_of, past_run, tokens_of, piece_lexemes}
+use Rattle.gi_llt.specs.Tokens.{LexemeKind, Word, Lexeme, is_word_start, is_word_byte, is_blank, run_of, past_run, tokens_of, piece_lexemes}
 use Rattle.gi_mir.specs.declared.operand.Kind.{Kind}
 use Rattle.gi_mir.specs.Data.{InstrData, BlockData, FunctionData, ModuleData}
 use Rattle.gi_mir.specs.Registers.{kind_of}
@@ -79,13 +79,9 @@ line_bytes line = without_last_blanks (without_comment line)
 abbrev pub value_bytes : List ℕ → List ℕ
 value_bytes line = past_run is_blank (line_bytes line)
 
--- a document begins with `---`, alone on its line but for blanks and what follows them
-abbrev pub is_separated : List ℕ → Bool
-is_separated [] = true
-is_separated (byte ∷ rest) = is_blank byte || byte == 59
-
+-- a document begins with a line `---`, behind which blanks and a comment may stand
 abbrev pub is_start : List ℕ → Bool
-is_start line = bytes_eq (take 3 line) (codes "---") && is_separated (drop 3 line)
+is_start line = bytes_eq (line_bytes line) (codes "---")
 
 -- the lines of a document up to the `...` that may end it
 abbrev pub is_end : List ℕ → Bool
@@ -224,9 +220,8 @@ pub record SpellsFunction (names : List (List ℕ)) (lines : List (List ℕ)) (f
   pub from_a_key : (sections_of is_at_column_one lines).before ≡ []
   pub entries : SpellsEntries names (sections_of is_at_column_one lines).sections f
 
-pub record SpellsDocument (names : List (List ℕ)) (document : Section) (f : FunctionData) : Type 0 where
-  pub started : line_bytes document.head ≡ codes "---"
-  pub function : SpellsFunction names (up_to_end (kept_lines document.under)) f
+abbrev pub SpellsDocument : (names : List (List ℕ)) (document : Section) → FunctionData → Type 0
+SpellsDocument names document f = SpellsFunction names (up_to_end (kept_lines document.under)) f
 
 -- a text: documents in order, one for each function, and before the first nothing that counts
 pub record Spells (text : List ℕ) (m : ModuleData) : Type 0 where

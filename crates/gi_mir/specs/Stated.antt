@@ -1,8 +1,10 @@
 -- The text that the program takes so far, as exact lines: one function of one block that copies registers,
 -- makes constants, adds and returns. Its registers are of 32 bits and of the bank `gprb`.
 -- (Machine IR (MIR) Format Reference Manual, "Machine Functions", "Machine Basic Blocks".)
-use Rattle.std.specs.Prelude.{◌≡◌, ℕ, suc, ◌<◌, ◌^◌, Bool, true, false, not, ◌&&◌, ◌||◌, List, [], ◌∷◌, ◌++◌, None, replicate, nat_lt, nat_le, ◌==◌, if◌then◌else◌, codes}
+use Rattle.std.specs.Prelude.{◌≡◌, ℕ, suc, Bool, true, false, not, ◌&&◌, ◌||◌, List, [], ◌∷◌, ◌++◌, None, replicate, nat_lt, nat_le, ◌==◌, if◌then◌else◌, codes, decimal}
+use Rattle.std.specs.Fmt.{signed_decimal}
 use Rattle.std.specs.List.{list_all, list_any, AllZip}
+use Rattle.gi_llt.specs.Bits.{signed}
 use Rattle.gi_llt.specs.Tokens.{is_word_start, is_digit}
 use Rattle.gi_llt.specs.declared.Llt.TheVariants.{Scalar}
 use Rattle.gi_mir.specs.declared.opcode.Opcode.TheVariants.{Copy, GenericConstant, GenericAdd, PseudoReturn}
@@ -10,11 +12,9 @@ use Rattle.gi_mir.specs.declared.operand.Reg.{Reg}
 use Rattle.gi_mir.specs.declared.operand.Flags.{Flags}
 use Rattle.gi_mir.specs.declared.operand.Kind.{Kind}
 use Rattle.gi_mir.specs.declared.operand.Kind.TheVariants.{Banked}
-use Rattle.gi_mir.specs.declared.operand.Operand.{Operand}
 use Rattle.gi_mir.specs.declared.operand.Operand.TheVariants.{Def, Use, Phys, PhysDef, ImplicitUse, Constant}
 use Rattle.gi_mir.specs.Data.{InstrData, BlockData, FunctionData, ModuleData}
-use Rattle.gi_mir.specs.Registers.{kind_of}
-use Rattle.gi_mir.specs.Printed.{name_at, blocks_lines}
+use Rattle.gi_mir.specs.Printed.{name_at}
 use Rattle.gi_mir.specs.Spelling.{lines_of}
 
 -- one of the five instructions
@@ -45,6 +45,24 @@ stated_instr (MakeConstant reg value) line = record { op = GenericConstant; flag
 stated_instr (AddUp reg left right) line = record { op = GenericAdd; flags = no_flags; operands = Def (reg_of reg) stated_kind ∷ Use (reg_of left) ∷ Use (reg_of right) ∷ []; mem = None; line = line }
 stated_instr (CopyOut physical reg) line = record { op = Copy; flags = no_flags; operands = PhysDef physical ∷ Use (reg_of reg) ∷ []; mem = None; line = line }
 stated_instr Return line = record { op = PseudoReturn; flags = no_flags; operands = ImplicitUse 10 ∷ []; mem = None; line = line }
+
+-- the line of each
+abbrev pub stated_line : StatedInstr → List ℕ
+stated_line (CopyIn reg physical) = codes "    %" ++ (decimal reg ++ (codes ":gprb(s32) = COPY $x" ++ decimal physical))
+stated_line (MakeConstant reg value) = codes "    %" ++ (decimal reg ++ (codes ":gprb(s32) = G_CONSTANT i32 " ++ signed_decimal (signed 32 value)))
+stated_line (AddUp reg left right) = codes "    %" ++ (decimal reg ++ (codes ":gprb(s32) = G_ADD %" ++ (decimal left ++ (codes ", %" ++ decimal right))))
+stated_line (CopyOut physical reg) = codes "    $x" ++ (decimal physical ++ (codes " = COPY %" ++ (decimal reg ++ codes "(s32)")))
+stated_line Return = codes "    PseudoRET implicit $x10"
+
+abbrev pub instrs_lines : List StatedInstr → List (List ℕ)
+instrs_lines [] = []
+instrs_lines (instr ∷ instrs) = stated_line instr ∷ instrs_lines instrs
+
+-- `$x10, $x11`
+abbrev pub physical_list : List ℕ → List ℕ
+physical_list [] = []
+physical_list (number ∷ []) = codes "$x" ++ decimal number
+physical_list (number ∷ next ∷ numbers) = codes "$x" ++ (decimal number ++ (codes ", " ++ physical_list (next ∷ numbers)))
 
 -- `$x10` to `$x17`
 abbrev pub is_argument : ℕ → Bool
@@ -131,15 +149,18 @@ pub record Gaps : Type 0 where
 abbrev pub key_line : (key : List ℕ) (gap : ℕ) (value : List ℕ) → List ℕ
 key_line key gap value = key ++ (58 ∷ (replicate (suc gap) 32 ++ value))
 
--- the lines of the text, which `...` may end; those from the block's head on are lines as they are printed
-abbrev pub stated_lines : Gaps → (closed : Bool) (names : List (List ℕ)) → FunctionData → List (List ℕ)
-stated_lines gaps closed names f =
+-- the lines of the text, which `...` may end
+abbrev pub stated_lines : Gaps → (closed : Bool) (name liveins : List ℕ) → List StatedInstr → List (List ℕ)
+stated_lines gaps closed name liveins instrs =
     codes "---"
-    ∷ key_line (codes "name") gaps.name (name_at names f.name)
+    ∷ key_line (codes "name") gaps.name name
     ∷ key_line (codes "legalized") gaps.legal (codes "true")
     ∷ key_line (codes "regBankSelected") gaps.banked (codes "true")
     ∷ key_line (codes "body") gaps.body (codes "|")
-    ∷ (blocks_lines (kind_of f) names 0 1 f.blocks ++ (if closed then codes "..." ∷ [] else []))
+    ∷ codes "  bb.0:"
+    ∷ (codes "    liveins: " ++ physical_list liveins)
+    ∷ []
+    ∷ (instrs_lines instrs ++ (if closed then codes "..." ∷ [] else []))
 
 -- a text of these lines, and its module
 pub record IsStatedText (text : List ℕ) (m : ModuleData) : Type 0 where
@@ -151,4 +172,4 @@ pub record IsStatedText (text : List ℕ) (m : ModuleData) : Type 0 where
   pub no_ir : m.ir ≡ None
   pub functions : m.functions ≡ f ∷ []
   pub stated : IsStated m.names f instrs block
-  pub lines : lines_of text ≡ stated_lines gaps closed m.names f
+  pub lines : lines_of text ≡ stated_lines gaps closed (name_at m.names f.name) block.liveins instrs

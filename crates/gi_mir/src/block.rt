@@ -1,11 +1,12 @@
 //! Blocks of numbered instructions.
 
-ghost use Rattle.std.specs.Prelude.{◌≡◌, ◌==◌, ◌≤◌, ◌<◌, ◌-◌, ◌^◌, length, position, remove, slice_get, option_map, OnOk, OnErr, IfSome, Some, true};
+ghost use Rattle.std.specs.Prelude.{◌≡◌, ◌==◌, ◌≤◌, ◌<◌, ◌-◌, ◌^◌, length, position, find, remove, slice_get, option_map, OnOk, OnErr, IfSome, Some, true};
 ghost use Rattle.std.specs.List.{list_any};
 ghost use Rattle.gi_mir.specs.Formed.{is_formed};
-ghost use Rattle.gi_mir.specs.Edit.{block_with, block_with_instr, entry_at, has_instr, id_at, place_of};
+ghost use Rattle.gi_mir.specs.Edit.{block_with, block_with_instr, block_changed, with_operand, with_kind, HasDefAt, defines, entry_at, has_instr, id_at, place_of};
 
 use crate::instr::Instr;
+use crate::operand::{Kind, Operand, Reg};
 use gi_llt::Memory;
 use std::alloc::Global;
 use std::marker::Model;
@@ -113,6 +114,38 @@ impl Body {
         &found.instr
     }
 
+    /// Puts another operand into an instruction.
+    pub(crate) fn set_operand(&mut self, id: InstrId, place: usize, new: Operand)
+        requires has { has_instr id.0 self.old ≡ true }
+        requires can { IfSome (option_map (λ p. p.1) (entry_at self.old (place_of id.0 self.old.instrs))) (λ i. (place < length i.operands) × (is_formed (with_operand i place new) ≡ true)) }
+        ensures { self.new ≡ block_changed (λ i. with_operand i place new) id.0 self.old }
+    {
+        let at = self.place_of(id);
+        let found = &mut self.instrs[at];
+        found.set_operand(place, new);
+    }
+
+    /// Gives a definition another kind.
+    pub(crate) fn set_kind(&mut self, id: InstrId, place: usize, kind: Kind)
+        requires has { has_instr id.0 self.old ≡ true }
+        requires can { HasDefAt (option_map (λ p. p.1) (entry_at self.old (place_of id.0 self.old.instrs))) place }
+        ensures { self.new ≡ block_changed (λ i. with_kind i place kind) id.0 self.old }
+    {
+        let at = self.place_of(id);
+        let found = &mut self.instrs[at];
+        found.set_kind(place, kind);
+    }
+
+    /// The first instruction that defines a register.
+    pub(crate) fn definition_of(&self, reg: Reg) -> Option<InstrId>
+        ensures { option_map (λ id. id.0) result ≡ option_map (λ p. p.0) (find (defines reg.0) self.now.instrs) }
+    {
+        match self.instrs.iter().find(|n| n.defines(reg)) {
+            Some(found) => Some(found.id()),
+            None => None,
+        }
+    }
+
     /// Takes an instruction out.
     pub(crate) fn take(&mut self, id: InstrId) -> Instr
         requires { has_instr id.0 self.old ≡ true }
@@ -141,6 +174,29 @@ impl Body {
 }
 
 impl Numbered {
+    fn set_operand(&mut self, place: usize, new: Operand)
+        requires within { place < length self.old.1.operands }
+        requires formed { is_formed (with_operand self.old.1 place new) ≡ true }
+        ensures { self.new ≡ (self.old.0, with_operand self.old.1 place new) }
+    {
+        let instr = &mut self.instr;
+        instr.set_operand(place, new);
+    }
+
+    fn set_kind(&mut self, place: usize, kind: Kind)
+        requires { place < length self.old.1.operands }
+        ensures { self.new ≡ (self.old.0, with_kind self.old.1 place kind) }
+    {
+        let instr = &mut self.instr;
+        instr.set_kind(place, kind);
+    }
+
+    fn defines(&self, reg: Reg) -> bool
+        ensures { result ≡ defines reg.0 self.now }
+    {
+        self.instr.defines(reg)
+    }
+
     fn id(&self) -> InstrId
         ensures { result.0 ≡ self.now.0 }
     {

@@ -1,13 +1,14 @@
 //! Functions: blocks of numbered instructions.
 
-ghost use Rattle.std.specs.Prelude.{◌≡◌, ◌-◌, ◌^◌, ◌<◌, ◌≤◌, true, length, Contains, OnOk, OnErr, IfOk, IfSome, Some, option_map, position, slice_index_or};
+ghost use Rattle.std.specs.Prelude.{◌≡◌, ◌↔◌, IsTrue, ◌-◌, ◌^◌, ◌<◌, ◌≤◌, true, length, Contains, OnOk, OnErr, IfOk, IfSome, Some, option_map, position, slice_index_or};
 ghost use Rattle.std.specs.List.{list_any, position_or_len};
-ghost use Rattle.gi_mir.specs.Edit.{block_at, empty_block, has_instr, home_block, head_of, ids_of, empty_function, register_above, above_registers, with_block, with_stack, with_keys, with_instr, home_of, IsLive, instr_of, id_at, id_after, id_before, without_instr, with_new_reg};
+ghost use Rattle.gi_mir.specs.Edit.{block_at, empty_block, has_instr, home_block, head_of, ids_of, empty_function, register_above, above_registers, with_block, with_stack, with_keys, with_instr, home_of, IsLive, instr_of, id_at, id_after, id_before, without_instr, with_new_reg, CanSetOperand, with_operand_of, IsDefAt, with_changed, with_kind, definition_in, definition_of};
 ghost use Rattle.gi_mir.specs.Formed.{is_formed};
+ghost use Rattle.gi_mir.specs.Ids.{AreOwnIds};
 
 use crate::block::{Block, Body, InstrId, Numbered};
 use crate::instr::Instr;
-use crate::operand::{Operand, Reg, StackObject};
+use crate::operand::{Kind, Operand, Reg, StackObject};
 use gi_llt::Memory;
 use std::alloc::Global;
 use std::marker::Model;
@@ -34,6 +35,13 @@ fn above_registers(least: u64, operands: &[Operand]) -> u64
         .fold(least, |above, x| above.max(x.register_above()))
 }
 
+/// Whether a block has this instruction.
+fn any_has(blocks: &[Body], id: InstrId) -> bool
+    ensures { result ≡ list_any (has_instr id.0) blocks.now }
+{
+    blocks.iter().any(|body| body.has(id))
+}
+
 /// The place of the first block that has this instruction.
 fn position_of_home(blocks: &[Body], id: InstrId) -> Option<usize>
     ensures { result ≡ position (has_instr id.0) blocks.now }
@@ -48,6 +56,19 @@ fn home_among(blocks: &[Body], id: InstrId) -> usize
     ensures has { list_any (has_instr id.0) blocks.now ≡ true → has_instr id.0 (slice_index_or blocks.now result empty_block) ≡ true }
 {
     position_of_home(blocks, id).unwrap_or(blocks.len())
+}
+
+/// The first instruction in layout order that defines this register.
+fn definition_among(blocks: &[Body], reg: Reg) -> Option<InstrId>
+    ensures { option_map (λ id. id.0) result ≡ definition_in reg.0 blocks.now }
+{
+    for body in blocks {
+        match body.definition_of(reg) {
+            Some(id) => return Some(id),
+            None => {}
+        }
+    }
+    None
 }
 
 /// A function: its name, three keys, its stack objects and its blocks. `homes` has a place for each id that
@@ -68,12 +89,13 @@ impl Model for Function {
     ghost use Rattle.std.specs.Prelude.{◌^◌, ◌<◌, length};
     ghost use Rattle.std.specs.Vec.{vec_len};
     ghost use Rattle.gi_mir.specs.Data.{FunctionData};
+    ghost use Rattle.gi_mir.specs.Ids.{AreOwnIds};
 
     ghost Value = { FunctionData };
 
     ghost view = { λ a. record { name = a.name; legalized = a.legalized; banked = a.banked; selected = a.selected; stack = a.stack.items; blocks = a.blocks.items; next_reg = a.next_reg; next_id = vec_len a.homes } };
 
-    ghost invariant = { λ a. length a.blocks.items < 2 ^ 32 };
+    ghost invariant = { λ a. (length a.blocks.items < 2 ^ 32) × AreOwnIds a.blocks.items (vec_len a.homes) };
 }
 
 impl Function {
@@ -251,6 +273,27 @@ impl Function {
         home_among(self.blocks.as_slice(), id)
     }
 
+    /// Each id belongs to one instruction at most, and the next one to none.
+    pub fn own_ids(&self)
+        ensures { AreOwnIds self.now.blocks self.now.next_id }
+    {
+        let _homes = &self.homes;
+    }
+
+    /// Whether the instruction with this id is in the function.
+    pub fn is_live(&self, id: InstrId) -> bool
+        ensures { IsTrue result ↔ IsLive self.now id.0 }
+    {
+        any_has(self.blocks.as_slice(), id)
+    }
+
+    /// The number of the next virtual register.
+    pub fn next_reg(&self) -> u64
+        ensures { result ≡ self.now.next_reg }
+    {
+        self.next_reg
+    }
+
     /// The place of the block that has this instruction.
     pub fn block_of(&self, id: InstrId) -> u32
         requires { IsLive self.now id.0 }
@@ -314,5 +357,37 @@ impl Function {
         let home = self.home_of(id);
         let body = &mut self.blocks[home];
         body.take(id)
+    }
+
+    /// Puts another operand into an instruction.
+    pub fn set_operand(&mut self, id: InstrId, k: usize, new: Operand) -> Result<(), Memory>
+        requires live { IsLive self.old id.0 }
+        requires can { CanSetOperand self.old id.0 k new }
+        ensures ok { OnOk result (self.new ≡ with_operand_of self.old id.0 k new) }
+        ensures err { OnErr result (self.new ≡ self.old) }
+    {
+        let home = self.home_of(id);
+        let body = &mut self.blocks[home];
+        body.set_operand(id, k, new);
+        self.next_reg = self.next_reg.max(new.register_above());
+        Ok(())
+    }
+
+    /// Sets the kind of a definition.
+    pub fn set_kind(&mut self, id: InstrId, k: usize, kind: Kind)
+        requires live { IsLive self.old id.0 }
+        requires definition { IsDefAt self.old id.0 k }
+        ensures { self.new ≡ with_changed (λ i. with_kind i k kind) self.old id.0 }
+    {
+        let home = self.home_of(id);
+        let body = &mut self.blocks[home];
+        body.set_kind(id, k, kind);
+    }
+
+    /// The first instruction in layout order that defines this register.
+    pub fn def_of(&self, reg: Reg) -> Option<InstrId>
+        ensures { option_map (λ id. id.0) result ≡ definition_of self.now reg.0 }
+    {
+        definition_among(self.blocks.as_slice(), reg)
     }
 }

@@ -2,6 +2,7 @@
 #![tactic(auto)]
 
 pub mod block;
+pub mod formed;
 pub mod function;
 pub mod instr;
 pub mod module;
@@ -9,3 +10,6 @@ pub mod names;
 pub mod opcode;
 pub mod operand;
 pub mod row;
+pub mod spelling;
+#[cfg(test)]
+mod tests;

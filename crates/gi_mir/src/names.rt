@@ -57,6 +57,13 @@ impl Names {
         }
     }
 
+    /// How many names there are.
+    pub fn count(&self) -> u32
+        ensures { result ≡ length self.now }
+    {
+        self.map.len() as u32
+    }
+
     /// The number of a name, which gets the next one if it has none.
     pub fn number(&mut self, name: &str) -> Result<u32, Memory>
         requires { length self.old < 2 ^ 32 - 1 }

@@ -1,1 +1,11 @@
+pub mod AddRuns
+pub mod BodyLemmas
+pub mod BuildLemmas
+pub mod CompileLaws
+pub mod HeaderLemmas
+pub mod LineLemmas
+pub mod LinesLemmas
+pub mod ReadLemmas
+pub mod SelectFront
 pub mod SelectionLaws
+pub mod StandingLemmas

@@ -234,7 +234,7 @@ pub record Functions (ss : List Statement) (f g : FunctionData) : Type 0 where
   pub stated : AllZip IsStatedInstr (map stated_of ss) block.instrs
   pub made : IsSelected f g
 
-only_block : (ss : List Statement) (block : BlockData) (bs : List BlockData) → AllZip IsSelectedBlock (block ∷ []) bs
+pub only_block : (ss : List Statement) (block : BlockData) (bs : List BlockData) → AllZip IsSelectedBlock (block ∷ []) bs
     → (selected : BlockData) × (bs ≡ selected ∷ []) × IsSelectedBlock block selected
 only_block ss block [] h = absurd h
 only_block ss block (b ∷ []) h = (b, refl, h.0)

@@ -1,3 +1,12 @@
+pub mod AddRuns
+pub mod Body
+pub mod Built
+pub mod Header
+pub mod Lines
+pub mod Promise
 pub mod Reading
+pub mod Selectable
 pub mod Selection
+pub mod Standing
 pub mod Statement
+pub mod Stop

@@ -7,7 +7,7 @@ use Rattle.gi_mir.specs.declared.opcode.Opcode.TheVariants as op
 use Rattle.gi_mir.specs.declared.operand.Kind.TheVariants.{Class}
 use Rattle.gi_mir.specs.declared.operand.Operand.{Operand}
 use Rattle.gi_mir.specs.declared.operand.Operand.TheVariants.{Def}
-use Rattle.gi_mir.specs.Data.{InstrData, BlockData, FunctionData}
+use Rattle.gi_mir.specs.Data.{InstrData, BlockData, FunctionData, ModuleData}
 use Rattle.gi_mir.specs.Stated.{no_flags}
 
 abbrev pub selected_op : Opcode → Opcode
@@ -36,3 +36,8 @@ pub record IsSelected (old new : FunctionData) : Type 0 where
   pub chosen : new.selected ≡ true
   pub stack : new.stack ≡ old.stack
   pub blocks : AllZip IsSelectedBlock old.blocks new.blocks
+
+pub record IsSelectedModule (old new : ModuleData) : Type 0 where
+  pub ir : new.ir ≡ old.ir
+  pub names : new.names ≡ old.names
+  pub functions : AllZip IsSelected old.functions new.functions

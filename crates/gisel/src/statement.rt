@@ -5,11 +5,21 @@
 #[derive(Clone, Copy, Debug, PartialEq, Eq)]
 pub enum Statement {
     /// `%register:gprb(s32) = COPY $xphysical`
-    CopyIn { register: u32, physical: u8 },
+    CopyIn {
+        register: u32,
+        physical: u8,
+    },
     /// `%register:gprb(s32) = G_ADD %left, %right`
-    AddUp { register: u32, left: u32, right: u32 },
+    AddUp {
+        register: u32,
+        left: u32,
+        right: u32,
+    },
     /// `$xphysical = COPY %register(s32)`
-    CopyOut { physical: u8, register: u32 },
+    CopyOut {
+        physical: u8,
+        register: u32,
+    },
     /// `PseudoRET implicit $x10`
     Return,
 }

@@ -1,4 +1,4 @@
-use Rattle.std.proofs.Common.{arith, IsTrue, rules, ◌≡◌, ◌++◌, take, drop}
+use Rattle.std.proofs.Common.{arith, IsTrue, rules}
 use Rattle.std.proofs.lemmas.List.{take_all}
 use Rattle.gi_io.proofs.Prefixes.{take_more_appended}
 use Rattle.gi_io.proofs.sinks.write_all.Goals as goal

@@ -1,4 +1,4 @@
-use Rattle.std.proofs.Common.{◌≡◌, ◌≤◌, ℕ, ◌-◌, IsTrue, ◌++◌, length, take}
+use Rattle.std.proofs.Common.{◌≡◌, ◌≤◌, ◌-◌, IsTrue, ◌++◌, length, take}
 use Rattle.gi_io.proofs.sinks.write_all.Given as goal
 
 -- the bytes done were appended

@@ -1,4 +1,4 @@
-use Rattle.std.proofs.Common.{◌≡◌, ◌≤◌, ℕ, ◌+◌, ◌-◌, IsTrue, ◌++◌, vec_len}
+use Rattle.std.proofs.Common.{◌≡◌, ◌≤◌, ◌+◌, ◌-◌, IsTrue, ◌++◌, vec_len}
 use Rattle.gi_io.proofs.sources.read_all.Given as goal
 
 -- what was read is a prefix of the bytes that were left

@@ -1,0 +1,20 @@
+//! Why a text is refused.
+
+ghost use Rattle.std.specs.Prelude.{◌≡◌, [], ◌∷◌, ◌++◌, OnOk};
+
+/// A line that isn't built yet, or no memory.
+#[derive(Clone, Copy, Debug, PartialEq, Eq)]
+pub enum Refusal {
+    NotBuilt { line: u32 },
+    Memory,
+}
+
+/// Puts one more item last.
+pub fn append<T: Drop>(items: &mut Vec<T>, item: T) -> Result<(), Refusal>
+    ensures { OnOk result (items.new.items ≡ items.old.items ++ item ∷ []) }
+{
+    match items.push(item) {
+        Ok(()) => Ok(()),
+        Err(_) => Err(Refusal::Memory),
+    }
+}

@@ -1,0 +1,94 @@
+//! The top call.
+
+ghost use Rattle.std.specs.Prelude.{◌≡◌, ◌≢◌, ◌⊎◌, ◌≤◌, ◌<◌, ◌^◌, ◌-◌, ◌++◌, [], None, IsTrue, IfOk, OnOk, IsErrOf, length};
+ghost use Rattle.gi_io.specs.Faults.{Rose};
+ghost use Rattle.gisel.specs.Promise.{Compiles, AppendsCompiled};
+
+use crate::compile::compile;
+use crate::refusal::Refusal;
+use crate::stop::{LIMIT, Stop, end_with, say};
+use crate::words::faulty_word;
+use gi_io::{Input, Output, ReadError, read_all, write_all};
+use std::alloc::Global;
+
+/// All bytes of standard input.
+fn read_input<'a, I: Input>(alloc: Global, input: &mut I) -> Result<Vec<u8>, Stop<'a>>
+    ensures bytes { IfOk result (λ bytes. IsTrue (I.tells input.old) → bytes.items ≡ I.stored input.old None) }
+    ensures short { IfOk result (λ bytes. length bytes.items < 2 ^ 32 - 1) }
+    ensures whole { OnOk result (IsTrue (I.tells input.old) → I.left input.new ≡ []) }
+    ensures read_fault { IsErrOf result Stop.ReadFault → Rose (I.faults input.old) (I.faults input.new) }
+{
+    if input.open(None).is_err() {
+        return Err(Stop::ReadFault);
+    }
+    match read_all(alloc, input, LIMIT) {
+        Ok(bytes) => Ok(bytes),
+        Err(ReadError::ReadFault) => Err(Stop::ReadFault),
+        Err(ReadError::TooLong) => Err(Stop::TooLong),
+        Err(ReadError::Memory) => Err(Stop::Memory),
+    }
+}
+
+/// The text that is to be written, for words and input as they are taken.
+fn text_for<'a, I: Input>(alloc: Global, words: &'a [String], input: &mut I) -> Result<Vec<u8>, Stop<'a>>
+    ensures text { IfOk result (λ text. IsTrue (I.tells input.old) → Compiles 32 (I.stored input.old None) text.items) }
+    ensures whole { OnOk result (IsTrue (I.tells input.old) → I.left input.new ≡ []) }
+    ensures read_fault { IsErrOf result Stop.ReadFault → Rose (I.faults input.old) (I.faults input.new) }
+{
+    if let Some(word) = faulty_word(words) {
+        return Err(Stop::Usage(word));
+    }
+    let bytes = read_input(alloc, input)?;
+    match compile(alloc, bytes.as_slice()) {
+        Ok(text) => Ok(text),
+        Err(Refusal::NotBuilt { line }) => Err(Stop::NotBuilt { line }),
+        Err(Refusal::Memory) => Err(Stop::Memory),
+    }
+}
+
+/// Writes a text to the output, and answers 0, or 5 after a fault.
+fn written<O: Output, E: Output>(out: &mut O, err: &mut E, text: &[u8]) -> u8
+    ensures status { (result ≡ 0) ⊎ (result ≡ 5) }
+    ensures text { result ≡ 0 → IsTrue (O.tells out.old) → O.held out.new ≡ O.held out.old ++ text.now }
+    ensures write_fault { result ≡ 5 → Rose (O.faults out.old) (O.faults out.new) }
+{
+    if out.create(None).is_ok() && write_all(out, text).is_ok() {
+        return 0;
+    }
+    say(err, "gisel: write fault");
+    5
+}
+
+/// Reads a text from standard input, runs the passes that the words ask for and writes the text that they
+/// leave. The answer is the status of the program:
+///
+/// | Status | Reason |
+/// |---|---|
+/// | 0 | done |
+/// | 1 | a line that is not built, or too many bytes |
+/// | 2 | the words |
+/// | 3 | no memory |
+/// | 4 | a read fault |
+/// | 5 | a write fault |
+///
+/// On each status but 0 `err` gets a message of one line.
+pub fn gisel<I: Input, O: Output, E: Output>(
+    alloc: Global,
+    words: &[String],
+    input: &mut I,
+    out: &mut O,
+    err: &mut E,
+) -> u8
+    ensures compiled { result ≡ 0 → IsTrue (I.tells input.old) → IsTrue (O.tells out.old)
+        → AppendsCompiled 32 (I.stored input.old None) (O.held out.old) (O.held out.new) }
+    ensures whole { result ≡ 0 → IsTrue (I.tells input.old) → I.left input.new ≡ [] }
+    ensures read_fault { result ≡ 4 → Rose (I.faults input.old) (I.faults input.new) }
+    ensures write_fault { result ≡ 5 → Rose (O.faults out.old) (O.faults out.new) }
+    ensures untouched { result ≢ 0 → result ≢ 5 → IsTrue (O.tells out.old) → O.held out.new ≡ O.held out.old }
+    ensures not_created { result ≢ 0 → result ≢ 5 → O.created out.new ≡ O.created out.old }
+{
+    match text_for(alloc, words, input) {
+        Ok(text) => written(out, err, text.as_slice()),
+        Err(why) => end_with(alloc, err, &why),
+    }
+}
