@@ -4,8 +4,8 @@
 ghost use Rattle.std.specs.Prelude.{◌≡◌, ◌⊎◌};
 ghost use Rattle.gi_llt.specs.Llt.{width_of};
 
-pub mod tokens;
 mod bits;
+pub mod tokens;
 
 pub use bits::{high_product, part, sext, wrap};
 

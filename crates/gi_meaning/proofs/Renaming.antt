@@ -1,13 +1,9 @@
 -- The numbers of virtual registers don't matter to a run.
-use Rattle.std.proofs.Common.{◌≡◌, ℕ, zero, suc, ◌+◌, Bool, true, false, cond, ◌==◌, if◌then◌else◌, List, [], ◌∷◌, ◌++◌, map, Option, Some, None, option_map, unwrap_or, slice_get, ◌⊎◌, inl, inr, ⊎_elim, refl, sym, ap, ap₂, ◌∙◌, subst, eqb-true, eq-eqb, true≢false, add-one}
+use Rattle.std.proofs.Common.{◌≡◌, ℕ, zero, suc, ◌+◌, Bool, true, false, cond, ◌==◌, List, [], ◌∷◌, ◌++◌, map, Option, Some, None, option_map, unwrap_or, slice_get, refl, ap, ap₂, ◌∙◌, subst}
 use mathlib.Core.Path.{fun_ext}
 use Rattle.std.proofs.lemmas.Option.{slice_get-map}
-use Rattle.gi_llt.specs.Llt.{width_of}
 use Rattle.gi_mir.specs.Data.{InstrData, BlockData, FunctionData}
-use Rattle.gi_mir.specs.Registers.{kind_of}
-use Rattle.gi_mir.specs.declared.operand.Kind.{Kind}
 use Rattle.gi_mir.specs.declared.operand.Kind.TheVariants as kind
-use Rattle.gi_mir.specs.declared.operand.MemOp.{MemOp}
 use Rattle.gi_mir.specs.declared.operand.Operand.{Operand}
 use Rattle.gi_mir.specs.declared.operand.Operand.TheVariants as operand
 use Rattle.gi_meaning.specs.Argument.{Argument}
@@ -89,7 +85,7 @@ put_old : (number : ℕ → ℕ) → IsInjective number → (state : State) (p :
     → old_state number (put state (new_place number p) v) ≡ put (old_state number state) p v
 put_old number h state (Virtual r) v =
     ap (λ (f : ℕ → Option ℕ). record state { values = f })
-        (fun_ext (λ q. ap (λ b. cond b (Some v) (state.values (number q))) (same_test number h q r)))
+    (fun_ext (λ q. ap (λ b. cond b (Some v) (state.values (number q))) (same_test number h q r)))
 put_old number h state (Physical n) v = refl
 
 put_all_old : (number : ℕ → ℕ) → IsInjective number → (state : State) (ps : List Place) (vs : List ℕ)
@@ -121,10 +117,11 @@ steps_from_old : (number : ℕ → ℕ) → IsInjective number → (s : Setting)
 steps_from_old number h s w i state p None step = ap (old_progress number) step
 steps_from_old number h s w i state p (Some arguments) step =
     let m : Meaning = meaning_of i.flags i.op in
-    let places = written_old number m i.operands in
-    ( step.0
-    , subst (λ widths. Act s.x w m i.mem widths arguments (outside_of state) step.0) (ap (map (width_of_place s)) places ∙ widths_old number s (written_places m i.operands)) step.1
-    , ap (old_progress number) step.2 ∙ ap (λ ps. old_progress number (progress_of state ps step.0)) places ∙ progress_old number h state (written_places m i.operands) step.0 )
+    let places = written_old number m i.operands in (
+      step.0,
+      subst (λ widths. Act s.x w m i.mem widths arguments (outside_of state) step.0) (ap (map (width_of_place s)) places ∙ widths_old number s (written_places m i.operands)) step.1,
+      ap (old_progress number) step.2 ∙ ap (λ ps. old_progress number (progress_of state ps step.0)) places ∙ progress_old number h state (written_places m i.operands) step.0,
+    )
 
 steps_old : (number : ℕ → ℕ) → IsInjective number → (s : Setting) (w : World) (i : InstrData) (state : State) (p : Progress)
     → Steps s w (renamed_instr number i) state p → Steps (old_setting number s) w i (old_state number state) (old_progress number p)
@@ -209,7 +206,7 @@ joined_old : (number : ℕ → ℕ) → IsInjective number → (state : State) (
 joined_old number h state from [] = refl
 joined_old number h state from (i ∷ is) =
     ap₂ (λ ps v. old_option number (put_value (joined state from (map (renamed_pair number) is)) ps v)) (places_old number i.1.operands)
-        (ap (value_at state) (from_block_old number from i.1.operands) ∙ value_old number state (from_block from i.1.operands))
+    (ap (value_at state) (from_block_old number from i.1.operands) ∙ value_old number state (from_block from i.1.operands))
     ∙ put_value_old number h (joined state from (map (renamed_pair number) is)) (places_of i.1.operands) (value_at (old_state number state) (from_block from i.1.operands))
     ∙ ap (λ o. put_value o (places_of i.1.operands) (value_at (old_state number state) (from_block from i.1.operands))) (joined_old number h state from is)
 
@@ -237,11 +234,12 @@ after_joined_old : (number : ℕ → ℕ) → IsInjective number → (s : Settin
     → RunsAfterPhis s w b (renamed_block number block) enters state o
     → RunsAfterPhis (old_setting number s) w b block enters' (old_option number state) o
 after_joined_old number h s w b block enters enters' goes None o run = run
-after_joined_old number h s w b block enters enters' goes (Some state) o run =
-    ( old_progress number run.0
-    , executes_old number h s w (after_phis block.instrs) state run.0
-        (subst (λ is. Executes s w is state run.0) (after_phis_old number block.instrs) run.1)
-    , follows_old number enters enters' goes b block.successors run.0 o run.2 )
+after_joined_old number h s w b block enters enters' goes (Some state) o run = (
+  old_progress number run.0,
+  executes_old number h s w (after_phis block.instrs) state run.0
+      (subst (λ is. Executes s w is state run.0) (after_phis_old number block.instrs) run.1),
+  follows_old number enters enters' goes b block.successors run.0 o run.2,
+)
 
 block_old : (number : ℕ → ℕ) → IsInjective number → (s : Setting) (w : World) (block : Option BlockData)
     → (enters enters' : Option ℕ → ℕ → State → Outcome → Type 0) → GoesOld number enters enters'
@@ -251,18 +249,20 @@ block_old : (number : ℕ → ℕ) → IsInjective number → (s : Setting) (w :
 block_old number h s w None enters enters' goes from b state o run = run
 block_old number h s w (Some block) enters enters' goes from b state o run =
     let start : old_option number (joined state from (phis_of (map (renamed_pair number) block.instrs))) ≡ joined (old_state number state) from (phis_of block.instrs) =
-            ap (λ is. old_option number (joined state from is)) (phis_old number block.instrs) ∙ joined_old number h state from (phis_of block.instrs) in
+    ap (λ is. old_option number (joined state from is)) (phis_old number block.instrs) ∙ joined_old number h state from (phis_of block.instrs) in
     subst (λ st. RunsAfterPhis (old_setting number s) w b block enters' st o) start
-        (after_joined_old number h s w b block enters enters' goes (joined state from (phis_of (map (renamed_pair number) block.instrs))) o run)
+    (after_joined_old number h s w b block enters enters' goes (joined state from (phis_of (map (renamed_pair number) block.instrs))) o run)
 
 enters_old : (number : ℕ → ℕ) → IsInjective number → (s : Setting) (w : World) (blocks : List BlockData) (n : ℕ)
     → GoesOld number (Enters s w (map (renamed_block number) blocks) n) (Enters (old_setting number s) w blocks n)
 enters_old number h s w blocks zero = record { by = λ from b state o run. run }
-enters_old number h s w blocks (suc n) = record { by = λ from b state o run.
-    block_old number h s w (slice_get blocks b) (Enters s w (map (renamed_block number) blocks) n) (Enters (old_setting number s) w blocks n)
-        (enters_old number h s w blocks n) from b state o
-        (subst (λ block. RunsBlock s w block (Enters s w (map (renamed_block number) blocks) n) from b state o)
-            (slice_get-map (renamed_block number) blocks b) run) }
+enters_old number h s w blocks (suc n) = record {
+  by = λ from b state o run.
+      block_old number h s w (slice_get blocks b) (Enters s w (map (renamed_block number) blocks) n) (Enters (old_setting number s) w blocks n)
+      (enters_old number h s w blocks n) from b state o
+      (subst (λ block. RunsBlock s w block (Enters s w (map (renamed_block number) blocks) n) from b state o)
+      (slice_get-map (renamed_block number) blocks b) run);
+}
 
 -- ══ Kinds ══
 
@@ -270,11 +270,11 @@ setting_old : (number : ℕ → ℕ) → IsInjective number → (x : ℕ) (names
     → old_setting number (setting_of x names (renamed number f)) ≡ setting_of x names f
 setting_old number h x names f =
     ap (λ (width : ℕ → ℕ). let s : Setting = record { x = x; names = names; width = width } in s)
-        (fun_ext (λ r. ap (λ k. width_of_kind x (unwrap_or k kind.Class)) (kind_in_blocks_old number h r f.blocks)))
+    (fun_ext (λ r. ap (λ k. width_of_kind x (unwrap_or k kind.Class)) (kind_in_blocks_old number h r f.blocks)))
 
 -- what the renamed function may come to, the function may come to
 pub runs_renamed : (number : ℕ → ℕ) → IsInjective number → (x : ℕ) (names : List (List ℕ)) (f : FunctionData) (w : World) (n : ℕ) (o : Outcome)
     → Runs x names (renamed number f) w n o → Runs x names f w n o
 runs_renamed number h x names f w n o run =
     subst (λ s. Enters s w f.blocks n None 0 (start w) o) (setting_old number h x names f)
-        ((enters_old number h (setting_of x names (renamed number f)) w f.blocks n).by None 0 (start w) o run)
+    ((enters_old number h (setting_of x names (renamed number f)) w f.blocks n).by None 0 (start w) o run)

@@ -15,9 +15,9 @@ pub same_test : (number : ℕ → ℕ) → IsInjective number → (a b : ℕ) �
 same_test number h a b = ⊎_elim
     (λ (yes : (a == b) ≡ true). eq-eqb (number a) (number b) (ap number (eqb-true a b yes)) ∙ sym yes)
     (λ (no : (a == b) ≡ false). ⊎_elim
-        (λ (yes : (number a == number b) ≡ true). absurd (true≢false (sym (eq-eqb a b (h.apart a b (eqb-true (number a) (number b) yes))) ∙ no)))
-        (λ (still : (number a == number b) ≡ false). still ∙ sym no)
-        (test_cases (number a == number b)))
+    (λ (yes : (number a == number b) ≡ true). absurd (true≢false (sym (eq-eqb a b (h.apart a b (eqb-true (number a) (number b) yes))) ∙ no)))
+    (λ (still : (number a == number b) ≡ false). still ∙ sym no)
+    (test_cases (number a == number b)))
     (test_cases (a == b))
 
 kind_in_operand_old : (number : ℕ → ℕ) → IsInjective number → (r : ℕ) (o : Operand) → kind_in_operand (number r) (renamed_operand number o) ≡ kind_in_operand r o

@@ -22,5 +22,4 @@ pub fn stated_text_spells()
 pub fn example_texts_spell()
     ensures stated { Spells stated_text generic_module }
     ensures chosen { Spells selected_text selected_module }
-{
-}
+{}

@@ -1,5 +1,5 @@
 -- The lines of a block.
-use Rattle.std.proofs.Common.{◌≡◌, ℕ, suc, ◌+◌, ◌-◌, ◌<◌, ◌≤◌, Bool, true, false, not, ◌&&◌, ◌||◌, ◌==◌, if◌then◌else◌, List, [], ◌∷◌, ◌++◌, length, get_or, map, refl, sym, ap, ap₂, ◌∙◌, subst, arith, append_assoc, add-one}
+use Rattle.std.proofs.Common.{◌≡◌, ℕ, suc, ◌+◌, ◌-◌, ◌<◌, Bool, true, false, not, ◌&&◌, ◌||◌, ◌==◌, if◌then◌else◌, List, [], ◌∷◌, ◌++◌, length, get_or, map, refl, sym, ap, ap₂, ◌∙◌, arith, append_assoc, add-one}
 use Rattle.std.specs.Prelude.{codes}
 use Rattle.std.specs.List.{list_any}
 use Rattle.gi_llt.specs.Tokens.{Spaces, piece_bytes}
@@ -59,6 +59,7 @@ branch_some places i = either (is_branch_op (i.1).op)
     or_false : (b : Bool) → b ≡ (b || false)
     or_false true = refl
     or_false false = refl
+
     either : (b : Bool) → states_successors [] (if b then with_targets places (i.1).operands else places) ≡ (states_successors [] places || (b && list_any is_target (i.1).operands))
     either true = targets_some places (i.1).operands
     either false = or_false (states_successors [] places)
@@ -124,13 +125,13 @@ implied_renamed number place count is =
 pub block_bytes : (kinds : ℕ → Kind) (names : List (List ℕ)) (place count : ℕ) (is_stated : Bool) (b : BlockData)
     → is_stated ≡ states_successors b.successors (implied_successors place count b.instrs)
     → (piece_bytes (Spaces 2 ∷ block_head_pieces place) ++ (10 ∷ []))
-        ++ (text_of (set_off (successors_stated is_stated b.successors ++ liveins_lines b.liveins)) ++ text_of (instr_lines kinds names b.instrs))
+    ++ (text_of (set_off (successors_stated is_stated b.successors ++ liveins_lines b.liveins)) ++ text_of (instr_lines kinds names b.instrs))
     ≡ text_of (block_lines kinds names place count b)
 block_bytes kinds names place count is_stated b h =
     append_assoc (piece_bytes (Spaces 2 ∷ block_head_pieces place)) (10 ∷ [])
-        (text_of (set_off (successors_stated is_stated b.successors ++ liveins_lines b.liveins)) ++ text_of (instr_lines kinds names b.instrs))
+    (text_of (set_off (successors_stated is_stated b.successors ++ liveins_lines b.liveins)) ++ text_of (instr_lines kinds names b.instrs))
     ∙ ap (λ bs. piece_bytes (Spaces 2 ∷ block_head_pieces place) ++ (10 ∷ bs))
-        (sym (text_of_append (set_off (successors_stated is_stated b.successors ++ liveins_lines b.liveins)) (instr_lines kinds names b.instrs)))
+    (sym (text_of_append (set_off (successors_stated is_stated b.successors ++ liveins_lines b.liveins)) (instr_lines kinds names b.instrs)))
     ∙ ap (λ s. text_of (piece_bytes (Spaces 2 ∷ block_head_pieces place) ∷ (set_off (successors_stated s b.successors ++ liveins_lines b.liveins) ++ instr_lines kinds names b.instrs))) h
 
 pub liveins_bytes : (xs : List ℕ) → (length xs == 0) ≡ false → codes "    liveins:" ++ (piece_bytes (sources_pieces (physical_pieces xs)) ++ (10 ∷ [])) ≡ text_of (liveins_lines xs)

@@ -1,5 +1,5 @@
 -- What is left of a list in a loop.
-use Rattle.std.proofs.Common.{◌≡◌, ℕ, suc, ◌++◌, Ok, Err, OnOk, append_assoc, append-nil, ◌+◌, ◌<◌, ◌≤◌, List, [], ◌∷◌, length, get_or, drop, refl, sym, ap, ◌∙◌, subst, add-one}
+use Rattle.std.proofs.Common.{◌≡◌, ℕ, ◌++◌, Ok, Err, OnOk, append_assoc, append-nil, ◌+◌, ◌<◌, ◌≤◌, List, [], ◌∷◌, length, get_or, drop, sym, ap, ◌∙◌, add-one}
 use Rattle.std.specs.Prelude.{Result}
 use Rattle.std.proofs.Math.ListN.{drop_of_length-le}
 use Rattle.std.proofs.Math.Seq.{drop-cons}

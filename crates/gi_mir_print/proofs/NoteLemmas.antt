@@ -1,9 +1,9 @@
 -- Notes on registers, one after the other.
-use Rattle.std.proofs.Common.{◌≡◌, ℕ, ◌+◌, ◌-◌, ◌<◌, ◌≤◌, Bool, true, false, if◌then◌else◌, List, length, get_or, unwrap_or, position, nat_eq, nat_lt, arith, subst, [], ◌∷◌, ◌++◌, Option, Some, None, refl, sym, ap, ap₂, ◌∙◌}
+use Rattle.std.proofs.Common.{◌≡◌, ℕ, ◌+◌, ◌-◌, ◌≤◌, if◌then◌else◌, List, length, get_or, unwrap_or, position, nat_eq, arith, subst, [], ◌∷◌, ◌++◌, Option, Some, None, refl, sym, ap, ◌∙◌}
 use Rattle.std.specs.Prelude.{fold, flat_map}
 use Rattle.std.proofs.lemmas.List.Sums.{fold-append}
 use Rattle.gi_mir.specs.declared.operand.Kind.{Kind}
-use Rattle.std.proofs.lemmas.Bool.{ltb-true, ltb-false, lt-ltb, le-ltb, eqb-true}
+use Rattle.std.proofs.lemmas.Bool.{lt-ltb, le-ltb, eqb-true}
 use Rattle.std.proofs.lemmas.List.Quantifiers.{position-Some}
 use Rattle.gi_mir.specs.declared.operand.Kind.TheVariants.{Class}
 use Rattle.gi_mir.specs.Data.{InstrData, BlockData}
@@ -26,8 +26,8 @@ noted_none d = record { order = refl; kinds = λ r. sym (first_there_none (kind_
 pub noted_both : (a b c : RegistersData) (rs ss : List ℕ) (k l : ℕ → Option Kind)
     → IsNoted a b rs k → IsNoted b c ss l → IsNoted a c (rs ++ ss) (λ r. first_there (k r) (l r))
 noted_both a b c rs ss k l first second = record {
-    order = second.order ∙ ap (λ o. fold with_register o ss) first.order ∙ sym (fold-append with_register a.order rs ss);
-    kinds = λ r. second.kinds r ∙ ap (λ o. first_there o (l r)) (first.kinds r) ∙ first_there_assoc (kind_noted a.kinds r) (k r) (l r)
+  order = second.order ∙ ap (λ o. fold with_register o ss) first.order ∙ sym (fold-append with_register a.order rs ss);
+  kinds = λ r. second.kinds r ∙ ap (λ o. first_there o (l r)) (first.kinds r) ∙ first_there_assoc (kind_noted a.kinds r) (k r) (l r);
 }
 
 -- a register and its kind, and a register alone
@@ -61,7 +61,7 @@ pub noted_operand : (a b c : RegistersData) (x : Operand) (xs ys : List Operand)
     → IsNoted a c (flat_map registers_in_operand ys) (λ r. kind_in_operands r ys)
 noted_operand a b c x xs ys same first second =
     subst (λ zs. IsNoted a c (flat_map registers_in_operand zs) (λ r. kind_in_operands r zs)) (sym same)
-        (noted_both a b c (registers_in_operand x) (flat_map registers_in_operand xs) (λ r. kind_in_operand r x) (λ r. kind_in_operands r xs) first second)
+    (noted_both a b c (registers_in_operand x) (flat_map registers_in_operand xs) (λ r. kind_in_operand r x) (λ r. kind_in_operands r xs) first second)
 
 pub noted_instr : (a b c : RegistersData) (x : ℕ × InstrData) (xs ys : List (ℕ × InstrData)) → ys ≡ x ∷ xs
     → IsNoted a b (registers_in_instr x) (λ r. kind_in_operands r x.1.operands)
@@ -69,7 +69,7 @@ pub noted_instr : (a b c : RegistersData) (x : ℕ × InstrData) (xs ys : List (
     → IsNoted a c (flat_map registers_in_instr ys) (λ r. kind_in_instrs r ys)
 noted_instr a b c x xs ys same first second =
     subst (λ zs. IsNoted a c (flat_map registers_in_instr zs) (λ r. kind_in_instrs r zs)) (sym same)
-        (noted_both a b c (registers_in_instr x) (flat_map registers_in_instr xs) (λ r. kind_in_operands r x.1.operands) (λ r. kind_in_instrs r xs) first second)
+    (noted_both a b c (registers_in_instr x) (flat_map registers_in_instr xs) (λ r. kind_in_operands r x.1.operands) (λ r. kind_in_instrs r xs) first second)
 
 pub noted_block : (a b c : RegistersData) (x : BlockData) (xs ys : List BlockData) → ys ≡ x ∷ xs
     → IsNoted a b (registers_in_block x) (λ r. kind_in_instrs r x.instrs)
@@ -77,7 +77,7 @@ pub noted_block : (a b c : RegistersData) (x : BlockData) (xs ys : List BlockDat
     → IsNoted a c (flat_map registers_in_block ys) (λ r. kind_in_blocks r ys)
 noted_block a b c x xs ys same first second =
     subst (λ zs. IsNoted a c (flat_map registers_in_block zs) (λ r. kind_in_blocks r zs)) (sym same)
-        (noted_both a b c (registers_in_block x) (flat_map registers_in_block xs) (λ r. kind_in_instrs r x.instrs) (λ r. kind_in_blocks r xs) first second)
+    (noted_both a b c (registers_in_block x) (flat_map registers_in_block xs) (λ r. kind_in_instrs r x.instrs) (λ r. kind_in_blocks r xs) first second)
 
 -- nothing is left
 pub noted_operands_end : (d : RegistersData) (xs : List Operand) → xs ≡ [] → IsNoted d d (flat_map registers_in_operand xs) (λ r. kind_in_operands r xs)

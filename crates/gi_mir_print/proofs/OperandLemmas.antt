@@ -1,20 +1,18 @@
 -- The operands of an instruction before `=` and after its opcode.
-use Rattle.std.proofs.Common.{◌≡◌, ℕ, zero, suc, ◌+◌, ◌<◌, ◌≤◌, Bool, true, false, not, cond, ◌==◌, if◌then◌else◌, List, [], ◌∷◌, ◌++◌, length, take, drop, map, Option, Some, None, refl, sym, ap, ap₂, ◌∙◌, subst, arith, append_assoc, eqb-true}
+use Rattle.std.proofs.Common.{◌≡◌, ℕ, suc, ◌+◌, Bool, true, false, not, cond, ◌==◌, if◌then◌else◌, List, [], ◌∷◌, ◌++◌, length, take, drop, map, refl, sym, ap, ◌∙◌, arith, eqb-true}
 use Rattle.std.specs.Prelude.{codes}
-use Rattle.std.specs.List.{list_all, prefix_len, position_or_len}
-use Rattle.gi_llt.specs.Tokens.{Piece, Spaces, piece_bytes}
+use Rattle.std.specs.List.{list_all, position_or_len}
+use Rattle.gi_llt.specs.Tokens.{piece_bytes}
 use Rattle.gi_mir.specs.Data.{InstrData}
-use Rattle.gi_mir.specs.Numbering.{number_in}
-use Rattle.gi_mir.specs.Renaming.{renamed_operand, renamed_instr}
-use Rattle.gi_mir.specs.Printed.{word, is_definition, definitions_of, sources_of, source_forms, first_row, operand_pieces, definition_pieces, defined_pieces, source_pieces, sources_pieces, flags_pieces, memory_pieces, instr_pieces}
+use Rattle.gi_mir.specs.Renaming.{renamed_operand}
+use Rattle.gi_mir.specs.Printed.{word, is_definition, definitions_of, sources_of, source_forms, first_row, definition_pieces, defined_pieces, source_pieces, sources_pieces, flags_pieces, memory_pieces, instr_pieces}
 use Rattle.gi_mir.specs.Row.{word_of, rows_of}
 use Rattle.gi_mir.specs.declared.operand.Kind.{Kind}
-use Rattle.gi_mir.specs.declared.operand.Kind.TheVariants.{Class}
 use Rattle.gi_mir.specs.declared.operand.Operand.{Operand}
 use Rattle.gi_mir.specs.declared.operand.Operand.TheVariants as operand
 use Rattle.gi_mir.specs.declared.row.Form.{Form}
 use Rattle.gi_mir.specs.declared.row.Form.TheVariants as form
-use Rattle.gi_mir_print.specs.Shown.{RegistersData, is_definition_form, shown_operands}
+use Rattle.gi_mir_print.specs.Shown.{is_definition_form}
 use Rattle.gi_mir_print.proofs.PieceLemmas.{piece_bytes_append, equals_sign}
 
 take_more : {X : Type 0} (n : ℕ) (x : X) (xs : List X) → take (1 + n) (x ∷ xs) ≡ x ∷ take n xs
@@ -79,15 +77,15 @@ equals_some number (x ∷ xs) h = refl
 -- the bytes of an instruction, part by part
 pub instr_bytes : (kinds : ℕ → Kind) (names : List (List ℕ)) (instr : InstrData)
     → piece_bytes (defined_pieces (definition_pieces (definitions_of instr.operands)))
-        ++ (piece_bytes (flags_pieces instr.flags)
-        ++ (word_of instr.op
-        ++ (piece_bytes (sources_pieces (source_pieces kinds names (source_forms (first_row (rows_of instr.op))) (sources_of instr.operands)))
-        ++ piece_bytes (memory_pieces instr.mem))))
+    ++ (piece_bytes (flags_pieces instr.flags)
+    ++ (word_of instr.op
+    ++ (piece_bytes (sources_pieces (source_pieces kinds names (source_forms (first_row (rows_of instr.op))) (sources_of instr.operands)))
+    ++ piece_bytes (memory_pieces instr.mem))))
     ≡ piece_bytes (instr_pieces kinds names instr)
 instr_bytes kinds names instr = sym (
     let defined = defined_pieces (definition_pieces (definitions_of instr.operands)) in
     let shown = sources_pieces (source_pieces kinds names (source_forms (first_row (rows_of instr.op))) (sources_of instr.operands)) in
     piece_bytes_append defined (flags_pieces instr.flags ++ (word (word_of instr.op) ∷ (shown ++ memory_pieces instr.mem)))
     ∙ ap (λ bs. piece_bytes defined ++ bs)
-        (piece_bytes_append (flags_pieces instr.flags) (word (word_of instr.op) ∷ (shown ++ memory_pieces instr.mem))
-        ∙ ap (λ bs. piece_bytes (flags_pieces instr.flags) ++ (word_of instr.op ++ bs)) (piece_bytes_append shown (memory_pieces instr.mem))))
+    (piece_bytes_append (flags_pieces instr.flags) (word (word_of instr.op) ∷ (shown ++ memory_pieces instr.mem))
+    ∙ ap (λ bs. piece_bytes (flags_pieces instr.flags) ++ (word_of instr.op ++ bs)) (piece_bytes_append shown (memory_pieces instr.mem))))

@@ -1,16 +1,15 @@
 -- The bytes of pieces in a row.
-use Rattle.std.proofs.Common.{◌≡◌, ℕ, ◌+◌, ◌-◌, ◌^◌, ◌<◌, ◌≤◌, Bool, true, false, cond, List, [], ◌∷◌, ◌++◌, Some, None, unwrap_or, slice_get, get_or, refl, sym, ap, ◌∙◌, subst, append_assoc, append-nil, arith}
-use Rattle.std.specs.Prelude.{codes, decimal, replicate, nat_lt, pos, neg_ℤ, ℤ, if◌then◌else◌, slice_index_or}
+use Rattle.std.proofs.Common.{◌≡◌, ℕ, ◌-◌, ◌^◌, ◌<◌, ◌≤◌, Bool, true, false, List, [], ◌∷◌, ◌++◌, Some, refl, sym, ap, ◌∙◌, append_assoc, append-nil, arith}
+use Rattle.std.specs.Prelude.{codes, decimal, replicate, nat_lt, pos, neg_ℤ, if◌then◌else◌}
 use Rattle.std.specs.Fmt.{signed_decimal}
 use Rattle.std.proofs.Math.Nat.{pow-le-pow_right}
 use Rattle.std.proofs.lemmas.Bool.{ltb-true, ltb-false, lt-ltb}
-use Rattle.std.proofs.lemmas.Option.{unwrap_or-slice_get}
 use Rattle.gi_llt.specs.Bits.{signed}
-use Rattle.gi_llt.specs.Tokens.{LexemeKind, Piece, Token, Spaces, token, piece_bytes}
+use Rattle.gi_llt.specs.Tokens.{Piece, Token, Spaces, piece_bytes}
 use Rattle.gi_llt.specs.declared.Llt.{Llt}
 use Rattle.gi_llt.specs.declared.Llt.TheVariants.{Scalar, Pointer}
 use Rattle.gi_mir.specs.declared.operand.MemOp.{MemOp}
-use Rattle.gi_mir.specs.Printed.{type_piece, mark, word, bracketed, align_pieces, usual_align, memory_pieces, listed, sources_pieces, defined_pieces}
+use Rattle.gi_mir.specs.Printed.{type_piece, mark, bracketed, align_pieces, usual_align, memory_pieces, listed, sources_pieces, defined_pieces}
 
 pub piece_bytes_append : (ps qs : List Piece) → piece_bytes (ps ++ qs) ≡ piece_bytes ps ++ piece_bytes qs
 piece_bytes_append [] qs = refl
@@ -40,9 +39,9 @@ pub access_bytes : (memory : MemOp) → (codes " :: (" ++ ((if memory.load then 
     ≡ piece_bytes (memory_pieces (Some memory))
 access_bytes memory =
     ap (λ bs. codes " :: (" ++ bs) (append_assoc (if memory.load then codes "load" else codes "store") (32 ∷ [])
-        (piece_bytes (bracketed (type_piece memory.ty ∷ [])) ++ (piece_bytes (align_pieces memory.align (usual_align memory.ty)) ++ (41 ∷ []))))
+    (piece_bytes (bracketed (type_piece memory.ty ∷ [])) ++ (piece_bytes (align_pieces memory.align (usual_align memory.ty)) ++ (41 ∷ []))))
     ∙ sym (ap (λ bs. codes " :: (" ++ ((if memory.load then codes "load" else codes "store") ++ (32 ∷ 40 ∷ bs)))
-        (bracketed_more memory.ty (align_pieces memory.align (usual_align memory.ty))))
+    (bracketed_more memory.ty (align_pieces memory.align (usual_align memory.ty))))
 
 -- pieces with bytes before the first, and `, ` before each other
 abbrev pub led : (lead : List ℕ) → List (List Piece) → List ℕ

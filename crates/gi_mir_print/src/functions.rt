@@ -139,11 +139,7 @@ fn push_function(names: &Names, function: &Function, out: &mut Vec<u8>) -> Resul
 }
 
 /// Functions, one after the other.
-fn push_functions(
-    names: &Names,
-    functions: &[Function],
-    out: &mut Vec<u8>,
-) -> Result<(), Memory>
+fn push_functions(names: &Names, functions: &[Function], out: &mut Vec<u8>) -> Result<(), Memory>
     ensures { OnOk result (out.new.items ≡ out.old.items ++ text_of (functions_lines names.now (map numbered functions.now))) }
 {
     for function in functions {

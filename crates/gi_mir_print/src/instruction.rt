@@ -58,12 +58,7 @@ fn push_use(
 }
 
 /// `%1:_(s32)`
-fn push_def(
-    registers: &Registers,
-    reg: Reg,
-    kind: Kind,
-    out: &mut Vec<u8>,
-) -> Result<(), Memory>
+fn push_def(registers: &Registers, reg: Reg, kind: Kind, out: &mut Vec<u8>) -> Result<(), Memory>
     ensures { OnOk result (out.new.items ≡ out.old.items ++ (37 ∷ decimal (number_in registers.now.order reg.0) ++ piece_bytes (kind_pieces kind))) }
 {
     push_register(registers.number(reg), out)?;
@@ -99,11 +94,7 @@ fn push_operand(
 }
 
 /// A register that is defined.
-fn push_definition(
-    registers: &Registers,
-    operand: Operand,
-    out: &mut Vec<u8>,
-) -> Result<(), Memory>
+fn push_definition(registers: &Registers, operand: Operand, out: &mut Vec<u8>) -> Result<(), Memory>
     requires { is_definition operand ≡ true }
     ensures { OnOk result (out.new.items ≡ out.old.items ++ piece_bytes (operand_pieces (λ reg. Kind.Class) [] false (shown_operand registers.now operand))) }
 {
@@ -125,9 +116,7 @@ fn is_definition(operand: Operand) -> bool
 fn definition_end(operands: &[Operand]) -> Option<usize>
     ensures { result ≡ position (λ operand. not (is_definition operand)) operands.now }
 {
-    operands
-        .iter()
-        .position(|operand| !is_definition(*operand))
+    operands.iter().position(|operand| !is_definition(*operand))
 }
 
 /// How many definitions the operands begin with.
@@ -220,11 +209,7 @@ fn is_typed_by(forms: &[Form]) -> bool
 fn forms_after(forms: &[Form]) -> &[Form]
     ensures { result.now ≡ forms_after forms.now }
 {
-    if forms.len() < 2 {
-        forms
-    } else {
-        &forms[1..]
-    }
+    if forms.len() < 2 { forms } else { &forms[1..] }
 }
 
 /// `%0:_(s32), %1:_(s1) = `

@@ -6,5 +6,7 @@ mod functions;
 mod instruction;
 mod pieces;
 mod registers;
+#[cfg(test)]
+mod tests;
 
 pub use functions::{print, print_instr};

@@ -1,4 +1,4 @@
-use Rattle.std.proofs.Common.{◌≡◌, ◌∙◌, arith}
+use Rattle.std.proofs.Common.{◌∙◌, arith}
 use Rattle.gi_mir_print.proofs.LineLemmas.{falls_last}
 use Rattle.gi_mir_print.proofs.blocks.falls_through.Goals as goal
 

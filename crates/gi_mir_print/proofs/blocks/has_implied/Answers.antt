@@ -1,4 +1,4 @@
-use Rattle.std.proofs.Common.{◌≡◌, ◌||◌, sym, ap₂, ◌∙◌}
+use Rattle.std.proofs.Common.{◌||◌, sym, ap₂, ◌∙◌}
 use Rattle.gi_mir_print.proofs.LineLemmas.{implied_some}
 use Rattle.gi_mir_print.proofs.blocks.has_implied.Goals as goal
 

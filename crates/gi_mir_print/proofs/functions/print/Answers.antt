@@ -1,4 +1,4 @@
-use Rattle.std.proofs.Common.{◌≡◌, ◌++◌, map, sym, ap, ap₂, ◌∙◌}
+use Rattle.std.proofs.Common.{◌++◌, map, sym, ap, ap₂, ◌∙◌}
 use Rattle.gi_mir.specs.Data.{ModuleData}
 use Rattle.gi_mir.specs.Numbering.{numbered}
 use Rattle.gi_mir.specs.Printed.{ir_lines, functions_lines, text_of}
@@ -11,12 +11,12 @@ returns c =
     let m : ModuleData = c.args.module.now in
     let one = c.push_any_ir.new.out.items in
     record {
-        text = on_ok_same _ c.args.out.now.items _ _ _ (sym (text_of_append (ir_lines m.ir) (functions_lines m.names (map numbered m.functions))))
-            (on_ok_joined _ c.args.out.now.items _ _ one _
-                (c.in_ok-push_any_ir.ensures ∙ ap (λ (n : ModuleData). c.args.out.now.items ++ text_of (ir_lines n.ir)) c.module.view_is)
-                (on_ok_same _ one _ _ _
-                    (ap₂ (λ names functions. text_of (functions_lines names (map numbered functions)))
-                        (ap (λ (n : ModuleData). n.names) c.module.view_is)
-                        (c.as_slice.ensures.value ∙ ap (λ (n : ModuleData). n.functions) c.module.view_is))
-                    c.push_functions.ensures))
+      text = on_ok_same _ c.args.out.now.items _ _ _ (sym (text_of_append (ir_lines m.ir) (functions_lines m.names (map numbered m.functions))))
+          (on_ok_joined _ c.args.out.now.items _ _ one _
+          (c.in_ok-push_any_ir.ensures ∙ ap (λ (n : ModuleData). c.args.out.now.items ++ text_of (ir_lines n.ir)) c.module.view_is)
+          (on_ok_same _ one _ _ _
+          (ap₂ (λ names functions. text_of (functions_lines names (map numbered functions)))
+          (ap (λ (n : ModuleData). n.names) c.module.view_is)
+          (c.as_slice.ensures.value ∙ ap (λ (n : ModuleData). n.functions) c.module.view_is))
+          c.push_functions.ensures));
     }

@@ -1,5 +1,4 @@
-use Rattle.std.proofs.Common.{◌≡◌, ℕ, ◌≤◌, not, rules, List, length, take, drop, sym, subst, ap, ◌∙◌}
-use Rattle.std.specs.List.{position_or_len}
+use Rattle.std.proofs.Common.{◌≤◌, not, rules, length, take, drop, sym, subst, ap, ◌∙◌}
 use Rattle.gi_mir.specs.Printed.{is_definition}
 use Rattle.gi_mir.proofs.Places.{place_of_answer, position_or_len-bound}
 use Rattle.gi_mir_print.proofs.OperandLemmas.{definitions_taken, sources_dropped}

@@ -1,5 +1,4 @@
-use Rattle.std.proofs.Common.{◌≡◌, ℕ, ◌≤◌, not, rules, List, length, drop, sym, subst, ap, ◌∙◌}
-use Rattle.std.specs.List.{position_or_len}
+use Rattle.std.proofs.Common.{◌≤◌, not, rules, length, drop, sym, subst, ap, ◌∙◌}
 use Rattle.gi_mir.proofs.Places.{place_of_answer, position_or_len-bound}
 use Rattle.gi_mir_print.specs.Shown.{is_definition_form}
 use Rattle.gi_mir_print.proofs.OperandLemmas.{forms_dropped}

@@ -1,4 +1,4 @@
-use Rattle.std.proofs.Common.{◌≡◌, ◌++◌, ◌≤◌, [], codes, length, drop, sym, ap, ◌∙◌, arith}
+use Rattle.std.proofs.Common.{◌++◌, [], codes, drop, sym, ap, ◌∙◌, arith}
 use Rattle.gi_mir.specs.Numbering.{number_in}
 use Rattle.gi_mir.specs.Printed.{definition_pieces}
 use Rattle.gi_mir_print.specs.Shown.{shown_operands}
@@ -11,9 +11,9 @@ pub returns-else-is_empty : goal.returns-else-is_empty
 returns-else-is_empty c =
     let cells = definition_pieces (shown_operands c.args.registers.now c.args.operands.now) in
     on_ok_same _ c.args.out.now.items _ _ _
-        (sym (defined_led cells ∙ ap (λ bs. led [] cells ++ bs) (equals_some (number_in c.args.registers.now.order) c.args.operands.now (sym c.if-is_empty.ensures))))
-        (on_ok_joined _ c.args.out.now.items (led [] cells) (codes " = ") c.loop-operand.out.items _
-            (text_end c.loop-operand.out.items (led c.loop-operand.lead.now (definition_pieces (shown_operands c.args.registers.now (drop c.loop-operand.operand-index c.args.operands.now)))) _
-                (ap (λ ys. led c.loop-operand.lead.now (definition_pieces (shown_operands c.args.registers.now ys))) (drop_end c.args.operands.now c.loop-operand.operand-index (omega arith)))
-                c.loop-operand.invariant)
-            c.push-else-is_empty.ensures)
+    (sym (defined_led cells ∙ ap (λ bs. led [] cells ++ bs) (equals_some (number_in c.args.registers.now.order) c.args.operands.now (sym c.if-is_empty.ensures))))
+    (on_ok_joined _ c.args.out.now.items (led [] cells) (codes " = ") c.loop-operand.out.items _
+    (text_end c.loop-operand.out.items (led c.loop-operand.lead.now (definition_pieces (shown_operands c.args.registers.now (drop c.loop-operand.operand-index c.args.operands.now)))) _
+    (ap (λ ys. led c.loop-operand.lead.now (definition_pieces (shown_operands c.args.registers.now ys))) (drop_end c.args.operands.now c.loop-operand.operand-index (omega arith)))
+    c.loop-operand.invariant)
+    c.push-else-is_empty.ensures)

@@ -1,4 +1,4 @@
-use Rattle.std.proofs.Common.{◌≡◌, ◌++◌, [], OnOk, rules, sym}
+use Rattle.std.proofs.Common.{[], rules}
 use Rattle.std.proofs.lemmas.Option.{unwrap_or-slice_get}
 use Rattle.gi_mir_print.proofs.pieces.push_name.Goals as goal
 
