@@ -12,5 +12,4 @@ pub fn renaming_keeps_runs()
     ensures { (number : ℕ → ℕ) → IsInjective number
         → (x : ℕ) (names : List (List ℕ)) (f : FunctionData) (world : World) (n : ℕ) (outcome : Outcome)
         → Runs x names (renamed number f) world n outcome → Runs x names f world n outcome }
-{
-}
+{}

@@ -39,8 +39,8 @@ named_instrs number names (s ∷ ss) [] js h g = absurd h
 named_instrs number names (s ∷ ss) (i ∷ is) [] h g = absurd g
 named_instrs number names (s ∷ ss) (i ∷ is) (j ∷ js) h g =
     ap₂ (λ a b. a && b)
-        (ap (λ d. is_named_instr names (j.0, renamed_instr number d)) (g.0 ∙ ap selected_instr h.0) ∙ named_instr number names s i.1.line j.0)
-        (named_instrs number names ss is js h.1 g.1)
+    (ap (λ d. is_named_instr names (j.0, renamed_instr number d)) (g.0 ∙ ap selected_instr h.0) ∙ named_instr number names s i.1.line j.0)
+    (named_instrs number names ss is js h.1 g.1)
 
 -- a stated function of the program's statements
 pub record IsReadFunction (names : List (List ℕ)) (f : FunctionData) : Type 0 where
@@ -72,7 +72,7 @@ numbered_refines names f g h made = record {
   name = ap (name_at names) made.name;
   runs = λ world is_world n outcome run. inl
       (runs_selected names h.statements f g (record { block = h.block; blocks = h.stated.blocks; stated = h.stated.instructed; made = made }) world n outcome
-          (runs_renamed (number_in (order_of g)) (number_in_apart (order_of g)) 32 names g world n outcome run));
+      (runs_renamed (number_in (order_of g)) (number_in_apart (order_of g)) 32 names g world n outcome run));
 }
 
 only_function : (f : FunctionData) (gs : List FunctionData) → AllZip IsSelected (f ∷ []) gs → (g : FunctionData) × (gs ≡ g ∷ []) × IsSelected f g
@@ -82,7 +82,8 @@ only_function f (g ∷ k ∷ gs) h = absurd h.1
 
 read_function : (text : List ℕ) (m : ModuleData) (h : IsRead text m) → IsReadFunction m.names h.stated.f
 read_function text m h = record {
-  statements = h.statements; block = h.stated.block;
+  statements = h.statements;
+  block = h.stated.block;
   stated = subst (λ instrs. IsStated m.names h.stated.f instrs h.stated.block) h.same h.stated.stated;
 }
 
@@ -96,12 +97,13 @@ compiled text written m s h made wrote =
     let one = only_function f s.functions (subst (λ fs. AllZip IsSelected fs s.functions) h.stated.functions made.functions) in
     let g : FunctionData = one.0 in
     let printable : IsPrintableModule (numbered_module s) = record {
-            no_ir = made.ir ∙ h.stated.no_ir;
-            functions = subst (λ names. AllPrintable names (map numbered s.functions)) (sym made.names)
-                (subst (λ gs. AllPrintable m.names (map numbered gs)) (sym one.1) (numbered_printable m.names f g read one.2, tt));
-          } in
+      no_ir = made.ir ∙ h.stated.no_ir;
+      functions = subst (λ names. AllPrintable names (map numbered s.functions)) (sym made.names)
+          (subst (λ gs. AllPrintable m.names (map numbered gs)) (sym one.1) (numbered_printable m.names f g read one.2, tt));
+    } in
     record {
-      old = m; new = numbered_module s;
+      old = m;
+      new = numbered_module s;
       spells_old = stated_spells text m h.stated;
       spells_new = subst (λ bytes. Spells bytes (numbered_module s)) (sym wrote) (printed_spells (numbered_module s) printable);
       refines = subst (λ names. AllZip (Refines 32 m.names names) m.functions (map numbered s.functions)) (sym made.names)

@@ -57,9 +57,9 @@ read_from text r1 r2 r3 r4 line name liveins statements m read head is_named blo
     let end : List (List ℕ) = (if body.closed then codes "..." ∷ [] else []) in
     let name_is : name_at m.names f.name ≡ name = ap (λ n. name_at m.names n) built.named ∙ ap (λ ns. name_at ns 0) module_.names in
     let rest : lines_of r1 ≡ codes "  bb.0:" ∷ (codes "    liveins: " ++ physical_list block.liveins) ∷ [] ∷ (instrs_lines instrs ++ end) =
-        block_line ∙ ap (λ t. codes "  bb.0:" ∷ t)
-            (live_line ∙ ap (λ l. l ∷ lines_of r3) (live ∙ liveins_line_is liveins arguments ∙ ap (λ l. codes "    liveins: " ++ physical_list l) (sym built.live))
-            ∙ ap (λ t. (codes "    liveins: " ++ physical_list block.liveins) ∷ t) (empty ∙ ap (λ t. [] ∷ t) body.lines)) in
+    block_line ∙ ap (λ t. codes "  bb.0:" ∷ t)
+    (live_line ∙ ap (λ l. l ∷ lines_of r3) (live ∙ liveins_line_is liveins arguments ∙ ap (λ l. codes "    liveins: " ++ physical_list l) (sym built.live))
+    ∙ ap (λ t. (codes "    liveins: " ++ physical_list block.liveins) ∷ t) (empty ∙ ap (λ t. [] ∷ t) body.lines)) in
     let gaps : Gaps = head.gaps in
     record {
       statements = statements;

@@ -38,12 +38,17 @@ pub front_more : (f : FunctionData) (instrs : List (ℕ × InstrData)) (count : 
 front_more f instrs count g i d front within at same =
     let block : BlockData = front.block in
     record {
-      name = front.name; legalized = front.legalized; banked = front.banked; chosen = front.chosen; stack = front.stack;
+      name = front.name;
+      legalized = front.legalized;
+      banked = front.banked;
+      chosen = front.chosen;
+      stack = front.stack;
       block = record block { instrs = block.instrs ++ (g.next_id, selected_instr d) ∷ [] };
       blocks = ap (λ blocks. (with_instr (record g { blocks = blocks }) 0 None (selected_instr d)).blocks) front.blocks;
-      successors = front.successors; liveins = front.liveins;
+      successors = front.successors;
+      liveins = front.liveins;
       instrs = subst (λ is. AllZip IsSelectedInstr is (block.instrs ++ (g.next_id, selected_instr d) ∷ [])) (ap (λ j. take count instrs ++ j ∷ []) at ∙ sym (take-suc instrs count i within))
-        (zip_more IsSelectedInstr (take count instrs) block.instrs i (g.next_id, selected_instr d) front.instrs (ap selected_instr same));
+          (zip_more IsSelectedInstr (take count instrs) block.instrs i (g.next_id, selected_instr d) front.instrs (ap selected_instr same));
     }
 
 -- at the end all is selected
@@ -52,12 +57,16 @@ front_whole f g h front =
     let block : BlockData = h.block in
     let here : block_at f 0 ≡ block = ap (λ (blocks : List BlockData). block_at (record f { blocks = blocks }) 0) h.blocks in
     let made : IsSelectedBlock block front.block = record {
-            successors = front.successors ∙ ap (λ (b : BlockData). b.successors) here;
-            liveins = front.liveins ∙ ap (λ (b : BlockData). b.liveins) here;
-            instrs = subst (λ is. AllZip IsSelectedInstr is front.block.instrs) (take_whole (block_at f 0).instrs ∙ ap (λ (b : BlockData). b.instrs) here) front.instrs;
-          } in
+      successors = front.successors ∙ ap (λ (b : BlockData). b.successors) here;
+      liveins = front.liveins ∙ ap (λ (b : BlockData). b.liveins) here;
+      instrs = subst (λ is. AllZip IsSelectedInstr is front.block.instrs) (take_whole (block_at f 0).instrs ∙ ap (λ (b : BlockData). b.instrs) here) front.instrs;
+    } in
     record {
-      name = front.name; legalized = front.legalized; banked = front.banked; chosen = front.chosen; stack = front.stack ∙ sym h.no_objects;
+      name = front.name;
+      legalized = front.legalized;
+      banked = front.banked;
+      chosen = front.chosen;
+      stack = front.stack ∙ sym h.no_objects;
       blocks = subst (λ bs. AllZip IsSelectedBlock f.blocks bs) (sym front.blocks) (subst (λ bs. AllZip IsSelectedBlock bs (front.block ∷ [])) (sym h.blocks) (made, tt));
     }
   where

@@ -96,7 +96,7 @@ add_back names w d a b line state p (Some x) (Some y) step =
     let second = read.3 in
     let given = step.1.2 in
     let both : words ≡ Value 32 x ∷ Value 32 y ∷ [] =
-            read.4 ∙ ap₂ (λ v vs. v ∷ vs) read.2 (second.4 ∙ ap₂ (λ v vs. v ∷ vs) second.2 second.3) in
+    read.4 ∙ ap₂ (λ v vs. v ∷ vs) read.2 (second.4 ∙ ap₂ (λ v vs. v ∷ vs) second.2 second.3) in
     let answers = subst (λ ws. AnswersWords 32 (32 ∷ []) (on_words sum_word 32 ws) (outside_of state) answer) both given in
     (answer, (wrapped 32 (x + y) ∷ [], refl, answers.2 ∙ ap (λ ws. Results (all_fitted 32 (32 ∷ []) ws) (outside_of state)) answers.1), step.2)
 
@@ -124,11 +124,12 @@ executes_back names w [] [] (j ∷ js) h g state p run = absurd g
 executes_back names w [] (i ∷ is) js h g state p run = absurd h
 executes_back names w (s ∷ ss) [] js h g state p run = absurd h
 executes_back names w (s ∷ ss) (i ∷ is) [] h g state p run = absurd g
-executes_back names w (s ∷ ss) (i ∷ is) (j ∷ js) h g state p run =
-    ( run.0
-    , subst (λ d. Steps (plain names) w d state run.0) (sym h.0)
-        (step_back names w s i.1.line state run.0 (subst (λ d. Steps (plain names) w d state run.0) (g.0 ∙ ap selected_instr h.0) run.1))
-    , after_back _ _ (executes_back names w ss is js h.1 g.1) run.0 p run.2 )
+executes_back names w (s ∷ ss) (i ∷ is) (j ∷ js) h g state p run = (
+  run.0,
+  subst (λ d. Steps (plain names) w d state run.0) (sym h.0)
+      (step_back names w s i.1.line state run.0 (subst (λ d. Steps (plain names) w d state run.0) (g.0 ∙ ap selected_instr h.0) run.1)),
+  after_back _ _ (executes_back names w ss is js h.1 g.1) run.0 p run.2,
+)
 
 -- ══ No phis ══
 
@@ -200,14 +201,14 @@ block_back names w ss block selected both enters enters' goes from b state o run
     let old = no_phis ss block.instrs both.stated in
     let new = selected_no_phis ss block.instrs selected.instrs both.stated both.made.instrs in
     let ran : RunsAfterPhis (plain names) w b selected enters (Some state) o =
-            subst (λ is. RunsAfterPhis (plain names) w b selected enters (joined state from is) o) new.phis run in
+    subst (λ is. RunsAfterPhis (plain names) w b selected enters (joined state from is) o) new.phis run in
     let steps : Executes (plain names) w block.instrs state ran.0 =
-            executes_back names w ss block.instrs selected.instrs both.stated both.made.instrs state ran.0
-                (subst (λ is. Executes (plain names) w is state ran.0) new.after ran.1) in
+    executes_back names w ss block.instrs selected.instrs both.stated both.made.instrs state ran.0
+    (subst (λ is. Executes (plain names) w is state ran.0) new.after ran.1) in
     let follows : Follows b block.successors enters' ran.0 o =
-            follows_back enters enters' goes b block.successors ran.0 o (subst (λ s. Follows b s enters ran.0 o) both.made.successors ran.2) in
+    follows_back enters enters' goes b block.successors ran.0 o (subst (λ s. Follows b s enters ran.0 o) both.made.successors ran.2) in
     let result : RunsAfterPhis (plain names) w b block enters' (Some state) o =
-            (ran.0, subst (λ is. Executes (plain names) w is state ran.0) (sym old.after) steps, follows) in
+    (ran.0, subst (λ is. Executes (plain names) w is state ran.0) (sym old.after) steps, follows) in
     subst (λ is. RunsAfterPhis (plain names) w b block enters' (joined state from is) o) (sym old.phis) result
 
 -- the one block is at place 0, and nothing at the others
@@ -222,8 +223,10 @@ entered names w ss block selected both enters enters' goes from (suc b) state o 
 enters_back : (names : List (List ℕ)) (w : World) (ss : List Statement) (block selected : BlockData) → Blocks ss block selected
     → (n : ℕ) → GoesBack (Enters (plain names) w (selected ∷ []) n) (Enters (plain names) w (block ∷ []) n)
 enters_back names w ss block selected both zero = record { by = λ from b state o run. run }
-enters_back names w ss block selected both (suc n) = record { by = λ from b state o run.
-    entered names w ss block selected both _ _ (enters_back names w ss block selected both n) from b state o run }
+enters_back names w ss block selected both (suc n) = record {
+  by = λ from b state o run.
+      entered names w ss block selected both _ _ (enters_back names w ss block selected both n) from b state o run;
+}
 
 -- ══ Whole runs ══
 
@@ -248,11 +251,11 @@ runs_selected names ss f g h w n o run =
     let selected : BlockData = one.0 in
     let both : Blocks ss block selected = record { stated = h.stated; made = one.2 } in
     let f_plain : setting_of 32 names f ≡ plain names =
-            is_plain names f (λ r. subst (λ bs. Is32 (kind_in_blocks r bs)) (sym h.blocks) (one_block_32 (kind_in_instrs r block.instrs) (instrs_32 r ss block.instrs h.stated))) in
+    is_plain names f (λ r. subst (λ bs. Is32 (kind_in_blocks r bs)) (sym h.blocks) (one_block_32 (kind_in_instrs r block.instrs) (instrs_32 r ss block.instrs h.stated))) in
     let g_plain : setting_of 32 names g ≡ plain names =
-            is_plain names g (λ r. subst (λ bs. Is32 (kind_in_blocks r bs)) (sym one.1)
-                (one_block_32 (kind_in_instrs r selected.instrs) (selected_instrs_32 r ss block.instrs selected.instrs h.stated one.2.instrs))) in
+    is_plain names g (λ r. subst (λ bs. Is32 (kind_in_blocks r bs)) (sym one.1)
+    (one_block_32 (kind_in_instrs r selected.instrs) (selected_instrs_32 r ss block.instrs selected.instrs h.stated one.2.instrs))) in
     let run_plain : Enters (plain names) w (selected ∷ []) n None 0 (start w) o =
-            subst (λ bs. Enters (plain names) w bs n None 0 (start w) o) one.1 (subst (λ s. Enters s w g.blocks n None 0 (start w) o) g_plain run) in
+    subst (λ bs. Enters (plain names) w bs n None 0 (start w) o) one.1 (subst (λ s. Enters s w g.blocks n None 0 (start w) o) g_plain run) in
     let back : Enters (plain names) w (block ∷ []) n None 0 (start w) o = (enters_back names w ss block selected both n).by None 0 (start w) o run_plain in
     subst (λ s. Enters s w f.blocks n None 0 (start w) o) (sym f_plain) (subst (λ bs. Enters (plain names) w bs n None 0 (start w) o) (sym h.blocks) back)

@@ -18,12 +18,10 @@ mod top;
 mod unused;
 mod words;
 
-pub use top::gisel;
-
 use gi_io::{StdInput, StdOutput};
-use std::env;
-use std::io;
 use std::process::ExitCode;
+use std::{env, io};
+pub use top::gisel;
 
 /// The words of the command line after the program's own name.
 fn command_words(rt: &HostRuntime) -> io::Result<Vec<String>> {
@@ -41,11 +39,5 @@ fn main(rt: HostRuntime) -> ExitCode {
     let mut input = StdInput::new(&rt);
     let mut out = StdOutput::new(&rt, &rt);
     let mut err = StdOutput::new(&rt, rt.stderr());
-    ExitCode::from(gisel(
-        rt.alloc(),
-        words.as_slice(),
-        &mut input,
-        &mut out,
-        &mut err,
-    ))
+    ExitCode::from(gisel(rt.alloc(), words.as_slice(), &mut input, &mut out, &mut err))
 }

@@ -35,12 +35,17 @@ fn selected_operand(operand: Operand) -> Operand
     }
 }
 
-fn selected_operands(alloc: Global, operands: &[Operand]) -> Result<SmallVec<Operand, 6, Global>, Memory>
+fn selected_operands(
+    alloc: Global,
+    operands: &[Operand],
+) -> Result<SmallVec<Operand, 6, Global>, Memory>
     ensures { IfOk result (λ selected. selected.items ≡ map selected_operand operands.now) }
 {
     let mut selected = SmallVec::new(alloc);
     for operand in operands {
-        selected.push(selected_operand(*operand)).map_err(|_| Memory)?;
+        selected
+            .push(selected_operand(*operand))
+            .map_err(|_| Memory)?;
     }
     Ok(selected)
 }
@@ -99,7 +104,11 @@ pub fn select_module(alloc: Global, read: Module) -> Result<Module, Memory>
     requires { AllSelectable read.functions }
     ensures { IfOk result (λ selected. IsSelectedModule read selected) }
 {
-    let Module { ir, names, functions } = read;
+    let Module {
+        ir,
+        names,
+        functions,
+    } = read;
     let selected = select_all(alloc, functions.as_slice())?;
     Ok(Module {
         ir,

@@ -30,7 +30,11 @@ fn read_input<'a, I: Input>(alloc: Global, input: &mut I) -> Result<Vec<u8>, Sto
 }
 
 /// The text that is to be written, for words and input as they are taken.
-fn text_for<'a, I: Input>(alloc: Global, words: &'a [String], input: &mut I) -> Result<Vec<u8>, Stop<'a>>
+fn text_for<'a, I: Input>(
+    alloc: Global,
+    words: &'a [String],
+    input: &mut I,
+) -> Result<Vec<u8>, Stop<'a>>
     ensures text { IfOk result (λ text. IsTrue (I.tells input.old) → Compiles 32 (I.stored input.old None) text.items) }
     ensures whole { OnOk result (IsTrue (I.tells input.old) → I.left input.new ≡ []) }
     ensures read_fault { IsErrOf result Stop.ReadFault → Rose (I.faults input.old) (I.faults input.new) }

@@ -4,6 +4,7 @@ ghost use Rattle.std.specs.Prelude.{◌≡◌, [], ◌∷◌, map, string_bytes,
 
 /// The word that chooses the target, and the one that chooses the passes: those that the program takes so far.
 const TRIPLE: &str = "-mtriple=riscv32";
+
 const START: &str = "-start-after=regbankselect";
 
 /// The word at fault: the first that differs from its place, the third, or the one that is missing.

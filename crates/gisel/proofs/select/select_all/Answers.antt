@@ -13,4 +13,4 @@ loop-function-preserved c =
     let fs : List FunctionData = c.args.functions.now in
     let k : ℕ = c.loop-function.function-index in
     subst (λ gs. AllZip IsSelected (take (k + 1) fs) gs) (sym c.in_ok-append_function.ensures)
-        (rw add-one (functions_more fs c.loop-function.selected.items k c.function-item.result c.in_ok-select.field-0 c.loop-function.invariant c.loop-function-test.true c.function-item.is c.in_ok-select.ensures))
+    (rw add-one (functions_more fs c.loop-function.selected.items k c.function-item.result c.in_ok-select.field-0 c.loop-function.invariant c.loop-function-test.true c.function-item.is c.in_ok-select.ensures))
