@@ -1,6 +1,10 @@
 //! The meaning of Machine IR: what each opcode gives, memory, calls, blocks and whole runs.
 #![tactic(auto)]
 
+pub mod bits;
+pub mod gives;
+pub mod sums;
+
 /// The number of bits in a byte.
 pub fn byte_bits() -> u16 {
     8
