@@ -1,1 +1,4 @@
 pub mod Numbers
+pub mod Quotients
+pub mod Order
+pub mod Shifting

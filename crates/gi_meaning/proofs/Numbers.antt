@@ -39,7 +39,7 @@ pub unsigned-neg_zero : (n size : ℕ) → size % 2 ^ n ≡ 0 → unsigned n (ne
 unsigned-neg_zero n zero h = h
 unsigned-neg_zero n (suc k) h = elim (mod-step k (2 ^ n) (pow_pos n)) [ inl a ↦ omega arith | inr b ↦ omega arith ]
 
-nat_abs-neg : (m : ℕ) → nat_abs (neg_ℤ (pos m)) ≡ m
+pub nat_abs-neg : (m : ℕ) → nat_abs (neg_ℤ (pos m)) ≡ m
 nat_abs-neg zero = refl
 nat_abs-neg (suc m) = refl
 
@@ -50,8 +50,8 @@ pub signed-high : (n a : ℕ) → 2 ^ (n - 1) ≤ a → signed n a ≡ neg_ℤ (
 signed-high n a h = rw (le-ltb a (2 ^ (n - 1)) h) refl
 
 -- a value that is read with a sign is its sign and its size
-pub signed-is : (n a : ℕ) → signed n a ≡ with_sign (nat_le (2 ^ (n - 1)) a) (nat_abs (signed n a))
-signed-is n a = elim (cases_lt a (2 ^ (n - 1))) [
+pub signed_is : (n a : ℕ) → signed n a ≡ with_sign (nat_le (2 ^ (n - 1)) a) (nat_abs (signed n a))
+signed_is n a = elim (cases_lt a (2 ^ (n - 1))) [
     inl h ↦ (rw (lt-leb (2 ^ (n - 1)) a h, lt-ltb a (2 ^ (n - 1)) h) refl)
   | inr h ↦ (rw (le-leb (2 ^ (n - 1)) a h, le-ltb a (2 ^ (n - 1)) h) (ap (λ m. neg_ℤ (pos m)) (sym (nat_abs-neg (2 ^ n - a))))) ]
 
@@ -121,7 +121,7 @@ with_sign-mul false true m (suc k) = omega (arith, ints)
 with_sign-mul false false m k = refl
 
 pub signed_product : (n a b : ℕ) → signed n a *ℤ signed n b ≡ with_sign (differ (nat_le (2 ^ (n - 1)) a) (nat_le (2 ^ (n - 1)) b)) (nat_abs (signed n a) * nat_abs (signed n b))
-signed_product n a b = ap₂ (λ x y. x *ℤ y) (signed-is n a) (signed-is n b) ∙ with_sign-mul (nat_le (2 ^ (n - 1)) a) (nat_le (2 ^ (n - 1)) b) (nat_abs (signed n a)) (nat_abs (signed n b))
+signed_product n a b = ap₂ (λ x y. x *ℤ y) (signed_is n a) (signed_is n b) ∙ with_sign-mul (nat_le (2 ^ (n - 1)) a) (nat_le (2 ^ (n - 1)) b) (nat_abs (signed n a)) (nat_abs (signed n b))
 
 with_sign-add : (b : Bool) (m k : ℕ) → with_sign b m +ℤ with_sign b k ≡ with_sign b (m + k)
 with_sign-add true m k = omega (arith, ints)
@@ -136,7 +136,7 @@ same-sign false false h = refl
 pub signed_sum : (n a b : ℕ) → differ (nat_le (2 ^ (n - 1)) a) (nat_le (2 ^ (n - 1)) b) ≡ false → signed n a +ℤ signed n b ≡ with_sign (nat_le (2 ^ (n - 1)) a) (nat_abs (signed n a) + nat_abs (signed n b))
 signed_sum n a b h =
     let e : nat_le (2 ^ (n - 1)) b ≡ nat_le (2 ^ (n - 1)) a = same-sign (nat_le (2 ^ (n - 1)) a) (nat_le (2 ^ (n - 1)) b) h in
-    ap₂ (λ x y. x +ℤ y) (signed-is n a) (signed-is n b ∙ ap (λ s. with_sign s (nat_abs (signed n b))) e) ∙ with_sign-add (nat_le (2 ^ (n - 1)) a) (nat_abs (signed n a)) (nat_abs (signed n b))
+    ap₂ (λ x y. x +ℤ y) (signed_is n a) (signed_is n b ∙ ap (λ s. with_sign s (nat_abs (signed n b))) e) ∙ with_sign-add (nat_le (2 ^ (n - 1)) a) (nat_abs (signed n a)) (nat_abs (signed n b))
 
 pub sum_leaves : (n a b : ℕ) → n ≤ 128 → differ (nat_le (2 ^ (n - 1)) a) (nat_le (2 ^ (n - 1)) b) ≡ false → 2 ^ 128 ≤ nat_abs (signed n a) + nat_abs (signed n b) → leaves_signed n (signed n a +ℤ signed n b) ≡ true
 sum_leaves n a b l h g = ap (leaves_signed n) (signed_sum n a b h) ∙ leaves_too_great n (nat_abs (signed n a) + nat_abs (signed n b)) (nat_le (2 ^ (n - 1)) a) l g

@@ -2,7 +2,11 @@
 #![tactic(auto)]
 
 pub mod bits;
+pub mod casts;
+pub mod choices;
+pub mod divisions;
 pub mod gives;
+pub mod shifts;
 pub mod sums;
 
 /// The number of bits in a byte.
