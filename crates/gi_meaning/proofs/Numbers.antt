@@ -152,3 +152,7 @@ difference_whole n a b h e =
     let m : (2 ^ n - a - 1) % 2 ^ n ≡ 2 ^ n - a - 1 = mod-eq_of_lt (omega arith) in
     let u : unsigned n (negsuc (2 ^ n - a - 1)) ≡ a = omega arith in
     ap (unsigned n) z ∙ u
+
+pub unsigned_below : (n : ℕ) (z : ℤ) → unsigned n z < 2 ^ n
+unsigned_below n (pos m) = mod-lt m (pow_pos n)
+unsigned_below n (negsuc m) = omega (arith, pow_pos n)

@@ -4,8 +4,10 @@
 pub mod bits;
 pub mod casts;
 pub mod choices;
+pub mod counts;
 pub mod divisions;
 pub mod gives;
+pub mod parts;
 pub mod shifts;
 pub mod sums;
 

@@ -1,3 +1,4 @@
 pub mod Data
 pub mod Registers
 pub mod Accepted
+pub mod Classes
