@@ -1,5 +1,7 @@
 -- How the program keeps numbers with a sign, and what an operation gives.
 use Rattle.std.specs.Prelude.{ℕ, ◌+◌, ◌*◌, Bool, true, false, not, cond, ℤ, pos, neg_ℤ, List, [], ◌∷◌}
+use Rattle.gi_mir.specs.declared.opcode.Opcode.{Opcode}
+use Rattle.gi_mir.specs.declared.opcode.Opcode.TheVariants as op
 use Rattle.gi_meaning.specs.Given.{Given, Exactly, LowBits, Undefined}
 use Rattle.gi_meaning.specs.declared.gives.Gives.{Gives}
 use Rattle.gi_meaning.specs.declared.gives.Gives.TheVariants as gives
@@ -18,3 +20,11 @@ given_of gives.Undefined = Undefined
 -- one of two is true, and not both
 abbrev pub differ : Bool → Bool → Bool
 differ left right = cond left (not right) right
+
+-- neither parts and their whole, nor a high product
+abbrev pub is_plain : Opcode → Bool
+is_plain op.GenericMergeValues = false
+is_plain op.GenericUnmergeValues = false
+is_plain op.GenericUnsignedMultiplyHigh = false
+is_plain op.GenericSignedMultiplyHigh = false
+is_plain _ = true

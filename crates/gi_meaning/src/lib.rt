@@ -7,6 +7,7 @@ pub mod choices;
 pub mod counts;
 pub mod divisions;
 pub mod gives;
+pub mod operations;
 pub mod parts;
 pub mod shifts;
 pub mod sums;

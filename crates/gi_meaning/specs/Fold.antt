@@ -1,0 +1,109 @@
+-- The one result of an operation on known values.
+use Rattle.std.specs.Prelude.{ℕ, ◌^◌, List, [], ◌∷◌, Bool, true, false, ◌&&◌, nat_lt, Option, Some, None, if◌then◌else◌}
+use Rattle.gi_llt.specs.Llt.{width_of}
+use Rattle.gi_llt.specs.declared.Llt.{Llt}
+use Rattle.gi_mir.specs.Accepted.{accepts, is_any}
+use Rattle.gi_mir.specs.declared.opcode.Opcode.{Opcode}
+use Rattle.gi_mir.specs.declared.opcode.Opcode.TheVariants as op
+use Rattle.gi_mir.specs.declared.operand.Flags.{Flags}
+use Rattle.gi_mir.specs.declared.operand.Pred.{Pred}
+use Rattle.gi_meaning.specs.Given.{Given, Exactly, Undefined}
+use Rattle.gi_meaning.specs.Argument.{Argument, Value, Test}
+use Rattle.gi_meaning.specs.Meaning.{Meaning, Copying, Generic, meaning_of}
+use Rattle.gi_meaning.specs.Act.{copy}
+
+-- what an operation that neither memory nor the target decides gives, from the widths of its results
+abbrev pub gives_of : Meaning → List ℕ → List Argument → Given
+gives_of Copying = copy
+gives_of (Generic gives) = gives
+gives_of _ = λ widths arguments. Undefined
+
+-- an opcode with one result whose other operands are registers and at most a predicate
+abbrev pub is_computed : Opcode → Bool
+is_computed op.Copy = true
+is_computed op.GenericImplicitDef = true
+is_computed op.GenericFreeze = true
+is_computed op.GenericPointerAdd = true
+is_computed op.GenericPointerToInteger = true
+is_computed op.GenericIntegerToPointer = true
+is_computed op.GenericTruncate = true
+is_computed op.GenericAnyExtend = true
+is_computed op.GenericZeroExtend = true
+is_computed op.GenericSignExtend = true
+is_computed op.GenericMergeValues = true
+is_computed op.GenericAdd = true
+is_computed op.GenericSubtract = true
+is_computed op.GenericMultiply = true
+is_computed op.GenericAnd = true
+is_computed op.GenericOr = true
+is_computed op.GenericXor = true
+is_computed op.GenericUnsignedDivide = true
+is_computed op.GenericSignedDivide = true
+is_computed op.GenericUnsignedRemainder = true
+is_computed op.GenericSignedRemainder = true
+is_computed op.GenericShiftLeft = true
+is_computed op.GenericLogicalShiftRight = true
+is_computed op.GenericArithmeticShiftRight = true
+is_computed op.GenericUnsignedMultiplyHigh = true
+is_computed op.GenericSignedMultiplyHigh = true
+is_computed op.GenericCompare = true
+is_computed op.GenericSelect = true
+is_computed op.GenericSignedMinimum = true
+is_computed op.GenericSignedMaximum = true
+is_computed op.GenericUnsignedMinimum = true
+is_computed op.GenericUnsignedMaximum = true
+is_computed op.GenericAbsolute = true
+is_computed op.GenericCountLeadingZeros = true
+is_computed op.GenericCountTrailingZeros = true
+is_computed op.GenericPopulationCount = true
+is_computed op.GenericCountLeadingZerosNotOfZero = true
+is_computed op.GenericCountTrailingZerosNotOfZero = true
+is_computed op.GenericByteSwap = true
+is_computed op.GenericFunnelShiftLeft = true
+is_computed op.GenericFunnelShiftRight = true
+is_computed op.GenericRotateLeft = true
+is_computed op.GenericRotateRight = true
+is_computed _ = false
+
+-- a comparison has a predicate, and nothing else has
+abbrev pub takes : Opcode → Option Pred → Bool
+takes op.GenericCompare (Some pred) = true
+takes op.GenericCompare None = false
+takes _ (Some pred) = false
+takes _ None = true
+
+-- a value of a type: a number of at most its bits
+abbrev pub is_value : ℕ → Llt → ℕ → Bool
+is_value x ty value = is_any x ty && nat_lt value (2 ^ width_of x ty)
+
+-- a value of each type
+abbrev pub are_values : ℕ → List Llt → List ℕ → Bool
+are_values x [] [] = true
+are_values x (ty ∷ types) (value ∷ values) = is_value x ty value && are_values x types values
+are_values x _ _ = false
+
+-- values in registers of these types
+abbrev pub registers : ℕ → List Llt → List ℕ → List Argument
+registers x (ty ∷ types) (value ∷ values) = Value (width_of x ty) value ∷ registers x types values
+registers x _ _ = []
+
+-- registers, after a predicate if there is one
+abbrev pub after_test : Option Pred → List Argument → List Argument
+after_test (Some pred) arguments = Test pred ∷ arguments
+after_test None arguments = arguments
+
+-- the one result, where there is no choice
+abbrev pub only_result : Given → Option ℕ
+only_result (Exactly (value ∷ [])) = Some value
+only_result _ = None
+
+-- an operation that can be computed: its types are accepted, and its values are of them
+abbrev pub can_fold : Opcode → Option Pred → (result : Llt) → (x : ℕ) → List Llt → List ℕ → Bool
+can_fold op pred result x types values =
+    is_computed op && takes op pred && accepts x op (result ∷ []) types && are_values x types values
+
+abbrev pub fold_of : Opcode → Flags → Option Pred → (result : Llt) → (x : ℕ) → List Llt → List ℕ → Option ℕ
+fold_of op flags pred result x types values =
+    if can_fold op pred result x types values
+    then only_result (gives_of (meaning_of flags op) (width_of x result ∷ []) (after_test pred (registers x types values)))
+    else None
