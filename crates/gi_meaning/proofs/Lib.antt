@@ -4,3 +4,4 @@ pub mod Order
 pub mod Shifting
 pub mod Counting
 pub mod Products
+pub mod Folding

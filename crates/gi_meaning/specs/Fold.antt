@@ -18,6 +18,29 @@ gives_of Copying = copy
 gives_of (Generic gives) = gives
 gives_of _ = λ widths arguments. Undefined
 
+-- an opcode that reads two registers of its result's type
+abbrev pub is_of_two : Opcode → Bool
+is_of_two op.GenericAdd = true
+is_of_two op.GenericSubtract = true
+is_of_two op.GenericMultiply = true
+is_of_two op.GenericAnd = true
+is_of_two op.GenericOr = true
+is_of_two op.GenericXor = true
+is_of_two op.GenericUnsignedDivide = true
+is_of_two op.GenericSignedDivide = true
+is_of_two op.GenericUnsignedRemainder = true
+is_of_two op.GenericSignedRemainder = true
+is_of_two op.GenericShiftLeft = true
+is_of_two op.GenericLogicalShiftRight = true
+is_of_two op.GenericArithmeticShiftRight = true
+is_of_two op.GenericSignedMinimum = true
+is_of_two op.GenericSignedMaximum = true
+is_of_two op.GenericUnsignedMinimum = true
+is_of_two op.GenericUnsignedMaximum = true
+is_of_two op.GenericRotateLeft = true
+is_of_two op.GenericRotateRight = true
+is_of_two _ = false
+
 -- an opcode with one result whose other operands are registers and at most a predicate
 abbrev pub is_computed : Opcode → Bool
 is_computed op.Copy = true
@@ -31,27 +54,10 @@ is_computed op.GenericAnyExtend = true
 is_computed op.GenericZeroExtend = true
 is_computed op.GenericSignExtend = true
 is_computed op.GenericMergeValues = true
-is_computed op.GenericAdd = true
-is_computed op.GenericSubtract = true
-is_computed op.GenericMultiply = true
-is_computed op.GenericAnd = true
-is_computed op.GenericOr = true
-is_computed op.GenericXor = true
-is_computed op.GenericUnsignedDivide = true
-is_computed op.GenericSignedDivide = true
-is_computed op.GenericUnsignedRemainder = true
-is_computed op.GenericSignedRemainder = true
-is_computed op.GenericShiftLeft = true
-is_computed op.GenericLogicalShiftRight = true
-is_computed op.GenericArithmeticShiftRight = true
 is_computed op.GenericUnsignedMultiplyHigh = true
 is_computed op.GenericSignedMultiplyHigh = true
 is_computed op.GenericCompare = true
 is_computed op.GenericSelect = true
-is_computed op.GenericSignedMinimum = true
-is_computed op.GenericSignedMaximum = true
-is_computed op.GenericUnsignedMinimum = true
-is_computed op.GenericUnsignedMaximum = true
 is_computed op.GenericAbsolute = true
 is_computed op.GenericCountLeadingZeros = true
 is_computed op.GenericCountTrailingZeros = true
@@ -61,9 +67,7 @@ is_computed op.GenericCountTrailingZerosNotOfZero = true
 is_computed op.GenericByteSwap = true
 is_computed op.GenericFunnelShiftLeft = true
 is_computed op.GenericFunnelShiftRight = true
-is_computed op.GenericRotateLeft = true
-is_computed op.GenericRotateRight = true
-is_computed _ = false
+is_computed op = is_of_two op
 
 -- a comparison has a predicate, and nothing else has
 abbrev pub takes : Opcode → Option Pred → Bool

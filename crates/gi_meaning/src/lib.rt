@@ -6,6 +6,7 @@ pub mod casts;
 pub mod choices;
 pub mod counts;
 pub mod divisions;
+pub mod fold;
 pub mod gives;
 pub mod operations;
 pub mod parts;
