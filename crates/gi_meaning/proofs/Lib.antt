@@ -5,3 +5,5 @@ pub mod Shifting
 pub mod Counting
 pub mod Products
 pub mod Folding
+pub mod Merging
+pub mod Few

@@ -69,6 +69,18 @@ is_computed op.GenericFunnelShiftLeft = true
 is_computed op.GenericFunnelShiftRight = true
 is_computed op = is_of_two op
 
+-- of these, an opcode that reads one or two registers, and is no comparison and no high product
+abbrev pub reads_few : Opcode → Bool
+reads_few op.GenericMergeValues = false
+reads_few op.GenericUnmergeValues = false
+reads_few op.GenericUnsignedMultiplyHigh = false
+reads_few op.GenericSignedMultiplyHigh = false
+reads_few op.GenericCompare = false
+reads_few op.GenericSelect = false
+reads_few op.GenericFunnelShiftLeft = false
+reads_few op.GenericFunnelShiftRight = false
+reads_few _ = true
+
 -- a comparison has a predicate, and nothing else has
 abbrev pub takes : Opcode → Option Pred → Bool
 takes op.GenericCompare (Some pred) = true
@@ -104,7 +116,7 @@ only_result _ = None
 -- an operation that can be computed: its types are accepted, and its values are of them
 abbrev pub can_fold : Opcode → Option Pred → (result : Llt) → (x : ℕ) → List Llt → List ℕ → Bool
 can_fold op pred result x types values =
-    is_computed op && takes op pred && accepts x op (result ∷ []) types && are_values x types values
+    is_computed op && takes op pred && is_any x result && accepts x op (result ∷ []) types && are_values x types values
 
 abbrev pub fold_of : Opcode → Flags → Option Pred → (result : Llt) → (x : ℕ) → List Llt → List ℕ → Option ℕ
 fold_of op flags pred result x types values =

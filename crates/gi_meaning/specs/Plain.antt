@@ -1,5 +1,5 @@
 -- How the program keeps numbers with a sign, and what an operation gives.
-use Rattle.std.specs.Prelude.{ℕ, ◌+◌, ◌*◌, Bool, true, false, not, cond, ℤ, pos, neg_ℤ, List, [], ◌∷◌}
+use Rattle.std.specs.Prelude.{ℕ, ◌+◌, ◌*◌, ◌^◌, Bool, true, false, not, cond, ℤ, pos, neg_ℤ, List, [], ◌∷◌}
 use Rattle.gi_mir.specs.declared.opcode.Opcode.{Opcode}
 use Rattle.gi_mir.specs.declared.opcode.Opcode.TheVariants as op
 use Rattle.gi_meaning.specs.Given.{Given, Exactly, LowBits, Undefined}
@@ -28,3 +28,8 @@ is_plain op.GenericUnmergeValues = false
 is_plain op.GenericUnsignedMultiplyHigh = false
 is_plain op.GenericSignedMultiplyHigh = false
 is_plain _ = true
+
+-- equal parts of w bits, the first in the lowest bits
+abbrev pub merged_of : ℕ → List ℕ → ℕ
+merged_of w [] = 0
+merged_of w (value ∷ values) = value + 2 ^ w * merged_of w values

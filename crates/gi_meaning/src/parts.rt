@@ -1,7 +1,8 @@
 //! High products, and values merged from parts and cut into parts.
 
-ghost use Rattle.std.specs.Prelude.{◌≡◌, ◌+◌, ◌-◌, ◌*◌, ◌^◌, ◌<◌, ◌≤◌};
+ghost use Rattle.std.specs.Prelude.{◌≡◌, ◌+◌, ◌-◌, ◌*◌, ◌^◌, ◌<◌, ◌≤◌, length, All};
 ghost use Rattle.gi_llt.specs.Bits.{signed_high_product, unsigned_high_product};
+ghost use Rattle.gi_meaning.specs.Plain.{merged_of};
 
 use crate::bits::{bits_of, is_negative, size};
 use crate::sums::differ;
@@ -30,4 +31,20 @@ pub fn signed_high_product(n: u16, a: u128, b: u128) -> u128
     let negative = differ(is_negative(n, a), is_negative(n, b));
     let product = size(n, a).wrapping_mul(size(n, b));
     bits_of(2 * n, negative, product) >> n
+}
+
+/// Equal parts of `w` bits put together, the first in the lowest bits.
+pub fn merged_of(w: u16, values: &[u128]) -> u128
+    requires positive { 0 < w }
+    requires shift { w < 128 }
+    requires room { w * length values.now ≤ 128 }
+    requires fits { All (λ value. value < 2 ^ w) values.now }
+    ensures { result ≡ merged_of w values.now }
+{
+    let mut total: u128 = 0;
+    for done in 0..values.len() {
+        let i = values.len() - 1 - done;
+        total = values[i] + (total << w);
+    }
+    total
 }
