@@ -7,3 +7,4 @@ pub mod Products
 pub mod Folding
 pub mod Merging
 pub mod Few
+pub mod Immediates

@@ -12,6 +12,7 @@ pub mod operations;
 pub mod parts;
 pub mod shifts;
 pub mod sums;
+pub mod words;
 
 /// The number of bits in a byte.
 pub fn byte_bits() -> u16 {
