@@ -15,9 +15,9 @@ abbrev pub unsigned : (bits : ℕ) → ℤ → ℕ
 unsigned bits (pos n) = n % 2 ^ bits
 unsigned bits (negsuc n) = 2 ^ bits - 1 - n % 2 ^ bits
 
--- bit from - 1 copied upward, up to so many bits
+-- bit from - 1 copied upward, up to so many bits; the bits above it are dropped before
 abbrev pub sign_extended : (from to value : ℕ) → ℕ
-sign_extended from to value = unsigned to (signed from value)
+sign_extended from to value = unsigned to (signed from (wrapped from value))
 
 -- the k-th group of so many bits, the lowest first
 abbrev pub part_of : (bits k value : ℕ) → ℕ

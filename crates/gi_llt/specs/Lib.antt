@@ -1,2 +1,4 @@
 pub mod Bits
 pub mod Llt
+pub mod Tokens
+pub mod Signs

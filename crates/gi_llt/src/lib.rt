@@ -4,6 +4,11 @@
 ghost use Rattle.std.specs.Prelude.{◌≡◌, ◌⊎◌};
 ghost use Rattle.gi_llt.specs.Llt.{width_of};
 
+pub mod tokens;
+mod bits;
+
+pub use bits::{high_product, part, sext, wrap};
+
 /// Memory ran out.
 #[derive(Clone, Copy, Debug, PartialEq, Eq)]
 pub struct Memory;
@@ -33,3 +38,6 @@ pub fn width(ty: Llt, target: Target) -> u16
         Llt::Pointer => target.xlen,
     }
 }
+
+#[cfg(test)]
+mod tests;

@@ -1,4 +1,15 @@
-pub mod Data
-pub mod Registers
 pub mod Accepted
+pub mod AddExample
 pub mod Classes
+pub mod Data
+pub mod Edit
+pub mod Formed
+pub mod Names
+pub mod Numbering
+pub mod Printable
+pub mod Printed
+pub mod Registers
+pub mod Renaming
+pub mod Row
+pub mod Spelling
+pub mod Stated

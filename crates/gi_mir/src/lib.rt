@@ -2,5 +2,15 @@
 #![tactic(auto)]
 
 pub mod accepted;
+pub mod block;
+pub mod formed;
+pub mod function;
+pub mod instr;
+pub mod module;
+pub mod names;
 pub mod opcode;
 pub mod operand;
+pub mod row;
+pub mod spelling;
+#[cfg(test)]
+mod tests;

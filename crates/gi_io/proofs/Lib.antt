@@ -1,0 +1,2 @@
+mod FoundFiles
+mod Prefixes

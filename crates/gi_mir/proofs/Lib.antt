@@ -1,0 +1,13 @@
+pub mod AddExample
+pub mod BlockLines
+pub mod Blocks
+pub mod Definitions
+pub mod Documents
+pub mod FormedLemmas
+pub mod InstrPieces
+pub mod NamesLemmas
+pub mod NumberingLaws
+pub mod Places
+pub mod PrintExamples
+pub mod Texts
+pub mod Words

@@ -1,0 +1,18 @@
+-- The names of a module, in the order in which they first appear.
+use Rattle.std.specs.Prelude.{ℕ, List, [], ◌∷◌, ◌++◌, String, string_bytes, Option, bytes_eq, map, position, is_some, if◌then◌else◌, slice_index_or}
+
+-- the texts of a map's keys
+abbrev pub texts_of : {A : Type 0} → List (String A × ℕ) → List (List ℕ)
+texts_of entries = map (λ e. string_bytes e.0) entries
+
+-- the number of a name, if it has one: its place
+abbrev pub number_of : List (List ℕ) → List ℕ → Option ℕ
+number_of names name = position (bytes_eq name) names
+
+-- the names, with this one last if it isn't there
+abbrev pub with_name : List (List ℕ) → List ℕ → List (List ℕ)
+with_name names name = if is_some (number_of names name) then names else names ++ name ∷ []
+
+-- the name with this number, and the empty text where none has it
+abbrev pub name_at : List (List ℕ) → ℕ → List ℕ
+name_at names number = slice_index_or names number []

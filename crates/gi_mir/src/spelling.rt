@@ -1,0 +1,26 @@
+//! What is promised of texts and the modules that they spell.
+
+ghost use Rattle.std.specs.Prelude.{List, ℕ};
+ghost use Rattle.gi_mir.specs.AddExample.{generic_module, selected_module, stated_text, selected_text};
+ghost use Rattle.gi_mir.specs.Data.{ModuleData};
+ghost use Rattle.gi_mir.specs.Printable.{IsPrintableModule};
+ghost use Rattle.gi_mir.specs.Printed.{printed};
+ghost use Rattle.gi_mir.specs.Spelling.{Spells};
+ghost use Rattle.gi_mir.specs.Stated.{IsStatedText};
+
+/// The printed text of a module spells that module.
+pub fn printed_text_spells()
+    ensures { (m : ModuleData) → IsPrintableModule m → Spells (printed m) m }
+{}
+
+/// A text as the program takes it so far spells its module.
+pub fn stated_text_spells()
+    ensures { (text : List ℕ) (m : ModuleData) → IsStatedText text m → Spells text m }
+{}
+
+/// The texts of an example, before and after the selection of instructions, spell its two modules.
+pub fn example_texts_spell()
+    ensures stated { Spells stated_text generic_module }
+    ensures chosen { Spells selected_text selected_module }
+{
+}

@@ -1,0 +1,4 @@
+pub mod SelectionLaws
+pub mod SelectFront
+pub mod CompileLaws
+pub mod AddRuns

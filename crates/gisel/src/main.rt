@@ -1,0 +1,7 @@
+//! GlobalISel for RISC-V: reads Machine IR, runs passes over it and prints it.
+#![tactic(auto)]
+
+mod select;
+mod statement;
+
+fn main() {}
