@@ -1,10 +1,11 @@
 -- Equal parts put together, a step at a time.
-use Rattle.std.proofs.Common.{◌≡◌, ℕ, zero, suc, ◌+◌, ◌-◌, ◌*◌, ◌%◌, ◌^◌, ◌<◌, ◌≤◌, refl, sym, ◌∙◌, ap, ap₂, subst, arith, add-one, List, [], ◌∷◌, length, get_or, drop, lit<, All}
+use Rattle.std.proofs.Common.{◌≡◌, ℕ, zero, suc, ◌+◌, ◌-◌, ◌*◌, ◌/◌, ◌%◌, ◌^◌, ◌<◌, ◌≤◌, refl, sym, ◌∙◌, ap, ap₂, subst, arith, add-one, List, [], ◌∷◌, length, get_or, drop, lit<, All}
 use Rattle.std.proofs.Math.Seq.{drop-cons, drop-length}
 use Rattle.std.proofs.lemmas.List.Elements.{All-get_or}
-use Rattle.std.proofs.Math.Nat.{mod-eq_of_lt, pow-le-pow_right, mul-le-mul_left}
+use Rattle.std.proofs.Math.Nat.{mod-eq_of_lt, mod-lt, div-eq_of_lt, pow-le-pow_right, mul-le-mul_left}
 use Rattle.std.proofs.lemmas.Nat.{pow-add, mul-add-lt}
 use Rattle.gi_meaning.specs.Plain.{merged_of}
+use Rattle.gi_meaning.specs.Generic.{parts_of}
 
 pub merged_start : (w : ℕ) (values : List ℕ) → merged_of w (drop (length values - 0) values) ≡ 0
 merged_start w values =
@@ -52,3 +53,17 @@ merged_turn w done values total h room all e b =
       value = next ∙ (turned v total (2 ^ w) ∙ (sym step ∙ ap (λ k. merged_of w (drop k values)) (sym here)));
       bound = omega arith;
       fits = omega arith }
+
+pub wide_quotient : (w v : ℕ) → 128 ≤ w → v < 2 ^ 128 → v / 2 ^ w ≡ 0
+wide_quotient w v h l = let p : 2 ^ 128 ≤ 2 ^ w = pow-le-pow_right (lit< tt) h in div-eq_of_lt (omega arith)
+
+pub wide_remainder : (w v : ℕ) → 128 ≤ w → v < 2 ^ 128 → v % 2 ^ w ≡ v
+wide_remainder w v h l = let p : 2 ^ 128 ≤ 2 ^ w = pow-le-pow_right (lit< tt) h in mod-eq_of_lt (omega arith)
+
+pub no_remainder : (v : ℕ) → v % 2 ^ 0 ≡ 0
+no_remainder v = let h : v % 1 < 1 = mod-lt v (lit< tt) in omega arith
+
+pub part_step : (widths : List ℕ) (i d rest : ℕ) → i < length widths → parts_of (drop i widths) rest ≡ rest % 2 ^ get_or widths i d ∷ parts_of (drop (i + 1) widths) (rest / 2 ^ get_or widths i d)
+part_step widths i d rest h =
+    ap (λ ws. parts_of ws rest) (drop-cons widths i d h)
+      ∙ ap (λ k. rest % 2 ^ get_or widths i d ∷ parts_of (drop k widths) (rest / 2 ^ get_or widths i d)) (sym (add-one i))

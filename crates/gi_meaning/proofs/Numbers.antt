@@ -8,7 +8,7 @@ use Rattle.std.proofs.lemmas.Bool.{lt-ltb, le-ltb, le-leb, lt-leb, cases_lt}
 use Rattle.std.proofs.lemmas.Bool.Decides.{nat_tests}
 use Rattle.std.proofs.lemmas.Int.{ints}
 use Rattle.std.proofs.Math.Nat.{suc-mod, mod-eq_of_lt, mod_self, mod-lt, pow-suc, zero-mod, pow-le-pow_right, add-mul-mod_self_left, lt_of_lt_of_le, le_trans}
-use Rattle.gi_llt.specs.Bits.{signed, unsigned, wrapped}
+use Rattle.gi_llt.specs.Bits.{signed, unsigned, wrapped, sign_extended}
 use Rattle.gi_meaning.specs.Plain.{with_sign, differ}
 use Rattle.gi_meaning.specs.Generic.{leaves_signed, difference_of}
 
@@ -156,3 +156,6 @@ difference_whole n a b h e =
 pub unsigned_below : (n : ℕ) (z : ℤ) → unsigned n z < 2 ^ n
 unsigned_below n (pos m) = mod-lt m (pow_pos n)
 unsigned_below n (negsuc m) = omega (arith, pow_pos n)
+
+pub extended_is : (m n a : ℕ) → a < 2 ^ m → sign_extended m n a ≡ unsigned n (with_sign (nat_le (2 ^ (m - 1)) a) (nat_abs (signed m a)))
+extended_is m n a h = ap (λ v. unsigned n (signed m v)) (mod-eq_of_lt h) ∙ ap (unsigned n) (signed_is m a)

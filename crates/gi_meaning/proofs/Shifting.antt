@@ -29,7 +29,7 @@ pub arithmetic_low : (n a k : ℕ) → nat_le (2 ^ (n - 1)) a ≡ false → a < 
 arithmetic_low n a k h l =
     let low : a < 2 ^ (n - 1) = leb-false (2 ^ (n - 1)) a h in
     let more : 2 ^ n ≤ 2 ^ (n + k) = rw (pow-add 2 n k) (grow (2 ^ n) (2 ^ k) (pow_pos k)) in
-    let e : sign_extended n (n + k) a ≡ a = ap (unsigned (n + k)) (signed-low n a low) ∙ mod-eq_of_lt (omega arith) in
+    let e : sign_extended n (n + k) a ≡ a = ap (λ m. unsigned (n + k) (signed n m)) (mod-eq_of_lt l) ∙ (ap (unsigned (n + k)) (signed-low n a low) ∙ mod-eq_of_lt (omega arith)) in
     let q : a / 2 ^ k ≤ a = shr_le a k in
     ap (λ m. m / 2 ^ k % 2 ^ n) e ∙ mod-eq_of_lt (omega arith)
 
@@ -53,7 +53,7 @@ arithmetic_high n a k h l =
     let z : neg_ℤ (pos (2 ^ n - a)) ≡ negsuc (2 ^ n - 1 - a) = negated (2 ^ n) a l in
     let small : (2 ^ n - 1 - a) % 2 ^ (n + k) ≡ 2 ^ n - 1 - a = mod-eq_of_lt (omega arith) in
     let e : sign_extended n (n + k) a ≡ 2 ^ n * 2 ^ k - 1 - (2 ^ n - 1 - a) =
-        ap (unsigned (n + k)) (signed-high n a high ∙ z) ∙ (ap (λ m. 2 ^ (n + k) - 1 - m) small ∙ ap (λ m. m - 1 - (2 ^ n - 1 - a)) (pow-add 2 n k)) in
+        ap (λ m. unsigned (n + k) (signed n m)) (mod-eq_of_lt l) ∙ (ap (unsigned (n + k)) (signed-high n a high ∙ z) ∙ (ap (λ m. 2 ^ (n + k) - 1 - m) small ∙ ap (λ m. m - 1 - (2 ^ n - 1 - a)) (pow-add 2 n k))) in
     let c : (2 ^ n * 2 ^ k - 1 - (2 ^ n - 1 - a)) / 2 ^ k ≡ 2 ^ n - 1 - (2 ^ n - 1 - a) / 2 ^ k = complement (2 ^ n) (2 ^ k) (2 ^ n - 1 - a) (pow_pos k) (omega arith) in
     ap (λ m. m / 2 ^ k % 2 ^ n) e ∙ (ap (λ m. m % 2 ^ n) c ∙ mod-eq_of_lt (omega arith))
 

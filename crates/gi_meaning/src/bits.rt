@@ -1,8 +1,10 @@
 //! Values of up to 128 bits, and their signs.
 
 ghost use Rattle.std.specs.Prelude.{◌≡◌, ◌+◌, ◌-◌, ◌*◌, ◌/◌, ◌%◌, ◌^◌, ◌<◌, ◌≤◌, nat_le, nat_lt, nat_abs};
-ghost use Rattle.gi_llt.specs.Bits.{signed, unsigned, wrapped};
+ghost use Rattle.gi_llt.specs.Bits.{signed, unsigned};
 ghost use Rattle.gi_meaning.specs.Plain.{with_sign};
+
+use gi_llt::wrap;
 
 /// The greatest value of so many bits.
 pub fn greatest(n: u16) -> u128
@@ -20,15 +22,6 @@ pub fn sign_bit(n: u16) -> u128
     ensures { result ≡ 2 ^ (n - 1) }
 {
     1u128 << (n - 1)
-}
-
-/// The low bits of a value.
-pub fn low_bits(n: u16, value: u128) -> u128
-    requires positive { 0 < n }
-    requires limit { n ≤ 128 }
-    ensures { result ≡ wrapped n value }
-{
-    value & greatest(n)
 }
 
 /// Whether a value has so many bits.
@@ -69,7 +62,7 @@ pub fn bits_of(n: u16, negative: bool, size: u128) -> u128
     requires limit { n ≤ 128 }
     ensures { result ≡ unsigned n (with_sign negative size) }
 {
-    let low = low_bits(n, size);
+    let low = wrap(size, n);
     if negative && low != 0 {
         greatest(n) - (low - 1)
     } else {

@@ -6,12 +6,13 @@ ghost use Rattle.gi_meaning.specs.Generic as generic;
 ghost use Rattle.gi_meaning.specs.Given.{in_low_bits};
 ghost use Rattle.gi_meaning.specs.Plain.{given_of};
 
-use crate::bits::{bits_of, is_negative, low_bits, size};
+use crate::bits::{bits_of, is_negative, size};
 use crate::gives::Gives;
 use gi_mir::operand::Flags;
+use gi_llt::wrap;
 
 /// Bit `m - 1` copied upward, up to `n` bits.
-#[tactic(auto, using(crate::proofs::Numbers::signed_is))]
+#[tactic(auto, using(crate::proofs::Numbers::extended_is))]
 pub fn sign_extended(m: u16, n: u16, a: u128) -> u128
     requires m_positive { 0 < m }
     requires m_limit { m ≤ 128 }
@@ -55,5 +56,5 @@ pub fn sign_extended_in_register(n: u16, a: u128, k: u16) -> u128
     requires k_limit { k ≤ 128 }
     ensures { result ≡ sign_extended k n (wrapped k a) }
 {
-    sign_extended(k, n, low_bits(k, a))
+    sign_extended(k, n, wrap(a, k))
 }

@@ -4,8 +4,9 @@ ghost use Rattle.std.specs.Prelude.{◌≡◌, ◌+◌, ◌-◌, ◌^◌, ◌<�
 ghost use Rattle.gi_llt.specs.Bits.{signed, unsigned};
 ghost use Rattle.gi_meaning.specs.Generic as generic;
 
-use crate::bits::{is_negative, low_bits, size};
+use crate::bits::{is_negative, size};
 use gi_mir::operand::Pred;
+use gi_llt::wrap;
 
 /// Whether the first value is less than the second where both are read with a sign.
 #[tactic(auto, using(crate::proofs::Order::less_low_high, crate::proofs::Order::less_high_low, crate::proofs::Order::less_alike))]
@@ -88,5 +89,5 @@ pub fn absolute(m: u16, n: u16, a: u128) -> u128
     requires fits { a < 2 ^ m }
     ensures { result ≡ unsigned n (pos (nat_abs (signed m a))) }
 {
-    low_bits(n, size(m, a))
+    wrap(size(m, a), n)
 }

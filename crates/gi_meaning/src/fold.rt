@@ -14,7 +14,7 @@ use crate::bits::has_bits;
 use crate::choices::{holds, selected};
 use crate::gives::Gives;
 use crate::operations::{binary, unary};
-use crate::parts::{merged_of, signed_high_product, unsigned_high_product};
+use crate::parts::merged_of;
 use crate::shifts::{free, funnel_left, funnel_right};
 use crate::sums::bit_of;
 use gi_llt::{Llt, Target, width};
@@ -142,10 +142,10 @@ pub fn high_product(target: Target, op: Opcode, flags: Flags, outcome: Llt, type
 {
     let n = target.xlen;
     match values {
-        [a, b] => match op {
-            Opcode::GenericSignedMultiplyHigh => Gives::One(signed_high_product(n, *a, *b)),
-            _ => Gives::One(unsigned_high_product(n, *a, *b)),
-        },
+        [a, b] => {
+            let signed = op == Opcode::GenericSignedMultiplyHigh;
+            Gives::One(gi_llt::high_product(*a, *b, n, signed))
+        }
         _ => Gives::Undefined,
     }
 }

@@ -13,8 +13,3 @@ pub mod parts;
 pub mod shifts;
 pub mod sums;
 pub mod words;
-
-/// The number of bits in a byte.
-pub fn byte_bits() -> u16 {
-    8
-}

@@ -7,7 +7,6 @@ ghost use Rattle.gi_meaning.specs.Fold.{gives_of};
 ghost use Rattle.gi_meaning.specs.Meaning.{meaning_of};
 ghost use Rattle.gi_meaning.specs.Plain.{given_of, is_plain};
 
-use crate::bits::low_bits;
 use crate::casts::{any_extension, sign_extended, zero_extension};
 use crate::choices::{absolute, better};
 use crate::counts::{byte_swap, count_not_of_zero, leading_zeros, ones, trailing_zeros};
@@ -19,6 +18,7 @@ use crate::shifts::{
 use crate::sums::{difference, low_sum, product, sum, unless_broken};
 use gi_mir::opcode::Opcode;
 use gi_mir::operand::{Flags, Pred};
+use gi_llt::wrap;
 
 /// What a copy gives.
 pub fn copied(m: u16, n: u16, a: u128) -> Gives
@@ -31,7 +31,7 @@ pub fn copied(m: u16, n: u16, a: u128) -> Gives
     } else if m == n {
         Gives::One(a)
     } else {
-        Gives::One(low_bits(n, a))
+        Gives::One(wrap(a, n))
     }
 }
 
@@ -50,7 +50,7 @@ pub fn unary(op: Opcode, flags: Flags, m: u16, n: u16, a: u128) -> Gives
         Opcode::GenericFreeze | Opcode::GenericFrameIndex => Gives::One(a),
         Opcode::GenericPointerToInteger
         | Opcode::GenericIntegerToPointer
-        | Opcode::GenericTruncate => Gives::One(low_bits(n, a)),
+        | Opcode::GenericTruncate => Gives::One(wrap(a, n)),
         Opcode::GenericAnyExtend => any_extension(m, n, a),
         Opcode::GenericZeroExtend => zero_extension(flags, m, n, a),
         Opcode::GenericSignExtend => Gives::One(sign_extended(m, n, a)),

@@ -1,37 +1,11 @@
-//! High products, and values merged from parts and cut into parts.
+//! Values merged from parts and cut into parts.
 
-ghost use Rattle.std.specs.Prelude.{◌≡◌, ◌+◌, ◌-◌, ◌*◌, ◌^◌, ◌<◌, ◌≤◌, length, All};
-ghost use Rattle.gi_llt.specs.Bits.{signed_high_product, unsigned_high_product};
+ghost use Rattle.std.specs.Prelude.{◌≡◌, ◌+◌, ◌-◌, ◌*◌, ◌/◌, ◌%◌, ◌^◌, ◌<◌, ◌≤◌, length, All, IfOk};
+ghost use Rattle.gi_meaning.specs.Generic.{parts_of};
 ghost use Rattle.gi_meaning.specs.Plain.{merged_of};
 
-use crate::bits::{bits_of, is_negative, size};
-use crate::sums::differ;
-
-/// The high half of the product of two values.
-#[tactic(auto, using(crate::proofs::Products::high_product_is))]
-pub fn unsigned_high_product(n: u16, a: u128, b: u128) -> u128
-    requires positive { 0 < n }
-    requires limit { n ≤ 64 }
-    requires a_fits { a < 2 ^ n }
-    requires b_fits { b < 2 ^ n }
-    ensures { result ≡ unsigned_high_product n a b }
-{
-    a.wrapping_mul(b) >> n
-}
-
-/// The high half of the product of two values that are read with a sign.
-#[tactic(auto, using(crate::proofs::Products::signed_high_product_is))]
-pub fn signed_high_product(n: u16, a: u128, b: u128) -> u128
-    requires positive { 0 < n }
-    requires limit { n ≤ 64 }
-    requires a_fits { a < 2 ^ n }
-    requires b_fits { b < 2 ^ n }
-    ensures { result ≡ signed_high_product n a b }
-{
-    let negative = differ(is_negative(n, a), is_negative(n, b));
-    let product = size(n, a).wrapping_mul(size(n, b));
-    bits_of(2 * n, negative, product) >> n
-}
+use std::alloc::{AllocError, Global};
+use gi_llt::wrap;
 
 /// Equal parts of `w` bits put together, the first in the lowest bits.
 pub fn merged_of(w: u16, values: &[u128]) -> u128
@@ -47,4 +21,40 @@ pub fn merged_of(w: u16, values: &[u128]) -> u128
         total = values[i] + (total << w);
     }
     total
+}
+
+/// A value without its low bits.
+#[tactic(auto, using(crate::proofs::Merging::wide_quotient))]
+pub fn without_low(width: u16, value: u128) -> u128
+    ensures { result ≡ value / 2 ^ width }
+{
+    if width < 128 { value >> width } else { 0 }
+}
+
+/// The low bits of a value, whatever their number.
+#[tactic(auto, using(crate::proofs::Merging::wide_remainder, crate::proofs::Merging::no_remainder))]
+pub fn cut(width: u16, value: u128) -> u128
+    ensures { result ≡ value % 2 ^ width }
+{
+    if width == 0 {
+        0
+    } else if width < 128 {
+        wrap(value, width)
+    } else {
+        value
+    }
+}
+
+/// The parts of a value by their widths, the lowest bits first.
+#[tactic(auto, using(crate::proofs::Merging::part_step))]
+pub fn parts_of(alloc: Global, widths: &[u16], value: u128) -> Result<Vec<u128>, AllocError>
+    ensures { IfOk result (λ parts. parts.items ≡ parts_of widths.now value) }
+{
+    let mut parts = Vec::new(alloc);
+    let mut rest = value;
+    for width in widths {
+        parts.push(cut(*width, rest))?;
+        rest = without_low(*width, rest);
+    }
+    Ok(parts)
 }

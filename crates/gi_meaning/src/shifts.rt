@@ -6,10 +6,11 @@ ghost use Rattle.gi_meaning.specs.Generic as generic;
 ghost use Rattle.gi_meaning.specs.Given.{free as any_of};
 ghost use Rattle.gi_meaning.specs.Plain.{given_of};
 
-use crate::bits::{greatest, is_negative, low_bits, size};
+use crate::bits::{greatest, is_negative, size};
 use crate::gives::Gives;
 use crate::sums::{low_product, product_has_more_bits, product_leaves_signed, unless_broken};
 use gi_mir::operand::Flags;
+use gi_llt::wrap;
 
 /// Any value of so many bits.
 pub fn free(n: u16) -> Gives
@@ -126,7 +127,7 @@ pub fn joined(n: u16, a: u128, b: u128, s: u16) -> u128
     requires less { s < n }
     ensures { result ≡ a % 2 ^ (n - s) * 2 ^ s + b / 2 ^ (n - s) }
 {
-    (low_bits(n - s, a) << s) + (b >> (n - s))
+    (wrap(a, n - s) << s) + (b >> (n - s))
 }
 
 /// What `G_FSHL` gives: the high half of one value above another, shifted left.

@@ -6,9 +6,10 @@ ghost use Rattle.gi_meaning.specs.Generic as generic;
 ghost use Rattle.gi_meaning.specs.Given.{unless_broken};
 ghost use Rattle.gi_meaning.specs.Plain.{with_sign, given_of, differ};
 
-use crate::bits::{bits_of, greatest, is_negative, low_bits, sign_bit, size};
+use crate::bits::{bits_of, greatest, is_negative, sign_bit, size};
 use crate::gives::Gives;
 use gi_mir::operand::Flags;
+use gi_llt::wrap;
 
 /// The value, or any where a promise about it is broken.
 pub fn unless_broken(broken: bool, n: u16, value: u128) -> Gives
@@ -111,7 +112,7 @@ pub fn low_sum(n: u16, a: u128, b: u128) -> u128
     requires limit { n ≤ 128 }
     ensures { result ≡ wrapped n (a + b) }
 {
-    low_bits(n, a.wrapping_add(b))
+    wrap(a.wrapping_add(b), n)
 }
 
 /// The low bits of a product.
@@ -121,7 +122,7 @@ pub fn low_product(n: u16, a: u128, b: u128) -> u128
     requires limit { n ≤ 128 }
     ensures { result ≡ wrapped n (a * b) }
 {
-    low_bits(n, a.wrapping_mul(b))
+    wrap(a.wrapping_mul(b), n)
 }
 
 /// What a difference gives, without any promise.
@@ -133,7 +134,7 @@ pub fn low_difference(n: u16, a: u128, b: u128) -> u128
     if a < b {
         bits_of(n, true, b - a)
     } else {
-        low_bits(n, a - b)
+        wrap(a - b, n)
     }
 }
 

@@ -1,8 +1,9 @@
 //! What the instructions of RISC-V compute on words.
 
-ghost use Rattle.std.specs.Prelude.{◌≡◌, ◌%◌, ◌^◌, ◌<◌, ◌⊎◌, [], ◌∷◌, if◌then◌else◌, ◌==◌};
+ghost use Rattle.std.specs.Prelude.{◌≡◌, ◌%◌, ◌^◌, ◌<◌, ◌⊎◌, ℕ, List, [], ◌∷◌, if◌then◌else◌, ◌==◌};
 ghost use Rattle.gi_llt.specs.Bits.{unsigned};
 ghost use Rattle.gi_mir.specs.declared.operand.SymbolFlag.TheVariants as flag;
+ghost use Rattle.gi_mir.specs.declared.opcode.Opcode as Opcode;
 ghost use Rattle.gi_meaning.specs.Argument.{Value, Number, Symbol};
 ghost use Rattle.gi_meaning.specs.Given.{one, Undefined};
 ghost use Rattle.gi_meaning.specs.Machine as machine;
@@ -10,16 +11,16 @@ ghost use Rattle.gi_meaning.specs.Meaning.{meaning_of};
 ghost use Rattle.gi_meaning.specs.Plain.{given_of};
 ghost use Rattle.gi_meaning.specs.Words.{word_of, word_given};
 
-use crate::bits::{bits_of, greatest, low_bits};
-use crate::casts::sign_extended;
+use crate::bits::{bits_of, greatest};
+use crate::casts::{sign_extended, sign_extended_in_register};
 use crate::choices::is_less_signed;
 use crate::divisions::{signed_quotient_of, signed_remainder_of};
 use crate::gives::Gives;
-use crate::parts::{signed_high_product, unsigned_high_product};
 use crate::shifts::{arithmetic_shift, power};
 use crate::sums::{bit_of, low_difference, low_product, low_sum};
 use gi_mir::opcode::Opcode;
 use gi_mir::operand::Flags;
+use gi_llt::{high_product, wrap};
 
 /// An operation on two words.
 #[derive(Clone, Copy, Debug, PartialEq, Eq)]
@@ -91,8 +92,8 @@ pub fn word(operation: Operation, x: u16, a: u128, b: u128) -> u128
         Operation::Left => low_product(x, a, power(amount(x, b))),
         Operation::Right => a >> amount(x, b),
         Operation::ArithmeticRight => arithmetic_shift(x, a, amount(x, b)),
-        Operation::High => signed_high_product(x, a, b),
-        Operation::HighUnsigned => unsigned_high_product(x, a, b),
+        Operation::High => high_product(a, b, x, true),
+        Operation::HighUnsigned => high_product(a, b, x, false),
         Operation::Quotient => quotient(x, a, b),
         Operation::QuotientUnsigned => if b == 0 { greatest(x) } else { a / b },
         Operation::Remainder => remainder(x, a, b),
@@ -109,7 +110,7 @@ pub fn on_low_half(operation: Operation, x: u16, a: u128, b: u128) -> Gives
     if x != 64 {
         return Gives::Undefined;
     }
-    let low = word(operation, 32, low_bits(32, a), low_bits(32, b));
+    let low = word(operation, 32, wrap(a, 32), wrap(b, 32));
     Gives::One(sign_extended(32, x, low))
 }
 
@@ -280,4 +281,38 @@ pub fn of_number(op: Opcode, flags: Flags, x: u16, number: i128) -> Gives
         }
         _ => Gives::Undefined,
     }
+}
+
+/// The signed rest of an address, from -2048 to 2047, as a word.
+pub fn rest_of(x: u16, address: u128) -> u128
+    requires { (x ≡ 32) ⊎ (x ≡ 64) }
+    ensures { result ≡ machine.rest_of x address }
+{
+    sign_extended_in_register(x, address, 12)
+}
+
+/// The address rounded to the nearest 4096, without its low 12 bits, modulo `2 ^ 20`.
+pub fn upper_of(address: u128) -> u128
+    requires { address < 2 ^ 64 }
+    ensures value { result ≡ machine.upper_of address }
+    ensures bound { result < 2 ^ 20 }
+{
+    (address + 2048) / 4096 % 1_048_576
+}
+
+/// What `ADDI` gives of a register and the low part of a symbol's address.
+pub fn with_low_part(flags: Flags, x: u16, a: u128, address: u128) -> Gives
+    requires { (x ≡ 32) ⊎ (x ≡ 64) }
+    ensures { (name : List ℕ) → given_of result ≡ word_given (meaning_of flags Opcode.AddImmediate) x (Value x a ∷ Symbol flag.Lo name address ∷ []) }
+{
+    Gives::One(low_sum(x, a, rest_of(x, address)))
+}
+
+/// What `LUI` gives of the high part of a symbol's address.
+pub fn high_part(flags: Flags, x: u16, address: u128) -> Gives
+    requires xlen { (x ≡ 32) ⊎ (x ≡ 64) }
+    requires fits { address < 2 ^ 64 }
+    ensures { (name : List ℕ) → given_of result ≡ word_given (meaning_of flags Opcode.LoadUpperImmediate) x (Symbol flag.Hi name address ∷ []) }
+{
+    Gives::One(upper_word(x, upper_of(address)))
 }

@@ -10,7 +10,7 @@ returns c =
     let n = c.args.n in let s = c.args.s in
     let whole : c.args.a % 2 ^ (n - s) * 2 ^ s % 2 ^ 128 ≡ c.args.a % 2 ^ (n - s) * 2 ^ s =
       shl_whole (c.args.a % 2 ^ (n - s)) (n - s) s 128 (mod-lt c.args.a (pow_pos (n - s))) (omega arith) in
-    ap (λ m. m * 2 ^ s % 2 ^ 128 + c.args.b / 2 ^ (n - s)) c.low_bits.ensures
+    ap (λ m. m * 2 ^ s % 2 ^ 128 + c.args.b / 2 ^ (n - s)) c.wrap.ensures
       ∙ ap (λ m. m + c.args.b / 2 ^ (n - s)) whole
 
 pub overflow_add-result : goal.overflow_add-result
