@@ -1,6 +1,6 @@
 //! The one result of an operation on known values.
 
-ghost use Rattle.std.specs.Prelude.{◌≡◌, ◌+◌, ◌*◌, ◌^◌, ◌<◌, ◌≤◌, ◌⊎◌, true, [], ◌∷◌, length, Some};
+ghost use Rattle.std.specs.Prelude.{◌≡◌, ◌+◌, ◌*◌, ◌^◌, ◌<◌, ◌≤◌, ◌⊎◌, true, [], ◌∷◌, is_some, IfSome};
 ghost use Rattle.gi_llt.specs.Llt.{width_of};
 ghost use Rattle.gi_mir.specs.Accepted as accepted;
 ghost use Rattle.gi_meaning.specs.Fold as folding;
@@ -281,10 +281,35 @@ pub fn computed(target: Target, op: Opcode, flags: Flags, pred: Option<Pred>, ou
     }
 }
 
+/// What an operation on known values gives: `None` exactly where the types or the values aren't those that
+/// the opcode takes, where a comparison has no predicate or another opcode has one, and for every opcode
+/// that has another operand or no one result.
+pub fn given(
+    op: Opcode,
+    flags: Flags,
+    pred: Option<Pred>,
+    outcome: Llt,
+    target: Target,
+    types: &[Llt],
+    args: &[u128],
+) -> Option<Gives>
+    requires { (target.xlen ≡ 32) ⊎ (target.xlen ≡ 64) }
+    ensures computed { is_some result ≡ folding.can_fold op pred outcome target.xlen types.now args.now }
+    ensures value { IfSome result (λ gives. given_of gives ≡ folding.gives_of (meaning_of flags op) (width_of target.xlen outcome ∷ []) (folding.after_test pred (folding.registers target.xlen types.now args.now))) }
+{
+    if !is_computed(op)
+        || !takes(op, pred)
+        || !is_any(target.xlen, outcome)
+        || !accepts(target, op, &[outcome], types)
+        || !are_values(target, types, args)
+    {
+        return None;
+    }
+    Some(computed(target, op, flags, pred, outcome, types, args))
+}
+
 /// The one result of an operation on known values: `None` exactly where its definition leaves a choice or
-/// promises nothing, where the types or the values aren't those that the opcode takes, where a comparison
-/// has no predicate or another opcode has one, and for every opcode that has another operand or no one
-/// result.
+/// promises nothing, and where `given` is `None`.
 pub fn fold(
     op: Opcode,
     flags: Flags,
@@ -297,13 +322,8 @@ pub fn fold(
     requires { (target.xlen ≡ 32) ⊎ (target.xlen ≡ 64) }
     ensures { result ≡ folding.fold_of op flags pred outcome target.xlen types.now args.now }
 {
-    if !is_computed(op)
-        || !takes(op, pred)
-        || !is_any(target.xlen, outcome)
-        || !accepts(target, op, &[outcome], types)
-        || !are_values(target, types, args)
-    {
-        return None;
+    match given(op, flags, pred, outcome, target, types, args) {
+        Some(gives) => only_result(gives),
+        None => None,
     }
-    only_result(computed(target, op, flags, pred, outcome, types, args))
 }
