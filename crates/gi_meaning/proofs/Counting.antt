@@ -7,8 +7,9 @@ use Rattle.gi_meaning.specs.Generic.{leading_zeros, trailing_zeros, ones, revers
 pub leading_zeros_le : (n a : ℕ) → leading_zeros n a ≤ n
 leading_zeros_le zero a = omega arith
 leading_zeros_le (suc n) a = elim (cases_lt a (2 ^ n)) [
-    inl h ↦ (rw (lt-ltb a (2 ^ n) h) (omega (arith, leading_zeros_le n a)))
-  | inr h ↦ (rw (le-ltb a (2 ^ n) h) (omega arith)) ]
+  | inl h ↦ (rw (lt-ltb a (2 ^ n) h) (omega (arith, leading_zeros_le n a)))
+  | inr h ↦ (rw (le-ltb a (2 ^ n) h) (omega arith))
+]
 
 -- after i zeros, one more
 pub leading_more : (n i a : ℕ) → i < n → a < 2 ^ (n - 1 - i) → i + 1 + leading_zeros (n - (i + 1)) a ≡ i + leading_zeros (n - i) a
@@ -29,8 +30,9 @@ leading_none n i a h = let e : n - i ≡ 0 = omega arith in ap (λ m. leading_ze
 pub trailing_zeros_le : (n a : ℕ) → trailing_zeros n a ≤ n
 trailing_zeros_le zero a = omega arith
 trailing_zeros_le (suc n) a = elim (cases_eq (a % 2) 0) [
-    inl h ↦ (rw (eq-eqb (a % 2) 0 h) (omega (arith, trailing_zeros_le n (a / 2))))
-  | inr h ↦ (rw (ne_eqb (a % 2) 0 h) (omega arith)) ]
+  | inl h ↦ (rw (eq-eqb (a % 2) 0 h) (omega (arith, trailing_zeros_le n (a / 2))))
+  | inr h ↦ (rw (ne_eqb (a % 2) 0 h) (omega arith))
+]
 
 pub trailing_more : (n i a : ℕ) → i < n → a % 2 ≡ 0 → i + 1 + trailing_zeros (n - (i + 1)) (a / 2) ≡ i + trailing_zeros (n - i) a
 trailing_more n i a h l =

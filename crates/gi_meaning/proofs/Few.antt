@@ -99,7 +99,8 @@ two_alike_values x op whole (a ∷ b ∷ []) (v ∷ u ∷ []) w c f y h e l =
     record {
       a_value = value_like x a whole v w y s.0 p.0;
       b_fits = subst (λ k. u < 2 ^ k) s.1 (value_bits x b u w q.0).0;
-      same = ap₂ (λ j k. Value j v ∷ Value k u ∷ []) s.0 s.1 }
+      same = ap₂ (λ j k. Value j v ∷ Value k u ∷ []) s.0 s.1;
+    }
 
 -- three registers of the width of the result
 pub record ThreeAlike (x : ℕ) (whole : Llt) (types : List Llt) (values : List ℕ) : Type 0 where
@@ -123,7 +124,7 @@ three_alike_values x whole (a ∷ b ∷ d ∷ []) (v ∷ u ∷ z ∷ []) w h e =
     let p : (is_value x a v ≡ true) × ((is_value x b u && (is_value x d z && true)) ≡ true) = and_parts (is_value x a v) (is_value x b u && (is_value x d z && true)) e in
     let q : (is_value x b u ≡ true) × ((is_value x d z && true) ≡ true) = and_parts (is_value x b u) (is_value x d z && true) p.1 in
     let g : ((is_rotatable x whole && same_type whole a && same_type whole b) ≡ true) × (same_type whole d ≡ true) =
-      and_parts (is_rotatable x whole && same_type whole a && same_type whole b) (same_type whole d) h in
+    and_parts (is_rotatable x whole && same_type whole a && same_type whole b) (same_type whole d) h in
     let s : (width_of x a ≡ width_of x whole) × (width_of x b ≡ width_of x whole) = alike_two x (is_rotatable x whole) whole a b g.0 in
     let t : width_of x d ≡ width_of x whole = sym (same_width x whole d g.1) in
     let n : (v < 2 ^ width_of x a) × (0 < width_of x a) × (width_of x a ≤ 128) = value_bits x a v w p.0 in
@@ -133,7 +134,8 @@ three_alike_values x whole (a ∷ b ∷ d ∷ []) (v ∷ u ∷ z ∷ []) w h e =
       positive = subst (λ k. 0 < k) s.0 n.1;
       limit = subst (λ k. k ≤ 128) s.0 n.2;
       same = ap₂ (λ j k. Value j v ∷ Value k u ∷ Value (width_of x d) z ∷ []) s.0 s.1 ∙ ap (λ k. Value (width_of x whole) v ∷ Value (width_of x whole) u ∷ Value k z ∷ []) t;
-      three = refl }
+      three = refl;
+    }
 
 -- one register
 pub record OneRegister (x : ℕ) (types : List Llt) (values : List ℕ) (d : Llt) : Type 0 where

@@ -95,7 +95,8 @@ parts_alike x part (t ∷ ts) (v ∷ vs) h e =
     record {
       fit = All-cons (λ m. m < 2 ^ width_of x part) v vs small r.fit;
       whole = ap (λ w. v + 2 ^ w * merged (registers x ts vs)) (sym s) ∙ ap (λ m. v + 2 ^ width_of x part * m) r.whole;
-      count = ap suc r.count }
+      count = ap suc r.count;
+    }
 
 same_self : (a : Llt) → same_type a a ≡ true
 same_self (Scalar n) = eq-eqb n n refl
@@ -130,7 +131,8 @@ merge_facts x whole (part ∷ parts) values d h m e =
     record {
       room = subst (λ j. width_of x part * j ≤ 128) (sym c) (subst (λ j. j * (length parts + 1) ≤ 128) s (omega arith));
       fit = r.fit;
-      whole = r.whole }
+      whole = r.whole;
+    }
 
 pub merge_at : (x w : ℕ) (whole : Llt) (types : List Llt) (values : List ℕ) (d : Llt) → w ≡ width_of x (get_or types 0 d) → (x ≡ 32) ⊎ (x ≡ 64) → merge x (whole ∷ []) types ≡ true → are_values x types values ≡ true → Merges x w types values
 merge_at x w whole types values d s h m e = subst (λ (j : ℕ). Merges x j types values) (sym s) (merge_facts x whole types values d h m e)

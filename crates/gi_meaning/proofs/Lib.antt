@@ -8,3 +8,4 @@ pub mod Order
 pub mod Quotients
 pub mod Renaming
 pub mod Shifting
+pub mod Values

@@ -48,11 +48,12 @@ merged_turn w done values total h room all e b =
     let here : length values - (done + 1) ≡ i = omega arith in
     let after : i + 1 ≡ length values - done = omega arith in
     let step : merged_of w (drop i values) ≡ v + 2 ^ w * total =
-      merged_step w i values below ∙ ap (λ m. v + 2 ^ w * m) (ap (λ k. merged_of w (drop k values)) after ∙ sym e) in
+    merged_step w i values below ∙ ap (λ m. v + 2 ^ w * m) (ap (λ k. merged_of w (drop k values)) after ∙ sym e) in
     record {
       value = next ∙ (turned v total (2 ^ w) ∙ (sym step ∙ ap (λ k. merged_of w (drop k values)) (sym here)));
       bound = omega arith;
-      fits = omega arith }
+      fits = omega arith;
+    }
 
 pub wide_quotient : (w v : ℕ) → 128 ≤ w → v < 2 ^ 128 → v / 2 ^ w ≡ 0
 wide_quotient w v h l = let p : 2 ^ 128 ≤ 2 ^ w = pow-le-pow_right (lit< tt) h in div-eq_of_lt (omega arith)
@@ -66,4 +67,4 @@ no_remainder v = let h : v % 1 < 1 = mod-lt v (lit< tt) in omega arith
 pub part_step : (widths : List ℕ) (i d rest : ℕ) → i < length widths → parts_of (drop i widths) rest ≡ rest % 2 ^ get_or widths i d ∷ parts_of (drop (i + 1) widths) (rest / 2 ^ get_or widths i d)
 part_step widths i d rest h =
     ap (λ ws. parts_of ws rest) (drop-cons widths i d h)
-      ∙ ap (λ k. rest % 2 ^ get_or widths i d ∷ parts_of (drop k widths) (rest / 2 ^ get_or widths i d)) (sym (add-one i))
+    ∙ ap (λ k. rest % 2 ^ get_or widths i d ∷ parts_of (drop k widths) (rest / 2 ^ get_or widths i d)) (sym (add-one i))

@@ -27,9 +27,10 @@ mod-step k p h =
     let below : k % p < p = mod-lt k h in
     let s : suc k % p ≡ suc (k % p) % p = suc-mod k p in
     elim (cases_lt (k % p + 1) p) [
-      inl lt ↦ (let m : suc (k % p) % p ≡ suc (k % p) = mod-eq_of_lt (omega arith) in inr (omega arith, lt))
-    | inr le ↦ (let e : suc (k % p) ≡ p = omega arith in
-                let m : suc (k % p) % p ≡ 0 = ap (λ x. x % p) e ∙ mod_self p in inl (omega arith, omega arith)) ]
+      | inl lt ↦ (let m : suc (k % p) % p ≡ suc (k % p) = mod-eq_of_lt (omega arith) in inr (omega arith, lt))
+      | inr le ↦ (let e : suc (k % p) ≡ p = omega arith in
+          let m : suc (k % p) % p ≡ 0 = ap (λ x. x % p) e ∙ mod_self p in inl (omega arith, omega arith))
+    ]
 
 pub unsigned-neg : (n size : ℕ) → 0 < size % 2 ^ n → unsigned n (neg_ℤ (pos size)) ≡ 2 ^ n - 1 - (size % 2 ^ n - 1)
 unsigned-neg n zero h = absurd (omega (arith, zero-mod (2 ^ n)))
@@ -52,8 +53,9 @@ signed-high n a h = rw (le-ltb a (2 ^ (n - 1)) h) refl
 -- a value that is read with a sign is its sign and its size
 pub signed_is : (n a : ℕ) → signed n a ≡ with_sign (nat_le (2 ^ (n - 1)) a) (nat_abs (signed n a))
 signed_is n a = elim (cases_lt a (2 ^ (n - 1))) [
-    inl h ↦ (rw (lt-leb (2 ^ (n - 1)) a h, lt-ltb a (2 ^ (n - 1)) h) refl)
-  | inr h ↦ (rw (le-leb (2 ^ (n - 1)) a h, le-ltb a (2 ^ (n - 1)) h) (ap (λ m. neg_ℤ (pos m)) (sym (nat_abs-neg (2 ^ n - a))))) ]
+  | inl h ↦ (rw (lt-leb (2 ^ (n - 1)) a h, lt-ltb a (2 ^ (n - 1)) h) refl)
+  | inr h ↦ (rw (le-leb (2 ^ (n - 1)) a h, le-ltb a (2 ^ (n - 1)) h) (ap (λ m. neg_ℤ (pos m)) (sym (nat_abs-neg (2 ^ n - a)))))
+]
 
 leaves-pos_at : (half m : ℕ) → 0 < half → (int_lt (pos m) (neg_ℤ (pos half)) || int_le (pos half) (pos m)) ≡ nat_le half m
 leaves-pos_at zero m h = absurd (omega arith)

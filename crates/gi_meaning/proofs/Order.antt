@@ -42,6 +42,7 @@ less_from p a b h l = grind (arith, nat_tests)
 
 pub less_alike : (n a b : ℕ) → nat_le (2 ^ (n - 1)) a ≡ nat_le (2 ^ (n - 1)) b → a < 2 ^ n → b < 2 ^ n → int_lt (signed n a) (signed n b) ≡ nat_lt a b
 less_alike n a b h f g = elim (cases_Bool (nat_le (2 ^ (n - 1)) a)) [
-    inl t ↦ (rw (signed-high n a (leb-true (2 ^ (n - 1)) a t), signed-high n b (leb-true (2 ^ (n - 1)) b (sym h ∙ t)))
+  | inl t ↦ (rw (signed-high n a (leb-true (2 ^ (n - 1)) a t), signed-high n b (leb-true (2 ^ (n - 1)) b (sym h ∙ t)))
       (neg_less_neg (2 ^ n - a) (2 ^ n - b) (omega arith) (omega arith) ∙ less_from (2 ^ n) a b f g))
-  | inr t ↦ (rw (signed-low n a (leb-false (2 ^ (n - 1)) a t), signed-low n b (leb-false (2 ^ (n - 1)) b (sym h ∙ t))) refl) ]
+  | inr t ↦ (rw (signed-low n a (leb-false (2 ^ (n - 1)) a t), signed-low n b (leb-false (2 ^ (n - 1)) b (sym h ∙ t))) refl)
+]

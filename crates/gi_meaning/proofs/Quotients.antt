@@ -29,8 +29,9 @@ remainder true true (suc m) k = ap (λ d. neg_ℤ (pos (suc m % d))) (nat_abs-ne
 
 pub size_positive : (n b : ℕ) → 0 < b → b < 2 ^ n → 0 < nat_abs (signed n b)
 size_positive n b h l = elim (cases_lt b (2 ^ (n - 1))) [
-    inl low ↦ (rw (signed-low n b low) h)
-  | inr high ↦ (rw (signed-high n b high) (rw (nat_abs-neg (2 ^ n - b)) (omega arith))) ]
+  | inl low ↦ (rw (signed-low n b low) h)
+  | inr high ↦ (rw (signed-high n b high) (rw (nat_abs-neg (2 ^ n - b)) (omega arith)))
+]
 
 pub signed_quotient_is : (n a b : ℕ) → int_div (signed n a) (signed n b) ≡ with_sign (differ (nat_le (2 ^ (n - 1)) a) (nat_le (2 ^ (n - 1)) b)) (nat_abs (signed n a) / nat_abs (signed n b))
 signed_quotient_is n a b = ap₂ int_div (signed_is n a) (signed_is n b) ∙ quotient (nat_le (2 ^ (n - 1)) a) (nat_le (2 ^ (n - 1)) b) (nat_abs (signed n a)) (nat_abs (signed n b))

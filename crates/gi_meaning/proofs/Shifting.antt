@@ -43,8 +43,8 @@ complement p q c h l =
     let e : p ≡ p - 1 - c / q + c / q + 1 = omega arith in
     let f : c ≡ c / q * q + c % q = sym (div-add-mod' c q) in
     ap₂ (λ x y. (x * q - 1 - y) / q) e f
-      ∙ (ap (λ m. m / q) (complement_of (p - 1 - c / q) (c / q) (c % q) q (mod-lt c h))
-      ∙ div-mul-add (p - 1 - c / q) q (q - 1 - c % q) (omega arith))
+    ∙ (ap (λ m. m / q) (complement_of (p - 1 - c / q) (c / q) (c % q) q (mod-lt c h))
+    ∙ div-mul-add (p - 1 - c / q) q (q - 1 - c % q) (omega arith))
 
 pub arithmetic_high : (n a k : ℕ) → nat_le (2 ^ (n - 1)) a ≡ true → a < 2 ^ n → arithmetic_shift_of n a k ≡ 2 ^ n - 1 - (2 ^ n - 1 - a) / 2 ^ k
 arithmetic_high n a k h l =
@@ -53,7 +53,7 @@ arithmetic_high n a k h l =
     let z : neg_ℤ (pos (2 ^ n - a)) ≡ negsuc (2 ^ n - 1 - a) = negated (2 ^ n) a l in
     let small : (2 ^ n - 1 - a) % 2 ^ (n + k) ≡ 2 ^ n - 1 - a = mod-eq_of_lt (omega arith) in
     let e : sign_extended n (n + k) a ≡ 2 ^ n * 2 ^ k - 1 - (2 ^ n - 1 - a) =
-        ap (λ m. unsigned (n + k) (signed n m)) (mod-eq_of_lt l) ∙ (ap (unsigned (n + k)) (signed-high n a high ∙ z) ∙ (ap (λ m. 2 ^ (n + k) - 1 - m) small ∙ ap (λ m. m - 1 - (2 ^ n - 1 - a)) (pow-add 2 n k))) in
+    ap (λ m. unsigned (n + k) (signed n m)) (mod-eq_of_lt l) ∙ (ap (unsigned (n + k)) (signed-high n a high ∙ z) ∙ (ap (λ m. 2 ^ (n + k) - 1 - m) small ∙ ap (λ m. m - 1 - (2 ^ n - 1 - a)) (pow-add 2 n k))) in
     let c : (2 ^ n * 2 ^ k - 1 - (2 ^ n - 1 - a)) / 2 ^ k ≡ 2 ^ n - 1 - (2 ^ n - 1 - a) / 2 ^ k = complement (2 ^ n) (2 ^ k) (2 ^ n - 1 - a) (pow_pos k) (omega arith) in
     ap (λ m. m / 2 ^ k % 2 ^ n) e ∙ (ap (λ m. m % 2 ^ n) c ∙ mod-eq_of_lt (omega arith))
 
@@ -65,9 +65,9 @@ fitted : (s t a q : ℕ) → 0 < t → q < s → (a * s + q) % (t * s) ≡ a % t
 fitted s t a q h l =
     let below : a % t * s + q < s * t = mul-add-lt (a % t) s q t (mod-lt a h) l in
     ap (λ m. (m * s + q) % (t * s)) (sym (div-add-mod' a t))
-      ∙ (ap (λ m. m % (t * s)) (spread (a / t) t (a % t) s q)
-      ∙ (add-mul-mod_self_left (a % t * s + q) (t * s) (a / t)
-      ∙ mod-eq_of_lt (omega arith)))
+    ∙ (ap (λ m. m % (t * s)) (spread (a / t) t (a % t) s q)
+    ∙ (add-mul-mod_self_left (a % t * s + q) (t * s) (a / t)
+    ∙ mod-eq_of_lt (omega arith)))
 
 quotient_below : (s t b : ℕ) → 0 < t → b < t * s → b / t < s
 quotient_below s t b h l = div_below b t s h (omega arith)
@@ -81,9 +81,9 @@ scaled_below s t r h l = omega (arith, mul-add-lt r s 0 t l h)
 left_at : (s t a b : ℕ) → 0 < s → 0 < t → b < t * s → (a * (t * s) + b) * s / (t * s) % (t * s) ≡ a % t * s + b / t
 left_at s t a b g h l =
     ap (λ m. (a * (t * s) + m) * s / (t * s) % (t * s)) (sym (div-add-mod' b t))
-      ∙ (ap (λ m. m / (t * s) % (t * s)) (shifted s t a (b / t) (b % t))
-      ∙ (ap (λ m. m % (t * s)) (div-mul-add (a * s + b / t) (t * s) (b % t * s) (scaled_below s t (b % t) g (mod-lt b h)))
-      ∙ fitted s t a (b / t) h (quotient_below s t b h l)))
+    ∙ (ap (λ m. m / (t * s) % (t * s)) (shifted s t a (b / t) (b % t))
+    ∙ (ap (λ m. m % (t * s)) (div-mul-add (a * s + b / t) (t * s) (b % t * s) (scaled_below s t (b % t) g (mod-lt b h)))
+    ∙ fitted s t a (b / t) h (quotient_below s t b h l)))
 
 regrouped : (s t a q r : ℕ) → a * (t * s) + (q * t + r) ≡ (a * s + q) * t + r
 regrouped s t a q r = omega arith
@@ -91,9 +91,9 @@ regrouped s t a q r = omega arith
 right_at : (s t a b : ℕ) → 0 < t → b < t * s → (a * (t * s) + b) / t % (t * s) ≡ a % t * s + b / t
 right_at s t a b h l =
     ap (λ m. (a * (t * s) + m) / t % (t * s)) (sym (div-add-mod' b t))
-      ∙ (ap (λ m. m / t % (t * s)) (regrouped s t a (b / t) (b % t))
-      ∙ (ap (λ m. m % (t * s)) (div-mul-add (a * s + b / t) t (b % t) (mod-lt b h))
-      ∙ fitted s t a (b / t) h (quotient_below s t b h l)))
+    ∙ (ap (λ m. m / t % (t * s)) (regrouped s t a (b / t) (b % t))
+    ∙ (ap (λ m. m % (t * s)) (div-mul-add (a * s + b / t) t (b % t) (mod-lt b h))
+    ∙ fitted s t a (b / t) h (quotient_below s t b h l)))
 
 -- 2 ^ n as a product
 parted : (n s : ℕ) → s ≤ n → 2 ^ n ≡ 2 ^ (n - s) * 2 ^ s
@@ -115,23 +115,23 @@ whole p a b h = let e : (a * p + b) * 2 ^ 0 ≡ a * p + b = omega arith in ap (�
 pub funnel_left_none : (n a b k : ℕ) → a < 2 ^ n → b < 2 ^ n → k % n ≡ 0 → funnel_left n a b k ≡ a
 funnel_left_none n a b k h l e =
     ap₂ (λ j m. (a * 2 ^ n + b) * 2 ^ j / 2 ^ m % 2 ^ n) e (one_time n)
-      ∙ (ap (λ m. m % 2 ^ n) (whole (2 ^ n) a b l) ∙ mod-eq_of_lt h)
+    ∙ (ap (λ m. m % 2 ^ n) (whole (2 ^ n) a b l) ∙ mod-eq_of_lt h)
 
 pub funnel_left_some : (n a b k s : ℕ) → a < 2 ^ n → b < 2 ^ n → k % n ≡ s → s < n → funnel_left n a b k ≡ a % 2 ^ (n - s) * 2 ^ s + b / 2 ^ (n - s)
 funnel_left_some n a b k s h l e u =
     let p : 2 ^ n ≡ 2 ^ (n - s) * 2 ^ s = parted n s (omega arith) in
     ap₂ (λ j m. (a * 2 ^ n + b) * 2 ^ j / 2 ^ m % 2 ^ n) e (one_time n)
-      ∙ (ap (λ m. (a * m + b) * 2 ^ s / m % m) p
-      ∙ left_at (2 ^ s) (2 ^ (n - s)) a b (pow_pos s) (pow_pos (n - s)) (omega arith))
+    ∙ (ap (λ m. (a * m + b) * 2 ^ s / m % m) p
+    ∙ left_at (2 ^ s) (2 ^ (n - s)) a b (pow_pos s) (pow_pos (n - s)) (omega arith))
 
 pub funnel_right_none : (n a b k : ℕ) → a < 2 ^ n → b < 2 ^ n → k % n ≡ 0 → funnel_right n a b k ≡ b
 funnel_right_none n a b k h l e =
     ap (λ j. (a * 2 ^ n + b) / 2 ^ j % 2 ^ n) e
-      ∙ (ap (λ m. m % 2 ^ n) (div-one (a * 2 ^ n + b)) ∙ mod-mul-add a (2 ^ n) b l)
+    ∙ (ap (λ m. m % 2 ^ n) (div-one (a * 2 ^ n + b)) ∙ mod-mul-add a (2 ^ n) b l)
 
 pub funnel_right_some : (n a b k s : ℕ) → a < 2 ^ n → b < 2 ^ n → k % n ≡ n - s → s < n → 0 < s → funnel_right n a b k ≡ a % 2 ^ (n - s) * 2 ^ s + b / 2 ^ (n - s)
 funnel_right_some n a b k s h l e u v =
     let p : 2 ^ n ≡ 2 ^ (n - s) * 2 ^ s = parted n s (omega arith) in
     ap (λ j. (a * 2 ^ n + b) / 2 ^ j % 2 ^ n) e
-      ∙ (ap (λ m. (a * m + b) / 2 ^ (n - s) % m) p
-      ∙ right_at (2 ^ s) (2 ^ (n - s)) a b (pow_pos (n - s)) (omega arith))
+    ∙ (ap (λ m. (a * m + b) / 2 ^ (n - s) % m) p
+    ∙ right_at (2 ^ s) (2 ^ (n - s)) a b (pow_pos (n - s)) (omega arith))

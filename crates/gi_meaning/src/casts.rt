@@ -8,8 +8,8 @@ ghost use Rattle.gi_meaning.specs.Plain.{given_of};
 
 use crate::bits::{bits_of, is_negative, size};
 use crate::gives::Gives;
-use gi_mir::operand::Flags;
 use gi_llt::wrap;
+use gi_mir::operand::Flags;
 
 /// Bit `m - 1` copied upward, up to `n` bits.
 #[tactic(auto, using(crate::proofs::Numbers::extended_is))]
@@ -31,7 +31,11 @@ pub fn zero_extension(flags: Flags, m: u16, n: u16, a: u128) -> Gives
     ensures { given_of result ≡ generic.zero_extension flags m n a }
 {
     if flags.nneg && is_negative(m, a) {
-        Gives::LowBits { known: m, width: n, value: a }
+        Gives::LowBits {
+            known: m,
+            width: n,
+            value: a,
+        }
     } else {
         Gives::One(a)
     }
@@ -44,7 +48,11 @@ pub fn any_extension(m: u16, n: u16, a: u128) -> Gives
     if m == n {
         Gives::One(a)
     } else {
-        Gives::LowBits { known: m, width: n, value: a }
+        Gives::LowBits {
+            known: m,
+            width: n,
+            value: a,
+        }
     }
 }
 

@@ -5,8 +5,8 @@ ghost use Rattle.gi_llt.specs.Bits.{signed, unsigned};
 ghost use Rattle.gi_meaning.specs.Generic as generic;
 
 use crate::bits::{is_negative, size};
-use gi_mir::operand::Pred;
 use gi_llt::wrap;
+use gi_mir::operand::Pred;
 
 /// Whether the first value is less than the second where both are read with a sign.
 #[tactic(auto, using(crate::proofs::Order::less_low_high, crate::proofs::Order::less_high_low, crate::proofs::Order::less_alike))]

@@ -133,7 +133,14 @@ pub fn merged(target: Target, outcome: Llt, types: &[Llt], values: &[u128]) -> G
 }
 
 /// What a high product gives.
-pub fn high_product(target: Target, op: Opcode, flags: Flags, outcome: Llt, types: &[Llt], values: &[u128]) -> Gives
+pub fn high_product(
+    target: Target,
+    op: Opcode,
+    flags: Flags,
+    outcome: Llt,
+    types: &[Llt],
+    values: &[u128],
+) -> Gives
     requires xlen { (target.xlen ≡ 32) ⊎ (target.xlen ≡ 64) }
     requires high { (op ≡ Opcode.GenericUnsignedMultiplyHigh) ⊎ (op ≡ Opcode.GenericSignedMultiplyHigh) }
     requires accepted { accepted.accepts target.xlen op (outcome ∷ []) types.now ≡ true }
@@ -216,7 +223,14 @@ pub fn of_two(target: Target, op: Opcode, flags: Flags, outcome: Llt, a: u128, b
 
 /// What an opcode of at most two registers gives.
 #[tactic(auto, using(crate::proofs::Few::few_lengths, crate::proofs::Few::few_none, crate::proofs::Few::few_two))]
-pub fn of_few(target: Target, op: Opcode, flags: Flags, outcome: Llt, types: &[Llt], values: &[u128]) -> Gives
+pub fn of_few(
+    target: Target,
+    op: Opcode,
+    flags: Flags,
+    outcome: Llt,
+    types: &[Llt],
+    values: &[u128],
+) -> Gives
     requires xlen { (target.xlen ≡ 32) ⊎ (target.xlen ≡ 64) }
     requires computed { folding.is_computed op ≡ true }
     requires few { folding.reads_few op ≡ true }
@@ -234,7 +248,14 @@ pub fn of_few(target: Target, op: Opcode, flags: Flags, outcome: Llt, types: &[L
 }
 
 /// What a funnel shift gives of three registers.
-pub fn of_three(target: Target, op: Opcode, flags: Flags, outcome: Llt, types: &[Llt], values: &[u128]) -> Gives
+pub fn of_three(
+    target: Target,
+    op: Opcode,
+    flags: Flags,
+    outcome: Llt,
+    types: &[Llt],
+    values: &[u128],
+) -> Gives
     requires xlen { (target.xlen ≡ 32) ⊎ (target.xlen ≡ 64) }
     requires funnel { (op ≡ Opcode.GenericFunnelShiftLeft) ⊎ (op ≡ Opcode.GenericFunnelShiftRight) }
     requires accepted { accepted.three_alike (accepted.is_rotatable target.xlen) (outcome ∷ []) types.now ≡ true }
@@ -258,7 +279,15 @@ pub fn only_result(gives: Gives) -> Option<u128>
 }
 
 /// What an operation that can be computed gives.
-pub fn computed(target: Target, op: Opcode, flags: Flags, pred: Option<Pred>, outcome: Llt, types: &[Llt], values: &[u128]) -> Gives
+pub fn computed(
+    target: Target,
+    op: Opcode,
+    flags: Flags,
+    pred: Option<Pred>,
+    outcome: Llt,
+    types: &[Llt],
+    values: &[u128],
+) -> Gives
     requires xlen { (target.xlen ≡ 32) ⊎ (target.xlen ≡ 64) }
     requires computed { folding.is_computed op ≡ true }
     requires test { folding.takes op pred ≡ true }

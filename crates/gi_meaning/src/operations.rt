@@ -16,9 +16,9 @@ use crate::shifts::{
     arithmetically_shifted_right, funnel_left, funnel_right, shifted_left, shifted_right,
 };
 use crate::sums::{difference, low_sum, product, sum, unless_broken};
+use gi_llt::wrap;
 use gi_mir::opcode::Opcode;
 use gi_mir::operand::{Flags, Pred};
-use gi_llt::wrap;
 
 /// What a copy gives.
 pub fn copied(m: u16, n: u16, a: u128) -> Gives
@@ -27,7 +27,11 @@ pub fn copied(m: u16, n: u16, a: u128) -> Gives
     ensures { given_of result ≡ copied m n a }
 {
     if m < n {
-        Gives::LowBits { known: m, width: n, value: a }
+        Gives::LowBits {
+            known: m,
+            width: n,
+            value: a,
+        }
     } else if m == n {
         Gives::One(a)
     } else {

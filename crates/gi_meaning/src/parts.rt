@@ -4,8 +4,8 @@ ghost use Rattle.std.specs.Prelude.{◌≡◌, ◌+◌, ◌-◌, ◌*◌, ◌/�
 ghost use Rattle.gi_meaning.specs.Generic.{parts_of};
 ghost use Rattle.gi_meaning.specs.Plain.{merged_of};
 
-use std::alloc::{AllocError, Global};
 use gi_llt::wrap;
+use std::alloc::{AllocError, Global};
 
 /// Equal parts of `w` bits put together, the first in the lowest bits.
 pub fn merged_of(w: u16, values: &[u128]) -> u128

@@ -9,14 +9,18 @@ ghost use Rattle.gi_meaning.specs.Plain.{given_of};
 use crate::bits::{greatest, is_negative, size};
 use crate::gives::Gives;
 use crate::sums::{low_product, product_has_more_bits, product_leaves_signed, unless_broken};
-use gi_mir::operand::Flags;
 use gi_llt::wrap;
+use gi_mir::operand::Flags;
 
 /// Any value of so many bits.
 pub fn free(n: u16) -> Gives
     ensures { given_of result ≡ any_of n }
 {
-    Gives::LowBits { known: 0, width: n, value: 0 }
+    Gives::LowBits {
+        known: 0,
+        width: n,
+        value: 0,
+    }
 }
 
 /// The place of a bit as a number.
@@ -59,10 +63,10 @@ pub fn shifted_left(flags: Flags, n: u16, a: u128, k: u128) -> Gives
     requires a_fits { a < 2 ^ n }
     ensures { given_of result ≡ generic.shifted_left flags n a k }
 {
-    if k >= u128::from(n) {
-        free(n)
-    } else {
+    if k < u128::from(n) {
         left(flags, n, a, k as u16)
+    } else {
+        free(n)
     }
 }
 

@@ -8,15 +8,19 @@ ghost use Rattle.gi_meaning.specs.Plain.{with_sign, given_of, differ};
 
 use crate::bits::{bits_of, greatest, is_negative, sign_bit, size};
 use crate::gives::Gives;
-use gi_mir::operand::Flags;
 use gi_llt::wrap;
+use gi_mir::operand::Flags;
 
 /// The value, or any where a promise about it is broken.
 pub fn unless_broken(broken: bool, n: u16, value: u128) -> Gives
     ensures { given_of result ≡ unless_broken broken n value }
 {
     if broken {
-        Gives::LowBits { known: 0, width: n, value: 0 }
+        Gives::LowBits {
+            known: 0,
+            width: n,
+            value: 0,
+        }
     } else {
         Gives::One(value)
     }
@@ -146,8 +150,7 @@ pub fn sum(flags: Flags, n: u16, a: u128, b: u128) -> Gives
     requires b_fits { b < 2 ^ n }
     ensures { given_of result ≡ generic.sum flags n a b }
 {
-    let broken =
-        flags.nuw && a > greatest(n) - b || flags.nsw && sum_leaves_signed(n, a, b);
+    let broken = flags.nuw && a > greatest(n) - b || flags.nsw && sum_leaves_signed(n, a, b);
     unless_broken(broken, n, low_sum(n, a, b))
 }
 
@@ -184,8 +187,8 @@ pub fn product(flags: Flags, n: u16, a: u128, b: u128) -> Gives
     requires b_fits { b < 2 ^ n }
     ensures { given_of result ≡ generic.product flags n a b }
 {
-    let broken =
-        flags.nuw && product_has_more_bits(n, a, b) || flags.nsw && signed_product_leaves(n, a, b);
+    let broken = flags.nuw && product_has_more_bits(n, a, b)
+        || flags.nsw && signed_product_leaves(n, a, b);
     unless_broken(broken, n, low_product(n, a, b))
 }
 

@@ -18,9 +18,9 @@ use crate::divisions::{signed_quotient_of, signed_remainder_of};
 use crate::gives::Gives;
 use crate::shifts::{arithmetic_shift, power};
 use crate::sums::{bit_of, low_difference, low_product, low_sum};
+use gi_llt::{high_product, wrap};
 use gi_mir::opcode::Opcode;
 use gi_mir::operand::Flags;
-use gi_llt::{high_product, wrap};
 
 /// An operation on two words.
 #[derive(Clone, Copy, Debug, PartialEq, Eq)]
@@ -60,7 +60,11 @@ pub fn quotient(x: u16, a: u128, b: u128) -> u128
     requires b_fits { b < 2 ^ x }
     ensures { result ≡ machine.quotient_word x a b }
 {
-    if b == 0 { greatest(x) } else { signed_quotient_of(x, a, b) }
+    if b == 0 {
+        greatest(x)
+    } else {
+        signed_quotient_of(x, a, b)
+    }
 }
 
 /// The remainder of two words with signs, the dividend by zero.
@@ -70,7 +74,11 @@ pub fn remainder(x: u16, a: u128, b: u128) -> u128
     requires b_fits { b < 2 ^ x }
     ensures { result ≡ machine.remainder_word x a b }
 {
-    if b == 0 { a } else { signed_remainder_of(x, a, b) }
+    if b == 0 {
+        a
+    } else {
+        signed_remainder_of(x, a, b)
+    }
 }
 
 /// What an operation on two words gives.

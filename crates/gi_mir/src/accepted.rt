@@ -300,7 +300,8 @@ pub fn are_parts_of(x: u16, whole: Llt, parts: &[Llt]) -> bool
                 && 0 < rest.len()
                 && rest.len() < 16
                 && are_all(*part, rest)
-                && usize::from(scalar_bits(whole)) == (rest.len() + 1) * usize::from(scalar_bits(*part))
+                && usize::from(scalar_bits(whole))
+                    == (rest.len() + 1) * usize::from(scalar_bits(*part))
         }
     }
 }

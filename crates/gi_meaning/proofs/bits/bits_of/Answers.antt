@@ -9,5 +9,6 @@ returns-then-low-ne0 c =
 
 pub returns-else-negative : goal.returns-else-negative
 returns-else-negative c = elim c.else-negative.branch [
-    else-negative-via-then-negative+else-low-ne0 w ↦ negative_zero c.args.n c.args.size _ c.args.negative w.if-negative.true c.wrap-low.ensures (omega arith)
-  | else-negative-via-else-negative w ↦ positive_bits c.args.n c.args.size _ c.args.negative w.if-negative.false c.wrap-low.ensures ]
+  | else-negative-via-then-negative+else-low-ne0 w ↦ negative_zero c.args.n c.args.size _ c.args.negative w.if-negative.true c.wrap-low.ensures (omega arith)
+  | else-negative-via-else-negative w ↦ positive_bits c.args.n c.args.size _ c.args.negative w.if-negative.false c.wrap-low.ensures
+]

@@ -14,4 +14,4 @@ merged_of-requires-clause-fits c =
 pub returns-in-len1-up : goal.returns-in-len1-up
 returns-in-len1-up c =
     ap one (c.merged_of.ensures
-      ∙ sym (merge_at c.args.target.xlen c.width.result c.args.outcome c.args.types.now c.args.values.now _ c.width.ensures c.requires.xlen c.requires.accepted c.requires.fit).whole)
+    ∙ sym (merge_at c.args.target.xlen c.width.result c.args.outcome c.args.types.now c.args.values.now _ c.width.ensures c.requires.xlen c.requires.accepted c.requires.fit).whole)
