@@ -1,1 +1,11 @@
+pub mod Counting
+pub mod Few
+pub mod Folding
+pub mod Immediates
+pub mod Merging
+pub mod Numbers
+pub mod Order
+pub mod Quotients
 pub mod Renaming
+pub mod Shifting
+pub mod Values

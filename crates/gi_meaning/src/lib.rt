@@ -1,6 +1,17 @@
-//! The meaning of Machine IR: what each opcode gives, memory, calls, blocks and whole runs.
+//! The meaning of Machine IR: what each opcode gives, memory, calls, blocks and whole runs; and plain programs
+//! that compute what operations and instructions give.
 #![tactic(auto)]
 
-mod laws;
-
-pub use laws::renaming_keeps_runs;
+pub mod bits;
+pub mod casts;
+pub mod choices;
+pub mod counts;
+pub mod divisions;
+pub mod fold;
+pub mod gives;
+pub mod laws;
+pub mod operations;
+pub mod parts;
+pub mod shifts;
+pub mod sums;
+pub mod words;

@@ -1,4 +1,6 @@
+pub mod Accepted
 pub mod AddExample
+pub mod Classes
 pub mod Data
 pub mod Edit
 pub mod Formed

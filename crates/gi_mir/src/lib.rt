@@ -1,6 +1,7 @@
 //! A function in Machine IR: its opcodes, operands, instructions, blocks and names.
 #![tactic(auto)]
 
+pub mod accepted;
 pub mod block;
 pub mod formed;
 pub mod function;
