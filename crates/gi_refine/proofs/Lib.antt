@@ -1,0 +1,4 @@
+pub mod Failing
+pub mod Refining
+pub mod Simulating
+pub mod Agreeing

@@ -1,0 +1,3 @@
+pub mod Refinement
+pub mod Simulation
+pub mod Agreement

@@ -1,0 +1,61 @@
+//! The laws.
+
+ghost use Rattle.std.specs.Prelude.{◌≡◌, ◌↔◌, ◌++◌, ◌∷◌, [], ℕ, Bool, List, None};
+ghost use Rattle.gi_mir.specs.Data.{FunctionData, InstrData};
+ghost use Rattle.gi_meaning.specs.Meaning.{meaning_of};
+ghost use Rattle.gi_meaning.specs.Runs.{MayFail, Runs, Setting, setting_of, written_places};
+ghost use Rattle.gi_meaning.specs.State.{World, IsWorld, Fails, Place, start};
+ghost use Rattle.gi_refine.specs.Agreement.{Agree, AgreeAt, AgreeEntering, AreAlike, AreSeen, all_shown, read_places, setting};
+ghost use Rattle.gi_refine.specs.Refinement.{IsRefinement};
+ghost use Rattle.gi_refine.specs.Simulation.{AreFollowed, IsFollowed};
+
+/// A function may fail exactly where it runs to what is undefined: no prefix of the trace and no smaller number
+/// of block entries adds anything.
+pub fn may_fail_is_failing()
+    ensures { (x : ℕ) (names : List (List ℕ)) (f : FunctionData) (world : World) (n : ℕ) → MayFail x names f world n ↔ Runs x names f world n Fails }
+{
+}
+
+/// A function refines itself.
+pub fn refinement_is_reflexive()
+    ensures { (x : ℕ) (names : List (List ℕ)) (f : FunctionData) → IsRefinement x names f f }
+{
+}
+
+/// What refines a refinement refines: also where the function between isn't valid.
+pub fn refinement_is_transitive()
+    ensures { (x : ℕ) (names : List (List ℕ)) (f g h : FunctionData) → IsRefinement x names f g → IsRefinement x names g h → IsRefinement x names f h }
+{
+}
+
+/// Two pieces of a block that follow, follow one after the other. What is hidden may vary from point to point.
+pub fn pieces_follow()
+    ensures { (s t : Setting) (world : World) (before middle after : Place → Bool) (out : ℕ → Place → Bool) (a b c d : List (ℕ × InstrData))
+        → IsFollowed s t world (Agree before) (Agree middle) (AgreeAt out) a b
+        → IsFollowed s t world (Agree middle) (Agree after) (AgreeAt out) c d
+        → IsFollowed s t world (Agree before) (Agree after) (AgreeAt out) (a ++ c) (b ++ d) }
+{
+}
+
+/// An instruction that reads nothing hidden is followed by itself, and shows what it writes.
+pub fn same_instruction_follows()
+    ensures { (x : ℕ) (names : List (List ℕ)) (old new : ℕ → ℕ) (world : World) (hidden : Place → Bool) (i j : ℕ × InstrData)
+        → j.1 ≡ i.1
+        → AreSeen hidden old new (read_places i.1.operands)
+        → AreAlike old new (written_places (meaning_of i.1.flags i.1.op) i.1.operands)
+        → IsFollowed (setting x names old) (setting x names new) world (Agree hidden)
+            (Agree (all_shown hidden (written_places (meaning_of i.1.flags i.1.op) i.1.operands)))
+            (AgreeAt (λ b. hidden)) (i ∷ []) (j ∷ []) }
+{
+}
+
+/// Where each block follows, from states that agree at its entry to states that agree at the entry of the next,
+/// the new function refines the old one: for every number of block entries, loops included.
+pub fn whole_runs_follow()
+    ensures { (x : ℕ) (names : List (List ℕ)) (old new : FunctionData) (entry middle after : ℕ → Place → Bool) (out : ℕ → ℕ → Place → Bool)
+        → ((world : World) → IsWorld x world
+            → AreFollowed (setting_of x names old) (setting_of x names new) world (AgreeEntering entry)
+                (AgreeAt middle) (AgreeAt after) (λ b. AgreeAt (out b)) old.blocks new.blocks)
+        → IsRefinement x names old new }
+{
+}

@@ -1,0 +1,9 @@
+//! Refinement, and the laws that lift a local rewriting to whole runs.
+#![tactic(auto)]
+
+mod laws;
+
+pub use laws::{
+    may_fail_is_failing, pieces_follow, refinement_is_reflexive, refinement_is_transitive,
+    same_instruction_follows, whole_runs_follow,
+};
