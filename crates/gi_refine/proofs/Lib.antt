@@ -1,4 +1,7 @@
+pub mod Agreeing
+pub mod CallRuns
+pub mod Doing
+pub mod ExampleRuns
 pub mod Failing
 pub mod Refining
 pub mod Simulating
-pub mod Agreeing

@@ -1,3 +1,5 @@
+pub mod Agreement
+pub mod Examples
+pub mod Outcomes
 pub mod Refinement
 pub mod Simulation
-pub mod Agreement

@@ -1,8 +1,10 @@
 //! Refinement, and the laws that lift a local rewriting to whole runs.
 #![tactic(auto)]
 
+mod examples;
 mod laws;
 
+pub use examples::examples_come_to;
 pub use laws::{
     may_fail_is_failing, pieces_follow, refinement_is_reflexive, refinement_is_transitive,
     same_instruction_follows, whole_runs_follow,
