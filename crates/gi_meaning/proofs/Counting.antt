@@ -1,7 +1,7 @@
 -- Counts of bits and reversed bytes, a step at a time.
-use Rattle.std.proofs.Common.{◌≡◌, ℕ, zero, suc, ◌+◌, ◌-◌, ◌*◌, ◌/◌, ◌%◌, ◌^◌, ◌<◌, ◌≤◌, ◌⊎◌, inl, inr, refl, sym, ◌∙◌, ap, ap₂, subst, arith, false, true, lit<}
+use Rattle.std.proofs.Common.{◌≡◌, ℕ, zero, suc, ◌+◌, ◌-◌, ◌*◌, ◌/◌, ◌%◌, ◌^◌, ◌<◌, ◌≤◌, inl, inr, refl, sym, ◌∙◌, ap, subst, arith, lit<}
 use Rattle.std.proofs.lemmas.Bool.{lt-ltb, le-ltb, ne_eqb, eq-eqb, cases_lt, cases_eq}
-use Rattle.std.proofs.Math.Nat.{mod-lt, pow-suc, pow-le-pow_right, le_trans}
+use Rattle.std.proofs.Math.Nat.{mod-lt, pow-suc, pow-le-pow_right}
 use Rattle.gi_meaning.specs.Generic.{leading_zeros, trailing_zeros, ones, reversed_bytes}
 
 pub leading_zeros_le : (n a : ℕ) → leading_zeros n a ≤ n

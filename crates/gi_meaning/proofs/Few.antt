@@ -1,17 +1,17 @@
 -- What the opcodes of one or two registers accept.
-use Rattle.std.proofs.Common.{◌≡◌, ℕ, ◌^◌, ◌<◌, ◌≤◌, ◌⊎◌, inl, inr, refl, sym, ◌∙◌, ap, ap₂, subst, arith, Bool, true, false, ◌&&◌, ◌==◌, List, [], ◌∷◌, length, get_or, nat_lt}
+use Rattle.std.proofs.Common.{◌≡◌, ℕ, ◌^◌, ◌<◌, ◌≤◌, ◌⊎◌, refl, sym, ◌∙◌, ap, ap₂, subst, arith, Bool, true, false, ◌&&◌, ◌==◌, List, [], ◌∷◌, length, get_or}
 use Rattle.std.proofs.lemmas.Bool.{and_parts, eqb-true, false≢true}
 use Rattle.gi_llt.specs.declared.Llt.{Llt}
 use Rattle.gi_llt.specs.declared.Llt.TheVariants.{Scalar, Pointer}
 use Rattle.gi_llt.specs.Llt.{width_of}
-use Rattle.gi_mir.specs.Accepted.{accepts, three_alike, is_any, is_scalar, is_pointer, is_register, is_rotatable, same_type, scalar_bits}
+use Rattle.gi_mir.specs.Accepted.{accepts, three_alike, is_any, is_scalar, is_pointer, is_register, is_rotatable, same_type}
 use Rattle.gi_mir.specs.declared.opcode.Opcode.{Opcode}
 use Rattle.gi_mir.specs.declared.opcode.Opcode.TheVariants as op
 use Rattle.gi_mir.specs.declared.operand.Flags.{Flags}
 use Rattle.gi_meaning.specs.Given.{free}
 use Rattle.gi_meaning.specs.Meaning.{meaning_of}
 use Rattle.gi_meaning.specs.Fold.{gives_of, is_computed, reads_few, are_values, is_value, registers}
-use Rattle.gi_meaning.specs.Argument.{Argument, Value}
+use Rattle.gi_meaning.specs.Argument.{Value}
 use Rattle.gi_meaning.specs.Plain.{is_plain}
 use Rattle.gi_meaning.proofs.Folding.{same_width, values_count, value_like, value_bits}
 

@@ -1,12 +1,11 @@
 -- Words: numbers with a sign, and the bounds of what operations give.
-use Rattle.std.proofs.Common.{◌≡◌, ℕ, zero, suc, ◌+◌, ◌-◌, ◌*◌, ◌/◌, ◌%◌, ◌^◌, ◌<◌, ◌≤◌, ◌⊎◌, inl, inr, refl, sym, ◌∙◌, ap, subst, arith, lit<, Bool, true, false, cond, ℤ, pos, negsuc, neg_ℤ, ◌==◌, if◌then◌else◌}
-use Rattle.std.specs.Prelude.{int_lt, int_le, unsigned_abs, nat_lt, int_div, int_rem}
-use Rattle.std.proofs.lemmas.Bool.{le-ltb, cases_eq, eq-eqb, ne_eqb}
+use Rattle.std.proofs.Common.{◌≡◌, ℕ, ◌+◌, ◌-◌, ◌*◌, ◌/◌, ◌%◌, ◌^◌, ◌<◌, ◌≤◌, refl, ap, arith, lit<, Bool, true, false, ℤ, pos, negsuc, ◌==◌, if◌then◌else◌}
+use Rattle.std.specs.Prelude.{int_lt, unsigned_abs, int_div, int_rem}
+use Rattle.std.proofs.lemmas.Bool.{le-ltb}
 use Rattle.std.proofs.lemmas.Nat.{pow_pos, and_le_l, or_lt, xor_lt, shr_le}
 use Rattle.std.proofs.Math.Nat.{mod-lt, mod-le, div-le_self, pow-le-pow_right}
-use Rattle.gi_llt.specs.Bits.{signed, unsigned, wrapped, sign_extended}
+use Rattle.gi_llt.specs.Bits.{signed, unsigned, sign_extended}
 use Rattle.gi_meaning.specs.Generic.{bit_of}
-use Rattle.gi_meaning.specs.Machine.{quotient_word, quotient_unsigned_word, remainder_word, remainder_unsigned_word, on_low_half}
 use Rattle.gi_meaning.specs.declared.words.Operation.{Operation}
 use Rattle.gi_meaning.specs.declared.words.Operation.TheVariants as operation
 use Rattle.gi_meaning.specs.Plain.{with_sign}

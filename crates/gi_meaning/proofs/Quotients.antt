@@ -1,10 +1,9 @@
 -- Quotients and remainders of numbers by their signs and sizes.
-use Rattle.std.proofs.Common.{◌≡◌, ℕ, zero, suc, ◌+◌, ◌-◌, ◌*◌, ◌/◌, ◌%◌, ◌^◌, ◌<◌, ◌≤◌, ◌⊎◌, inl, inr, refl, sym, ◌∙◌, ap, ap₂, arith, Bool, true, false, nat_le, ℤ, pos, negsuc, neg_ℤ, nat_abs}
+use Rattle.std.proofs.Common.{◌≡◌, ℕ, zero, suc, ◌-◌, ◌/◌, ◌%◌, ◌^◌, ◌<◌, inl, inr, refl, ◌∙◌, ap, ap₂, arith, Bool, true, false, nat_le, pos, neg_ℤ, nat_abs}
 use Rattle.std.specs.Prelude.{int_div, int_rem}
 use Rattle.std.proofs.lemmas.Bool.{cases_lt}
-use Rattle.std.proofs.lemmas.Nat.{pow_pos}
 use Rattle.std.proofs.Math.Nat.{zero-div, zero-mod, div-zero}
-use Rattle.gi_llt.specs.Bits.{signed, unsigned}
+use Rattle.gi_llt.specs.Bits.{signed}
 use Rattle.gi_meaning.specs.Plain.{with_sign, differ}
 use Rattle.gi_meaning.proofs.Numbers.{signed_is, signed-low, signed-high, nat_abs-neg}
 

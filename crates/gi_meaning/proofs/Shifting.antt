@@ -1,12 +1,12 @@
 -- Shifts as products and quotients by powers of two.
-use Rattle.std.proofs.Common.{◌≡◌, ℕ, zero, suc, ◌+◌, ◌-◌, ◌*◌, ◌/◌, ◌%◌, ◌^◌, ◌<◌, ◌≤◌, refl, sym, ◌∙◌, ap, ap₂, subst, arith, Bool, true, false, nat_le, ℤ, pos, negsuc, ◌*ℤ◌, neg_ℤ, nat_abs}
-use Rattle.std.proofs.lemmas.Nat.{pow_pos, pow-add, shl-shr, div-mul-add, mod-mul-add, mul-add-lt, div_below, shr_le}
+use Rattle.std.proofs.Common.{◌≡◌, ℕ, zero, suc, ◌+◌, ◌-◌, ◌*◌, ◌/◌, ◌%◌, ◌^◌, ◌<◌, ◌≤◌, refl, sym, ◌∙◌, ap, ap₂, arith, Bool, true, false, nat_le, pos, negsuc, ◌*ℤ◌, neg_ℤ, nat_abs}
+use Rattle.std.proofs.lemmas.Nat.{pow_pos, pow-add, div-mul-add, mod-mul-add, mul-add-lt, div_below, shr_le}
 use Rattle.std.proofs.lemmas.Bool.{leb-true, leb-false}
 use Rattle.std.proofs.Math.Nat.{mod-eq_of_lt, mod-lt, add-mul-mod_self_left, div-add-mod', div-le_self, div-one}
-use Rattle.gi_llt.specs.Bits.{signed, unsigned, sign_extended, wrapped, part_of}
+use Rattle.gi_llt.specs.Bits.{signed, unsigned, sign_extended}
 use Rattle.gi_meaning.specs.Plain.{with_sign, differ}
 use Rattle.gi_meaning.specs.Generic.{arithmetic_shift_of, funnel_left, funnel_right}
-use Rattle.gi_meaning.proofs.Numbers.{signed_is, signed-low, signed-high, with_sign-mul, twice-half}
+use Rattle.gi_meaning.proofs.Numbers.{signed_is, signed-low, signed-high, with_sign-mul}
 
 pub grow : (p q : ℕ) → 0 < q → p ≤ p * q
 grow p zero h = absurd (omega arith)

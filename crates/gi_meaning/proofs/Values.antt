@@ -1,15 +1,14 @@
 -- Values of what opcodes mean, edges first. Those of operations were computed by LLVM's constant folder, those of
 -- instructions by an emulator of the machine; those of memory are written by hand from the manuals.
-use Rattle.std.proofs.Common.{◌≡◌, ℕ, List, [], ◌∷◌, Bool, true, false, refl, ◌==◌, if◌then◌else◌, pos, negsuc}
-use Rattle.std.specs.Prelude.{Option, Some, None}
+use Rattle.std.proofs.Common.{◌≡◌, [], ◌∷◌, true, false, refl, ◌==◌, if◌then◌else◌, pos, negsuc}
+use Rattle.std.specs.Prelude.{Some, None}
 use Rattle.gi_llt.specs.declared.Llt.TheVariants.{Scalar, Pointer}
 use Rattle.gi_mir.specs.declared.opcode.Opcode.TheVariants as op
-use Rattle.gi_mir.specs.declared.operand.MemOp.{MemOp}
 use Rattle.gi_mir.specs.declared.operand.Pred.TheVariants as pred
-use Rattle.gi_meaning.specs.Act.{Answer, Breaks, load, generic_load, machine_load, Stores}
+use Rattle.gi_meaning.specs.Act.{Breaks, load, generic_load, machine_load, Stores}
 use Rattle.gi_meaning.specs.Argument.{Value, Number, Test}
 use Rattle.gi_meaning.specs.Fold.{gives_of}
-use Rattle.gi_meaning.specs.Given.{Given, Exactly, LowBits, Undefined, one, free}
+use Rattle.gi_meaning.specs.Given.{Exactly, LowBits, Undefined, one, free}
 use Rattle.gi_meaning.specs.Meaning.{meaning_of, always, only_64, Anything, Zeros, Signs}
 use Rattle.gi_meaning.specs.Memory.{Memory, stored}
 use Rattle.gi_meaning.specs.Routine.{no_flags}

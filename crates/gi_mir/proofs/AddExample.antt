@@ -1,5 +1,5 @@
 -- The example's texts spell its two modules.
-use Rattle.std.proofs.Common.{◌≡◌, List, [], ◌∷◌, None, true, false, refl}
+use Rattle.std.proofs.Common.{◌≡◌, [], ◌∷◌, true, false, refl}
 use Rattle.std.specs.Fmt.{digits}
 use Rattle.gi_mir.specs.AddExample.{block_of, function_of, generic_module, selected_module, stated_text, selected_text}
 use Rattle.gi_mir.specs.declared.opcode.Opcode.TheVariants.{GenericAdd, Add}

@@ -1,5 +1,5 @@
 -- Different registers get different numbers.
-use Rattle.std.proofs.Common.{◌≡◌, ℕ, ◌+◌, ◌<◌, ◌≤◌, List, length, Option, Some, None, unwrap_or, position, get_or, nat_eq, refl, sym, ap, ◌∙◌, arith, eqb-true}
+use Rattle.std.proofs.Common.{◌≡◌, ℕ, ◌+◌, ◌<◌, List, length, Option, Some, None, unwrap_or, position, get_or, nat_eq, refl, sym, ap, ◌∙◌, arith, eqb-true}
 use Rattle.std.proofs.lemmas.List.Quantifiers.{position-Some}
 use Rattle.gi_mir.specs.Renaming.{IsInjective}
 use Rattle.gi_mir.specs.Numbering.{number_in}

@@ -1,6 +1,6 @@
 -- Virtual registers numbered from 0 in the order in which they first appear.
 -- (How registers are numbered in a printed text is this project's own.)
-use Rattle.std.specs.Prelude.{ℕ, ◌+◌, List, [], ◌∷◌, ◌++◌, Option, nat_eq, if◌then◌else◌, length, position, unwrap_or, map, flat_map, fold}
+use Rattle.std.specs.Prelude.{ℕ, ◌+◌, List, [], ◌∷◌, ◌++◌, nat_eq, if◌then◌else◌, length, position, unwrap_or, map, flat_map, fold}
 use Rattle.std.specs.List.{list_any}
 use Rattle.gi_mir.specs.Data.{InstrData, BlockData, FunctionData, ModuleData}
 use Rattle.gi_mir.specs.declared.operand.Operand.{Operand}

@@ -1,16 +1,16 @@
 -- An instruction that reads nothing hidden does the same in states that agree, and shows what it writes.
-use Rattle.std.proofs.Common.{◌≡◌, ℕ, Bool, true, false, cond, ◌==◌, List, [], ◌∷◌, ◌++◌, map, Option, Some, None, option_map, ◌⊎◌, inl, inr, ⊎_elim, refl, sym, ap, ap₂, ◌∙◌, subst}
+use Rattle.std.proofs.Common.{◌≡◌, ℕ, Bool, true, false, cond, ◌==◌, List, [], ◌∷◌, map, Option, Some, None, option_map, ◌⊎◌, inl, inr, ⊎_elim, refl, sym, ap, ap₂, subst}
 use Rattle.gi_mir.specs.Data.{InstrData}
 use Rattle.gi_mir.specs.declared.operand.Operand.{Operand}
 use Rattle.gi_mir.specs.declared.operand.Operand.TheVariants as operand
 use Rattle.gi_meaning.specs.Argument.{Argument, Value, Implicit}
 use Rattle.gi_meaning.specs.Memory.{Memory}
-use Rattle.gi_meaning.specs.State.{World, State, Outside, outside_of, Outcome, Returned, Asking, Fails, Place, Virtual, Physical, word_in, put}
+use Rattle.gi_meaning.specs.State.{World, State, Outside, outside_of, Returned, Asking, Fails, Place, Virtual, Physical, word_in, put}
 use Rattle.gi_meaning.specs.Meaning.{Meaning, meaning_of}
 use Rattle.gi_meaning.specs.Act.{Answer, Results, Leaves, Returns, Asks, Breaks, Act}
 use Rattle.gi_meaning.specs.Runs.{Setting, argument_of, arguments_of, joined_lists, written_places, width_of_place, put_all, Progress, On, Left, Over, going_on, progress_of, StepsFrom, Steps, After, Executes}
 use Rattle.gi_refine.specs.Simulation.{Stands, IsFollowed}
-use Rattle.gi_refine.specs.Agreement.{setting, ValueStands, Agree, is_same_place, shown, all_shown, read_places, AreSeen, AreAlike}
+use Rattle.gi_refine.specs.Agreement.{setting, ValueStands, Agree, shown, all_shown, read_places, AreSeen, AreAlike}
 
 -- ══ Reads ══
 

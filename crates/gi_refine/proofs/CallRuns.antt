@@ -1,14 +1,9 @@
 -- What a call that an event answers comes to, and one of a routine, whatever words the call leaves free.
-use Rattle.std.proofs.Common.{◌≡◌, ℕ, zero, suc, ◌+◌, List, [], ◌∷◌, ◌++◌, length, map, Option, Some, None, ◌⊎◌, inl, inr, ⊎_elim, refl, sym, ap, ap₂, ◌∙◌, subst, arith, ◌<◌, ◌^◌, lit<}
+use Rattle.std.proofs.Common.{◌≡◌, ℕ, suc, List, [], ◌∷◌, ◌++◌, length, map, Some, None, inl, ⊎_elim, refl, ap, ap₂, ◌∙◌, subst, arith, ◌<◌, ◌^◌, lit<}
 use Rattle.std.specs.Prelude.{codes}
-use Rattle.gi_mir.specs.Data.{InstrData, FunctionData}
-use Rattle.gi_mir.specs.declared.operand.SymbolFlag.TheVariants.{Call}
-use Rattle.gi_meaning.specs.Argument.{Argument, Value, Implicit, Defined, Symbol, Called, Saved}
-use Rattle.gi_meaning.specs.Memory.{Memory}
-use Rattle.gi_meaning.specs.State.{Event, World, State, Outside, outside_of, start, Outcome, Returned, Fails, Place, Virtual, Physical, put, word_in, AreWords}
-use Rattle.gi_meaning.specs.Meaning.{Calling, meaning_of}
-use Rattle.gi_meaning.specs.Act.{Answer, Results, Returns, clobbered, LeavesFree, Fits}
-use Rattle.gi_meaning.specs.Runs.{Setting, setting_of, put_all, going_on, progress_of, written_places, Progress, On, Left, Over, Steps, After, Executes, Follows, Enters, Runs}
+use Rattle.gi_meaning.specs.State.{Event, World, State, Outside, start, Outcome, Returned, Place, Virtual, Physical, put, AreWords}
+use Rattle.gi_meaning.specs.Act.{Results, Returns, clobbered, LeavesFree}
+use Rattle.gi_meaning.specs.Runs.{Setting, setting_of, put_all, going_on, progress_of, Progress, On, Over, Steps, After, Executes, Follows, Enters}
 use Rattle.gi_mir.specs.declared.opcode.Opcode.TheVariants as op
 use Rattle.gi_refine.specs.Examples.{made, names, counting, world_of, calls, called_operands, answered, return_of}
 use Rattle.gi_refine.specs.Outcomes.{ComesTo}

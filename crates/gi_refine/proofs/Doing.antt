@@ -1,13 +1,13 @@
 -- Runs that have one way to go, put together from steps that have.
-use Rattle.std.proofs.Common.{◌≡◌, ℕ, zero, suc, ◌+◌, Bool, true, false, cond, List, [], ◌∷◌, map, Option, Some, None, slice_get, refl, sym, ap, ◌∙◌, subst}
-use Rattle.gi_mir.specs.Data.{InstrData, BlockData, FunctionData}
+use Rattle.std.proofs.Common.{◌≡◌, ℕ, zero, suc, List, [], ◌∷◌, map, Option, Some, slice_get, refl, sym, ap, ◌∙◌, subst}
+use Rattle.gi_mir.specs.Data.{InstrData, BlockData}
 use Rattle.gi_mir.specs.declared.operand.MemOp.{MemOp}
 use Rattle.gi_meaning.specs.Argument.{Argument}
 use Rattle.gi_meaning.specs.Given.{one}
-use Rattle.gi_meaning.specs.State.{World, State, Outside, outside_of, Outcome, Going, Fails, Place}
+use Rattle.gi_meaning.specs.State.{World, State, Outside, outside_of, Outcome, Going}
 use Rattle.gi_meaning.specs.Meaning.{Meaning, meaning_of}
 use Rattle.gi_meaning.specs.Act.{Answer, Results, Answers, Act}
-use Rattle.gi_meaning.specs.Runs.{Setting, arguments_of, written_places, width_of_place, progress_of, Progress, On, Left, Over, StepsFrom, Steps, After, Executes, phis_of, after_phis, joined, is_among, Follows, RunsAfterPhis, RunsBlock, Enters}
+use Rattle.gi_meaning.specs.Runs.{Setting, arguments_of, written_places, width_of_place, progress_of, Progress, On, Left, Over, StepsFrom, Steps, After, Executes, phis_of, after_phis, joined, Follows, RunsAfterPhis, RunsBlock, Enters}
 
 -- an instruction answers so, and not otherwise
 pub record ActsSo (x : ℕ) (w : World) (m : Meaning) (mem : Option MemOp) (widths : List ℕ) (arguments : List Argument) (outside : Outside) (answer : Answer) : Type 0 where

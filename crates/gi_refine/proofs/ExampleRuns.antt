@@ -1,17 +1,17 @@
 -- What the examples come to.
-use Rattle.std.proofs.Common.{◌≡◌, ℕ, zero, suc, List, [], ◌∷◌, map, Option, Some, None, ◌⊎◌, inl, inr, ⊎_elim, refl, ◌∙◌}
+use Rattle.std.proofs.Common.{◌≡◌, ℕ, suc, List, [], ◌∷◌, map, Some, None, inr, ⊎_elim, refl}
 use Rattle.std.specs.Prelude.{codes}
-use Rattle.gi_mir.specs.Data.{InstrData, BlockData, FunctionData}
+use Rattle.gi_mir.specs.Data.{FunctionData}
 use Rattle.gi_meaning.specs.Argument.{Argument, Value, Implicit, Defined, Symbol, Saved, To}
-use Rattle.gi_meaning.specs.Memory.{Memory, stored}
-use Rattle.gi_meaning.specs.State.{World, State, Outside, outside_of, start, Outcome, Returned, Asking, Fails, Virtual, Physical, put}
+use Rattle.gi_meaning.specs.Memory.{stored}
+use Rattle.gi_meaning.specs.State.{World, State, outside_of, start, Outcome, Returned, Asking, Fails, Virtual, Physical, put}
 use Rattle.gi_meaning.specs.Act.{Answer, Results, Leaves, Returns, Asks, Breaks}
 use Rattle.gi_mir.specs.declared.operand.SymbolFlag.TheVariants.{Call}
 use Rattle.gi_meaning.specs.Meaning.{Calling}
-use Rattle.gi_meaning.specs.Runs.{Setting, setting_of, width_of_place, written_places, Progress, On, Left, Over}
+use Rattle.gi_meaning.specs.Runs.{Setting, setting_of, width_of_place, written_places, On, Left, Over}
 use Rattle.gi_refine.specs.Outcomes.{ComesTo}
 use Rattle.gi_refine.specs.Examples.{names, counting, world_of, stores_and_loads, loads_misaligned, chooses, divides, calls, called_operands}
-use Rattle.gi_refine.proofs.Doing.{ActsSo, gives_one, Does, does_from, DoesAll, does_next, does_leave, does_end, EntersSo, enters_over, enters_left}
+use Rattle.gi_refine.proofs.Doing.{ActsSo, gives_one, does_from, does_next, does_leave, does_end, EntersSo, enters_over, enters_left}
 
 comes : (f : FunctionData) (w : World) (n : ℕ) (o : Outcome) → EntersSo (setting_of 32 names f) w f.blocks n None 0 (start w) o → ComesTo 32 names f w n o
 comes f w n o so = record { can = so.can; only = so.only }

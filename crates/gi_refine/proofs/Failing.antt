@@ -1,16 +1,16 @@
 -- A run that fails in a world whose trace is cut fails in the world, and one that fails within n block entries fails
 -- within more.
-use Rattle.std.proofs.Common.{◌≡◌, ℕ, zero, suc, ◌+◌, ◌≤◌, Bool, true, false, cond, List, [], ◌∷◌, map, take, Option, Some, None, slice_get, ◌⊎◌, inl, inr, ⊎_elim, length, ◌-◌, add-sub_of_le, le_refl, refl, sym, ap, ◌∙◌, subst, arith}
+use Rattle.std.proofs.Common.{◌≡◌, ℕ, zero, suc, ◌+◌, Bool, true, false, cond, List, [], ◌∷◌, map, take, Option, Some, None, slice_get, ◌⊎◌, inl, inr, ⊎_elim, length, ◌-◌, add-sub_of_le, le_refl, refl, sym, ap, ◌∙◌, subst, arith}
 use Rattle.gi_mir.specs.Data.{InstrData, BlockData, FunctionData}
 use Rattle.gi_mir.specs.declared.operand.MemOp.{MemOp}
 use Rattle.gi_mir.specs.declared.operand.Operand.{Operand}
 use Rattle.gi_mir.specs.declared.operand.Operand.TheVariants as operand
 use Rattle.gi_mir.specs.declared.operand.SymbolFlag.TheVariants.{Plain, Call, Hi, Lo}
-use Rattle.gi_meaning.specs.Argument.{Argument, Value, Implicit, Defined, Number, Bits, Symbol, Called, To, Test, Saved}
+use Rattle.gi_meaning.specs.Argument.{Argument, Symbol, Called}
 use Rattle.gi_meaning.specs.State.{Event, World, State, Outside, outside_of, start, Outcome, Returned, Going, Asking, Fails, Place}
-use Rattle.gi_meaning.specs.Meaning.{Meaning, Copying, Generic, Machine, Loading, Storing, MachineLoading, MachineStoring, Jumping, Branching, MachineBranching, Calling, Returning, Nothing, Joining, meaning_of}
-use Rattle.gi_meaning.specs.Act.{Answer, Results, Leaves, Returns, Asks, Breaks, Act, Calls, CallsGlobal, words_of, passed, result_registers, Fits}
-use Rattle.gi_meaning.specs.Runs.{Setting, setting_of, argument_of, arguments_of, joined_lists, written_places, width_of_place, Progress, On, Left, Over, progress_of, StepsFrom, Steps, After, Executes, phis_of, after_phis, joined, is_among, Follows, RunsAfterPhis, RunsBlock, Enters, Runs, cut, MayFail, Allows}
+use Rattle.gi_meaning.specs.Meaning.{Meaning, Copying, Calling, meaning_of}
+use Rattle.gi_meaning.specs.Act.{Answer, Results, Leaves, Returns, Asks, Breaks, Act, Calls, CallsGlobal, words_of, passed}
+use Rattle.gi_meaning.specs.Runs.{Setting, setting_of, argument_of, arguments_of, joined_lists, written_places, width_of_place, Progress, On, Left, Over, progress_of, StepsFrom, Steps, After, Executes, phis_of, after_phis, joined, is_among, Follows, RunsAfterPhis, RunsBlock, Enters, Runs, cut, MayFail}
 
 -- ══ The trace ══
 

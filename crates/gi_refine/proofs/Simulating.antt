@@ -1,8 +1,8 @@
 -- What follows piece by piece follows as a whole.
-use Rattle.std.proofs.Common.{◌≡◌, ℕ, zero, suc, ◌+◌, Bool, true, false, cond, List, [], ◌∷◌, ◌++◌, Option, Some, None, slice_get, ◌⊎◌, inl, inr, ⊎_elim, refl, sym, ap, ap₂, ◌∙◌, subst}
+use Rattle.std.proofs.Common.{◌≡◌, ℕ, zero, suc, ◌+◌, Bool, true, false, cond, List, [], ◌∷◌, ◌++◌, Option, Some, None, slice_get, ◌⊎◌, inl, inr, ⊎_elim, refl, sym, ap₂, ◌∙◌, subst}
 use Rattle.gi_mir.specs.Data.{InstrData, BlockData, FunctionData}
 use Rattle.gi_meaning.specs.State.{World, IsWorld, State, start, Outcome, Going, Fails}
-use Rattle.gi_meaning.specs.Runs.{Setting, setting_of, Steps, Progress, On, Left, Over, After, Executes, phis_of, after_phis, joined, is_among, Follows, RunsAfterPhis, RunsBlock, Enters, Runs}
+use Rattle.gi_meaning.specs.Runs.{Setting, setting_of, Steps, Progress, On, Left, Over, After, Executes, phis_of, joined, is_among, Follows, RunsAfterPhis, RunsBlock, Enters}
 use Rattle.gi_refine.specs.Refinement.{IsRefinement}
 use Rattle.gi_refine.specs.Simulation.{Stands, IsFollowed, PhisStand, IsBlockFollowed, PlaceFollowed, AreFollowed}
 use Rattle.gi_refine.proofs.Failing.{may_from_fails}

@@ -1,16 +1,15 @@
 -- Small functions, one for each kind of instruction, and worlds to run them in.
 use Rattle.std.specs.Prelude.{ℕ, ◌%◌, ◌==◌, if◌then◌else◌, List, [], ◌∷◌, Option, Some, None, true, false, codes}
-use Rattle.gi_llt.specs.declared.Llt.{Llt}
 use Rattle.gi_llt.specs.declared.Llt.TheVariants.{Scalar, Pointer}
 use Rattle.gi_mir.specs.Data.{InstrData, BlockData, FunctionData}
 use Rattle.gi_mir.specs.Stated.{reg_of, no_flags}
 use Rattle.gi_mir.specs.declared.opcode.Opcode.{Opcode}
 use Rattle.gi_mir.specs.declared.opcode.Opcode.TheVariants as op
 use Rattle.gi_mir.specs.declared.operand.Kind.{Kind}
-use Rattle.gi_mir.specs.declared.operand.Kind.TheVariants.{Generic, Class}
+use Rattle.gi_mir.specs.declared.operand.Kind.TheVariants.{Generic}
 use Rattle.gi_mir.specs.declared.operand.MemOp.{MemOp}
 use Rattle.gi_mir.specs.declared.operand.Operand.{Operand}
-use Rattle.gi_mir.specs.declared.operand.Operand.TheVariants.{Def, Use, Phys, PhysDef, ImplicitUse, ImplicitDef, Block, Global, Routine, SavedMask, Int}
+use Rattle.gi_mir.specs.declared.operand.Operand.TheVariants.{Def, Use, Phys, PhysDef, ImplicitUse, ImplicitDef, Block, Global, SavedMask}
 use Rattle.gi_mir.specs.declared.operand.SymbolFlag.TheVariants.{Call}
 use Rattle.gi_meaning.specs.Memory.{Memory}
 use Rattle.gi_meaning.specs.State.{World, Event}

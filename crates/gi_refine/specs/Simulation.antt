@@ -1,9 +1,9 @@
 -- How a run of the new code is followed by the old: states that stand for each other, point by point.
 -- What may differ is a relation of its own at each point, so it may vary from point to point.
 use Rattle.std.specs.Prelude.{◌≡◌, ℕ, ◌+◌, List, Option, Some, None, ◌⊎◌, slice_get}
-use Rattle.gi_mir.specs.Data.{InstrData, BlockData, FunctionData}
-use Rattle.gi_meaning.specs.State.{World, State, Outcome, Fails, start}
-use Rattle.gi_meaning.specs.Runs.{Setting, setting_of, Progress, On, Left, Over, Executes, phis_of, after_phis, joined}
+use Rattle.gi_mir.specs.Data.{InstrData, BlockData}
+use Rattle.gi_meaning.specs.State.{World, State, Fails}
+use Rattle.gi_meaning.specs.Runs.{Setting, Progress, On, Left, Over, Executes, phis_of, after_phis, joined}
 
 -- How far the old run has come stands for how far the new one has: in related states where both go on, in
 -- related states where both left for one block, or with one outcome.

@@ -1,4 +1,4 @@
-use Rattle.std.proofs.Common.{◌≡◌, ◌+◌, ◌-◌, ◌*◌, ◌^◌, ◌<◌, ◌≤◌}
+use Rattle.std.proofs.Common.{◌≡◌, ◌+◌, ◌-◌}
 use Rattle.gi_meaning.specs.Generic.{leading_zeros}
 use Rattle.gi_meaning.proofs.counts.leading_zeros.Given as goal
 

@@ -1,4 +1,4 @@
-use Rattle.std.proofs.Common.{◌≡◌, ◌+◌, ◌-◌, ◌*◌, ◌^◌, ◌<◌, ◌≤◌}
+use Rattle.std.proofs.Common.{◌≡◌, ◌+◌, ◌-◌, ◌*◌, ◌^◌, ◌<◌}
 use Rattle.gi_meaning.specs.Generic.{reversed_bytes}
 use Rattle.gi_meaning.proofs.counts.reversed_bytes.Given as goal
 

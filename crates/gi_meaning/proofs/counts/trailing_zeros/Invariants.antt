@@ -1,4 +1,4 @@
-use Rattle.std.proofs.Common.{◌≡◌, ◌+◌, ◌-◌, ◌*◌, ◌^◌, ◌<◌, ◌≤◌}
+use Rattle.std.proofs.Common.{◌≡◌, ◌+◌, ◌-◌}
 use Rattle.gi_meaning.specs.Generic.{trailing_zeros}
 use Rattle.gi_meaning.proofs.counts.trailing_zeros.Given as goal
 

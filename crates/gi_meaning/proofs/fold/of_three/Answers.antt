@@ -1,5 +1,5 @@
 use Rattle.std.proofs.Common.{ℕ, get_or, arith, ◌^◌, ◌<◌, subst, sym}
-use Rattle.gi_meaning.proofs.Few.{three_alike_values, ThreeAlike}
+use Rattle.gi_meaning.proofs.Few.{three_alike_values}
 use Rattle.gi_meaning.proofs.fold.of_three.Goals as goal
 
 pub funnelled-requires-clause-b_fits : goal.funnelled-requires-clause-b_fits

@@ -1,5 +1,4 @@
 use Rattle.gi_meaning.proofs.Merging.{merged_turn, Turned}
-use Rattle.std.proofs.Common.{◌+◌, ◌-◌, ◌*◌, ◌%◌, ◌^◌, length, get_or}
 use Rattle.gi_meaning.proofs.parts.merged_of.Goals as goal
 
 pub overflow_add-total : goal.overflow_add-total

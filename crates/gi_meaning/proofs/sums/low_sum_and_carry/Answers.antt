@@ -1,4 +1,4 @@
-use Rattle.std.proofs.Common.{arith, sym, ◌+◌, ◌≡◌, ◌≤◌, ◌^◌}
+use Rattle.std.proofs.Common.{arith, sym, ◌+◌, ◌≡◌, ◌^◌}
 use Rattle.gi_meaning.proofs.Numbers.{wrapped_whole, power_le}
 use Rattle.gi_meaning.proofs.sums.low_sum_and_carry.Goals as goal
 

@@ -1,6 +1,5 @@
-use Rattle.std.proofs.Common.{ℕ, Option, Some, None, refl}
-use Rattle.gi_meaning.specs.State.{start}
-use Rattle.gi_refine.specs.Agreement.{Agree, AgreeAt, AgreeEntering}
+use Rattle.std.proofs.Common.{refl}
+use Rattle.gi_refine.specs.Agreement.{AgreeAt, AgreeEntering}
 use Rattle.gi_refine.proofs.Simulating.{refined_by_following}
 use Rattle.gi_refine.proofs.laws.whole_runs_follow.Goals as goal
 
