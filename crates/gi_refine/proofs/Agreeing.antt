@@ -38,24 +38,24 @@ arguments_stand : (x : ℕ) (names : List (List ℕ)) (width width' : ℕ → �
 arguments_stand x names width width' w hidden old new agree [] seen = refl
 arguments_stand x names width width' w hidden old new agree (operand.Use r ∷ os) seen =
     joined_stand _ _ _ _
-        (subst (λ n. ArgumentsStand (option_map (λ v. Value (width r.0) v ∷ []) (old.values r.0)) (option_map (λ v. Value n v ∷ []) (new.values r.0))) (sym seen.1)
-            (value_stands (width r.0) (old.values r.0) (new.values r.0) (agree.values r.0 seen.0)))
-        (arguments_stand x names width width' w hidden old new agree os seen.2)
+    (subst (λ n. ArgumentsStand (option_map (λ v. Value (width r.0) v ∷ []) (old.values r.0)) (option_map (λ v. Value n v ∷ []) (new.values r.0))) (sym seen.1)
+    (value_stands (width r.0) (old.values r.0) (new.values r.0) (agree.values r.0 seen.0)))
+    (arguments_stand x names width width' w hidden old new agree os seen.2)
 arguments_stand x names width width' w hidden old new agree (operand.Phys n ∷ os) seen =
     joined_stand (Some (Value x (word_in old n) ∷ [])) _ (Some (Value x (word_in new n) ∷ [])) _
-        (ap (λ v. Some (Value x v ∷ [])) (word_stands n old new (agree.words n seen.0)))
-        (arguments_stand x names width width' w hidden old new agree os seen.1)
+    (ap (λ v. Some (Value x v ∷ [])) (word_stands n old new (agree.words n seen.0)))
+    (arguments_stand x names width width' w hidden old new agree os seen.1)
 arguments_stand x names width width' w hidden old new agree (operand.ImplicitUse n ∷ os) seen =
     joined_stand (Some (Implicit n (word_in old n) ∷ [])) _ (Some (Implicit n (word_in new n) ∷ [])) _
-        (ap (λ v. Some (Implicit n v ∷ [])) (word_stands n old new (agree.words n seen.0)))
-        (arguments_stand x names width width' w hidden old new agree os seen.1)
+    (ap (λ v. Some (Implicit n v ∷ [])) (word_stands n old new (agree.words n seen.0)))
+    (arguments_stand x names width width' w hidden old new agree os seen.1)
 arguments_stand x names width width' w hidden old new agree (operand.Def r k ∷ os) seen =
     joined_stand (Some []) _ (Some []) _ refl (arguments_stand x names width width' w hidden old new agree os seen)
 arguments_stand x names width width' w hidden old new agree (operand.PhysDef n ∷ os) seen =
     joined_stand (Some []) _ (Some []) _ refl (arguments_stand x names width width' w hidden old new agree os seen)
 arguments_stand x names width width' w hidden old new agree (o ∷ os) seen =
     joined_stand (argument_of (setting x names width) w old o) _ (argument_of (setting x names width') w new o) _ refl
-        (arguments_stand x names width width' w hidden old new agree os seen)
+    (arguments_stand x names width width' w hidden old new agree os seen)
 
 -- ══ Writes ══
 
@@ -76,12 +76,14 @@ put_agree : (hidden : Place → Bool) (old new : State) (p : Place) (v : ℕ) �
 put_agree hidden old new (Virtual q) v agree = record {
   values = λ r seen. value_put (r == q) v (old.values r) (new.values r) (λ other. agree.values r (seen_before (r == q) (hidden (Virtual r)) seen other));
   words = λ n seen. agree.words n seen;
-  memory = agree.memory; taken = agree.taken;
+  memory = agree.memory;
+  taken = agree.taken;
 }
 put_agree hidden old new (Physical m) v agree = record {
   values = λ r seen. agree.values r seen;
   words = λ n seen. word_put (n == m) v (old.words n) (new.words n) (λ other. agree.words n (seen_before (n == m) (hidden (Physical n)) seen other));
-  memory = agree.memory; taken = agree.taken;
+  memory = agree.memory;
+  taken = agree.taken;
 }
 
 -- both states after the writes, or neither
@@ -117,8 +119,8 @@ progress_stands : (hidden : Place → Bool) (exit : ℕ → State → State → 
     → Stands (Agree (all_shown hidden ps)) exit (progress_of old ps answer) (progress_of new ps answer)
 progress_stands hidden exit exits old new ps (Results results outside) agree =
     going_stands (all_shown hidden ps) exit _ _
-        (put_all_agree hidden (record old { memory = outside.memory; taken = outside.taken }) (record new { memory = outside.memory; taken = outside.taken }) ps results
-            (outside_agree hidden old new outside agree))
+    (put_all_agree hidden (record old { memory = outside.memory; taken = outside.taken }) (record new { memory = outside.memory; taken = outside.taken }) ps results
+    (outside_agree hidden old new outside agree))
 progress_stands hidden exit exits old new ps (Leaves block) agree = (refl, exits.by block old new agree)
 progress_stands hidden exit exits old new ps (Returns words) agree = ap₂ (λ m t. Returned words m t) (sym agree.memory) (sym agree.taken)
 progress_stands hidden exit exits old new ps (Asks callee words) agree = ap₂ (λ m t. Asking callee words m t) (sym agree.memory) (sym agree.taken)
@@ -138,19 +140,23 @@ step_stands : (x : ℕ) (names : List (List ℕ)) (width width' : ℕ → ℕ) (
     → Agree hidden old new → AreAlike width width' (written_places (meaning_of i.flags i.op) i.operands) → (arguments arguments' : Option (List Argument)) → ArgumentsStand arguments arguments'
     → (p' : Progress) → StepsFrom (setting x names width') w i new arguments' p'
     → ((p : Progress) × StepsFrom (setting x names width) w i old arguments p × Stands (Agree (all_shown hidden (written_places (meaning_of i.flags i.op) i.operands))) exit p p')
-      ⊎ StepsFrom (setting x names width) w i old arguments (Over Fails)
+    ⊎ StepsFrom (setting x names width) w i old arguments (Over Fails)
 step_stands x names width width' w hidden exit exits i old new agree alike None arguments' same p' step = inr refl
 step_stands x names width width' w hidden exit exits i old new agree alike (Some arguments) arguments' same p' step =
     let m : Meaning = meaning_of i.flags i.op in
     let places : List Place = written_places m i.operands in
     let stepped : StepsFrom (setting x names width') w i new (Some arguments) p' = subst (λ a. StepsFrom (setting x names width') w i new a p') same step in
     let answer : Answer = stepped.0 in
-    inl ( progress_of old places answer
-        , ( answer
-          , subst (λ outside. Act x w m i.mem (map (width_of_place (setting x names width)) places) arguments outside answer) (outside_same hidden old new agree)
-              (subst (λ widths. Act x w m i.mem widths arguments (outside_of new) answer) (widths_alike x names width width' places alike) stepped.1)
-          , refl )
-        , subst (λ p. Stands (Agree (all_shown hidden places)) exit (progress_of old places answer) p) (sym stepped.2) (progress_stands hidden exit exits old new places answer agree) )
+    inl (
+      progress_of old places answer,
+      (
+        answer,
+        subst (λ outside. Act x w m i.mem (map (width_of_place (setting x names width)) places) arguments outside answer) (outside_same hidden old new agree)
+            (subst (λ widths. Act x w m i.mem widths arguments (outside_of new) answer) (widths_alike x names width width' places alike) stepped.1),
+        refl,
+      ),
+      subst (λ p. Stands (Agree (all_shown hidden places)) exit (progress_of old places answer) p) (sym stepped.2) (progress_stands hidden exit exits old new places answer agree),
+    )
 
 -- one instruction and the empty rest
 alone : (s : Setting) (w : World) (i : ℕ × InstrData) (state : State) (p : Progress) → Steps s w i.1 state p → Executes s w (i ∷ []) state p
@@ -173,11 +179,13 @@ alone_is s w i state p run = subst (λ q. Steps s w i.1 state q) (last run.0 p r
 pub same_instruction : (x : ℕ) (names : List (List ℕ)) (width width' : ℕ → ℕ) (w : World) (hidden : Place → Bool) (exit : ℕ → State → State → Type 0) → Exits hidden exit → (i j : ℕ × InstrData) → j.1 ≡ i.1
     → AreSeen hidden width width' (read_places i.1.operands) → AreAlike width width' (written_places (meaning_of i.1.flags i.1.op) i.1.operands)
     → IsFollowed (setting x names width) (setting x names width') w (Agree hidden) (Agree (all_shown hidden (written_places (meaning_of i.1.flags i.1.op) i.1.operands))) exit (i ∷ []) (j ∷ [])
-same_instruction x names width width' w hidden exit exits i j same seen alike = record { by = λ old new agree p' run.
-    let step : Steps (setting x names width') w i.1 new p' = subst (λ d. Steps (setting x names width') w d new p') same (alone_is (setting x names width') w j new p' run) in
-    ⊎_elim
-        (λ stood. inl (stood.0, alone (setting x names width) w i old stood.0 stood.1, stood.2))
-        (λ fails. inr (alone (setting x names width) w i old (Over Fails) fails))
-        (step_stands x names width width' w hidden exit exits i.1 old new agree alike
-            (arguments_of (setting x names width) w old i.1.operands) (arguments_of (setting x names width') w new i.1.operands)
-            (arguments_stand x names width width' w hidden old new agree i.1.operands seen) p' step) }
+same_instruction x names width width' w hidden exit exits i j same seen alike = record {
+  by = λ old new agree p' run.
+      let step : Steps (setting x names width') w i.1 new p' = subst (λ d. Steps (setting x names width') w d new p') same (alone_is (setting x names width') w j new p' run) in
+      ⊎_elim
+      (λ stood. inl (stood.0, alone (setting x names width) w i old stood.0 stood.1, stood.2))
+      (λ fails. inr (alone (setting x names width) w i old (Over Fails) fails))
+      (step_stands x names width width' w hidden exit exits i.1 old new agree alike
+      (arguments_of (setting x names width) w old i.1.operands) (arguments_of (setting x names width') w new i.1.operands)
+      (arguments_stand x names width width' w hidden old new agree i.1.operands seen) p' step);
+}

@@ -54,15 +54,16 @@ call_only : (next p : Progress) → Steps here told (made op.PseudoCall called_o
     → After next (Executes here told (return_of 10 ∷ [])) p → p ≡ Over ending
 call_only next p step run = ⊎_elim
     (λ taken.
-        let same : taken.0 ≡ event_of = some_same taken.1 in
-        let free : LeavesFree 32 (7 ∷ []) (record { memory = counting; taken = 1 }) step.0 = subst (λ e. LeavesFree 32 e.results (record { memory = e.after; taken = 1 }) step.0) same taken.3 in
-        return_from free.0 free.2 p
-            (subst (λ q. After q (Executes here told (return_of 10 ∷ [])) p) (step.2 ∙ ap (progress_of (start told) (map Physical clobbered ++ Physical 10 ∷ [])) free.3) run))
+    let same : taken.0 ≡ event_of = some_same taken.1 in
+    let free : LeavesFree 32 (7 ∷ []) (record { memory = counting; taken = 1 }) step.0 = subst (λ e. LeavesFree 32 e.results (record { memory = e.after; taken = 1 }) step.0) same taken.3 in
+    return_from free.0 free.2 p
+    (subst (λ q. After q (Executes here told (return_of 10 ∷ [])) p) (step.2 ∙ ap (progress_of (start told) (map Physical clobbered ++ Physical 10 ∷ [])) free.3) run))
     (λ asks. absurd (asks.0 event_of refl (record { callee = refl; arguments = refl; before = refl; results = refl })))
     step.1
   where
     event_of : Event
     event_of = record { callee = codes "g"; arguments = 5 ∷ []; before = counting; results = 7 ∷ []; after = counting }
+
     some_same : {e : Event} → Some event_of ≡ Some e → e ≡ event_of
     some_same h = cc
 
@@ -72,16 +73,24 @@ answered_comes n = record {
   can =
       let free : List ℕ = 0 ∷ 0 ∷ 0 ∷ 0 ∷ 0 ∷ 0 ∷ 0 ∷ 0 ∷ 0 ∷ 0 ∷ 0 ∷ 0 ∷ 0 ∷ 0 ∷ 0 ∷ 0 ∷ [] in
       let after : State = put (all_put met clobbered) (Physical 10) 7 in
-      let outside : Outside = record { memory = counting; taken = 1 } in
-      ( Over ending
-      , ( On after
-        , ( Results (free ++ 7 ∷ []) outside
-          , inl (record { callee = codes "g"; arguments = 5 ∷ []; before = counting; results = 7 ∷ []; after = counting }, refl
-                , record { callee = refl; arguments = refl; before = refl; results = refl }
-                , (free, all_words, refl, refl))
-          , refl )
-        , (Over ending, (Returns (7 ∷ []), refl, refl), refl) )
-      , refl );
+      let outside : Outside = record { memory = counting; taken = 1 } in (
+        Over ending,
+        (
+          On after,
+          (
+            Results (free ++ 7 ∷ []) outside,
+            inl (
+              record { callee = codes "g"; arguments = 5 ∷ []; before = counting; results = 7 ∷ []; after = counting },
+              refl,
+              record { callee = refl; arguments = refl; before = refl; results = refl },
+              (free, all_words, refl, refl),
+            ),
+            refl,
+          ),
+          (Over ending, (Returns (7 ∷ []), refl, refl), refl),
+        ),
+        refl,
+      );
   only = λ other run.
       subst (λ p. Follows 0 [] (Enters here told calls.blocks n) p other) (call_only run.1.0 run.0 run.1.1 run.1.2) run.2;
 }
@@ -89,7 +98,9 @@ answered_comes n = record {
     all_put : State → List ℕ → State
     all_put state [] = state
     all_put state (r ∷ rs) = all_put (put state (Physical r) 0) rs
+
     small : 0 < 2 ^ 32
     small = lit< tt
+
     all_words : AreWords 32 (0 ∷ 0 ∷ 0 ∷ 0 ∷ 0 ∷ 0 ∷ 0 ∷ 0 ∷ 0 ∷ 0 ∷ 0 ∷ 0 ∷ 0 ∷ 0 ∷ 0 ∷ 0 ∷ [])
     all_words = (small, (small, (small, (small, (small, (small, (small, (small, (small, (small, (small, (small, (small, (small, (small, (small, tt))))))))))))))))

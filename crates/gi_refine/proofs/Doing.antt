@@ -75,7 +75,7 @@ enters_over s w blocks n from b state middle block o here phis body = record {
       (subst (λ st. RunsAfterPhis s w b block (Enters s w blocks n) st o) (sym phis) (Over o, body.can, refl));
   only = λ other run.
       let ran : RunsAfterPhis s w b block (Enters s w blocks n) (Some middle) other =
-              subst (λ st. RunsAfterPhis s w b block (Enters s w blocks n) st other) phis (subst (λ k. RunsBlock s w k (Enters s w blocks n) from b state other) here run) in
+      subst (λ st. RunsAfterPhis s w b block (Enters s w blocks n) st other) phis (subst (λ k. RunsBlock s w k (Enters s w blocks n) from b state other) here run) in
       subst (λ p. Follows b block.successors (Enters s w blocks n) p other) (body.only ran.0 ran.1) ran.2;
 }
 
@@ -88,6 +88,6 @@ enters_left s w blocks n from b c state middle last block o here phis body next 
       (subst (λ st. RunsAfterPhis s w b block (Enters s w blocks n) st o) (sym phis) (Left c last, body.can, next.can));
   only = λ other run.
       let ran : RunsAfterPhis s w b block (Enters s w blocks n) (Some middle) other =
-              subst (λ st. RunsAfterPhis s w b block (Enters s w blocks n) st other) phis (subst (λ k. RunsBlock s w k (Enters s w blocks n) from b state other) here run) in
+      subst (λ st. RunsAfterPhis s w b block (Enters s w blocks n) st other) phis (subst (λ k. RunsBlock s w k (Enters s w blocks n) from b state other) here run) in
       next.only other (subst (λ p. Follows b block.successors (Enters s w blocks n) p other) (body.only ran.0 ran.1) ran.2);
 }

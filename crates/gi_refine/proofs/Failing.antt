@@ -85,7 +85,7 @@ steps_from_cut s w k i state (Some arguments) p step = ⊎_elim
 steps_cut : (s : Setting) (w : World) (k : ℕ) (i : InstrData) (state : State) (p : Progress) → Steps s (cut w k) i state p → Steps s w i state p ⊎ IsAsking p
 steps_cut s w k i state p step =
     steps_from_cut s w k i state (arguments_of s w state i.operands) p
-        (subst (λ arguments. StepsFrom s (cut w k) i state arguments p) (arguments_cut s w k state i.operands) step)
+    (subst (λ arguments. StepsFrom s (cut w k) i state arguments p) (arguments_cut s w k state i.operands) step)
 
 -- ══ A list of instructions ══
 
@@ -106,7 +106,7 @@ executes_cut : (s : Setting) (w : World) (k : ℕ) (is : List (ℕ × InstrData)
 executes_cut s w k [] state p run = inl run
 executes_cut s w k (i ∷ is) state p run = ⊎_elim
     (λ step. ⊎_elim (λ rest. inl (run.0, step, rest)) (λ asks. inr asks)
-        (after_cut run.0 p (Executes s (cut w k) is) (Executes s w is) (executes_cut s w k is) run.2))
+    (after_cut run.0 p (Executes s (cut w k) is) (Executes s w is) (executes_cut s w k is) run.2))
     (λ asks. inr (after_asking run.0 p (Executes s (cut w k) is) asks run.2))
     (steps_cut s w k i.1 state run.0 run.1)
 
@@ -147,13 +147,17 @@ phis_too s w k b block enters enters' too (Some state) run = ⊎_elim
 block_too : (s : Setting) (w : World) (k : ℕ) (block : Option BlockData) (enters enters' : Option ℕ → ℕ → State → Outcome → Type 0) → FailsToo enters enters'
     → FailsToo (RunsBlock s (cut w k) block enters) (RunsBlock s w block enters')
 block_too s w k None enters enters' too = record { by = λ from b state run. run }
-block_too s w k (Some block) enters enters' too = record { by = λ from b state run.
-    phis_too s w k b block enters enters' too (joined state from (phis_of block.instrs)) run }
+block_too s w k (Some block) enters enters' too = record {
+  by = λ from b state run.
+      phis_too s w k b block enters enters' too (joined state from (phis_of block.instrs)) run;
+}
 
 enters_too : (s : Setting) (w : World) (k : ℕ) (blocks : List BlockData) (n : ℕ) → FailsToo (Enters s (cut w k) blocks n) (Enters s w blocks n)
 enters_too s w k blocks zero = record { by = λ from b state run. run }
-enters_too s w k blocks (suc n) = record { by = λ from b state run.
-    (block_too s w k (slice_get blocks b) (Enters s (cut w k) blocks n) (Enters s w blocks n) (enters_too s w k blocks n)).by from b state run }
+enters_too s w k blocks (suc n) = record {
+  by = λ from b state run.
+      (block_too s w k (slice_get blocks b) (Enters s (cut w k) blocks n) (Enters s w blocks n) (enters_too s w k blocks n)).by from b state run;
+}
 
 -- ══ More block entries ══
 
@@ -165,8 +169,10 @@ phis_more s w b block enters enters' too (Some state) run = (run.0, run.1, follo
 block_more : (s : Setting) (w : World) (block : Option BlockData) (enters enters' : Option ℕ → ℕ → State → Outcome → Type 0) → FailsToo enters enters'
     → FailsToo (RunsBlock s w block enters) (RunsBlock s w block enters')
 block_more s w None enters enters' too = record { by = λ from b state run. run }
-block_more s w (Some block) enters enters' too = record { by = λ from b state run.
-    phis_more s w b block enters enters' too (joined state from (phis_of block.instrs)) run }
+block_more s w (Some block) enters enters' too = record {
+  by = λ from b state run.
+      phis_more s w b block enters enters' too (joined state from (phis_of block.instrs)) run;
+}
 
 going_fails : (memory : ℕ → Option ℕ) (taken : ℕ) → Fails ≡ Going memory taken → ⊥
 going_fails memory taken h = subst IsGoing' h tt
@@ -179,9 +185,11 @@ enters_more : (s : Setting) (w : World) (blocks : List BlockData) (n d : ℕ) �
 enters_more s w blocks zero d = record { by = λ from b state run. absurd (going_fails state.memory state.taken run) }
 enters_more s w blocks (suc n) d =
     let e : suc n + d ≡ suc (n + d) = omega arith in
-    record { by = λ from b state run.
-        subst (λ m. Enters s w blocks m from b state Fails) (sym e)
-            ((block_more s w (slice_get blocks b) (Enters s w blocks n) (Enters s w blocks (n + d)) (enters_more s w blocks n d)).by from b state run) }
+    record {
+      by = λ from b state run.
+          subst (λ m. Enters s w blocks m from b state Fails) (sym e)
+          ((block_more s w (slice_get blocks b) (Enters s w blocks n) (Enters s w blocks (n + d)) (enters_more s w blocks n d)).by from b state run);
+    }
 
 -- a function may fail exactly where it runs to what is undefined
 pub fails_from_may : (x : ℕ) (names : List (List ℕ)) (f : FunctionData) (w : World) (n : ℕ) → MayFail x names f w n → Runs x names f w n Fails
@@ -197,6 +205,8 @@ take_whole (x ∷ xs) = ap (λ ys. x ∷ ys) (take_whole xs)
 
 pub may_from_fails : (x : ℕ) (names : List (List ℕ)) (f : FunctionData) (w : World) (n : ℕ) → Runs x names f w n Fails → MayFail x names f w n
 may_from_fails x names f w n fails = record {
-  events = length w.trace; entries = n; within = le_refl n;
+  events = length w.trace;
+  entries = n;
+  within = le_refl n;
   fails = subst (λ (t : List Event). Runs x names f (record w { trace = t }) n Fails) (sym (take_whole w.trace)) fails;
 }

@@ -9,8 +9,10 @@ pub refines_itself : (x : ℕ) (names : List (List ℕ)) (f : FunctionData) → 
 refines_itself x names f = record { runs = λ w is_world n o run. inl run }
 
 pub refines_through : (x : ℕ) (names : List (List ℕ)) (f g h : FunctionData) → IsRefinement x names f g → IsRefinement x names g h → IsRefinement x names f h
-refines_through x names f g h first second = record { runs = λ w is_world n o run. ⊎_elim
-    (λ ran. first.runs w is_world n o ran)
-    (λ may. ⊎_elim (λ fails. inr (may_from_fails x names f w n fails)) (λ old. inr old)
-        (first.runs w is_world n Fails (fails_from_may x names g w n may)))
-    (second.runs w is_world n o run) }
+refines_through x names f g h first second = record {
+  runs = λ w is_world n o run. ⊎_elim
+      (λ ran. first.runs w is_world n o ran)
+      (λ may. ⊎_elim (λ fails. inr (may_from_fails x names f w n fails)) (λ old. inr old)
+      (first.runs w is_world n Fails (fails_from_may x names g w n may)))
+      (second.runs w is_world n o run);
+}

@@ -61,12 +61,14 @@ second_follows s s' w middle after exit xs ys ys' state follows (Over o) (Over o
 -- two pieces follow one after the other; what may differ between them is a relation of its own
 pub followed_on : (s s' : Setting) (w : World) (before middle after : State → State → Type 0) (exit : ℕ → State → State → Type 0) (xs xs' ys ys' : List (ℕ × InstrData))
     → IsFollowed s s' w before middle exit xs xs' → IsFollowed s s' w middle after exit ys ys' → IsFollowed s s' w before after exit (xs ++ ys) (xs' ++ ys')
-followed_on s s' w before middle after exit xs xs' ys ys' first second = record { by = λ state state' related p' run.
-    let parts : Split s' w xs' ys' state' p' = split s' w xs' ys' state' p' run in
-    ⊎_elim
-        (λ ran. second_follows s s' w middle after exit xs ys ys' state second ran.0 parts.between p' ran.1 ran.2 parts.second)
-        (λ fails. inr (join s w xs ys state (Over Fails) (Over Fails) fails refl))
-        (first.by state state' related parts.between parts.first) }
+followed_on s s' w before middle after exit xs xs' ys ys' first second = record {
+  by = λ state state' related p' run.
+      let parts : Split s' w xs' ys' state' p' = split s' w xs' ys' state' p' run in
+      ⊎_elim
+      (λ ran. second_follows s s' w middle after exit xs ys ys' state second ran.0 parts.between p' ran.1 ran.2 parts.second)
+      (λ fails. inr (join s w xs ys state (Over Fails) (Over Fails) fails refl))
+      (first.by state state' related parts.between parts.first);
+}
 
 -- ══ Blocks ══
 
@@ -105,10 +107,10 @@ body_on s s' w entry middle after exit b old new followed enters enters' on (Som
 body_on s s' w entry middle after exit b old new followed enters enters' on (Some σ) (Some σ') o stands run =
     let tail : Follows b old.successors enters' run.0 o = subst (λ t. Follows b t enters' run.0 o) followed.successors run.2 in
     ⊎_elim
-        (λ ran. ⊎_elim (λ more. inl (ran.0, ran.1, more)) (λ fails. inr (ran.0, ran.1, fails))
-            (ends s s' w entry middle after exit b old new followed enters enters' on ran.0 run.0 o ran.2 tail))
-        (λ fails. inr (Over Fails, fails, refl))
-        (followed.body.by σ σ' stands run.0 run.1)
+    (λ ran. ⊎_elim (λ more. inl (ran.0, ran.1, more)) (λ fails. inr (ran.0, ran.1, fails))
+    (ends s s' w entry middle after exit b old new followed enters enters' on ran.0 run.0 o ran.2 tail))
+    (λ fails. inr (Over Fails, fails, refl))
+    (followed.body.by σ σ' stands run.0 run.1)
 
 place_on : (s s' : Setting) (w : World) (entry : Option ℕ → ℕ → State → State → Type 0) (middle after : State → State → Type 0) (exit : ℕ → State → State → Type 0) (b : ℕ) (old new : Option BlockData)
     → PlaceFollowed s s' w entry middle after exit b old new → (enters enters' : Option ℕ → ℕ → State → Outcome → Type 0) → Entered entry enters enters'
@@ -118,17 +120,21 @@ place_on s s' w entry middle after exit b None new followed enters enters' on fr
 place_on s s' w entry middle after exit b (Some old) None followed enters enters' on from state state' o related run = absurd followed
 place_on s s' w entry middle after exit b (Some old) (Some new) followed enters enters' on from state state' o related run =
     body_on s s' w entry middle after exit b old new followed enters enters' on (joined state from (phis_of old.instrs)) (joined state' from (phis_of new.instrs)) o
-        (followed.phis from state state' related) run
+    (followed.phis from state state' related) run
 
 -- ══ Whole runs ══
 
 enters_on : (s s' : Setting) (w : World) (entry : Option ℕ → ℕ → State → State → Type 0) (middle after : ℕ → State → State → Type 0) (exit : ℕ → ℕ → State → State → Type 0) (old new : List BlockData)
     → AreFollowed s s' w entry middle after exit old new → (n : ℕ) → Entered entry (Enters s w old n) (Enters s' w new n)
-enters_on s s' w entry middle after exit old new followed zero = record { by = λ from b state state' o related run.
-    inl (run ∙ ap₂ Going (followed.memory from b state state' related) (followed.taken from b state state' related)) }
-enters_on s s' w entry middle after exit old new followed (suc n) = record { by = λ from b state state' o related run.
-    place_on s s' w entry (middle b) (after b) (exit b) b (slice_get old b) (slice_get new b) (followed.places b) (Enters s w old n) (Enters s' w new n)
-        (enters_on s s' w entry middle after exit old new followed n) from state state' o related run }
+enters_on s s' w entry middle after exit old new followed zero = record {
+  by = λ from b state state' o related run.
+      inl (run ∙ ap₂ Going (followed.memory from b state state' related) (followed.taken from b state state' related));
+}
+enters_on s s' w entry middle after exit old new followed (suc n) = record {
+  by = λ from b state state' o related run.
+      place_on s s' w entry (middle b) (after b) (exit b) b (slice_get old b) (slice_get new b) (followed.places b) (Enters s w old n) (Enters s' w new n)
+      (enters_on s s' w entry middle after exit old new followed n) from state state' o related run;
+}
 
 -- where the blocks follow in each world, from related states at the start, the new function refines the old one
 pub refined_by_following : (x : ℕ) (names : List (List ℕ)) (old new : FunctionData) (entry : World → Option ℕ → ℕ → State → State → Type 0)
@@ -136,8 +142,10 @@ pub refined_by_following : (x : ℕ) (names : List (List ℕ)) (old new : Functi
     → ((w : World) → IsWorld x w → entry w None 0 (start w) (start w))
     → ((w : World) → IsWorld x w → AreFollowed (setting_of x names old) (setting_of x names new) w (entry w) (middle w) (after w) (exit w) old.blocks new.blocks)
     → IsRefinement x names old new
-refined_by_following x names old new entry middle after exit starts followed = record { runs = λ w is_world n o run. ⊎_elim
-    (λ ran. inl ran)
-    (λ fails. inr (may_from_fails x names old w n fails))
-    ((enters_on (setting_of x names old) (setting_of x names new) w (entry w) (middle w) (after w) (exit w) old.blocks new.blocks (followed w is_world) n).by
-        None 0 (start w) (start w) o (starts w is_world) run) }
+refined_by_following x names old new entry middle after exit starts followed = record {
+  runs = λ w is_world n o run. ⊎_elim
+      (λ ran. inl ran)
+      (λ fails. inr (may_from_fails x names old w n fails))
+      ((enters_on (setting_of x names old) (setting_of x names new) w (entry w) (middle w) (after w) (exit w) old.blocks new.blocks (followed w is_world) n).by
+      None 0 (start w) (start w) o (starts w is_world) run);
+}

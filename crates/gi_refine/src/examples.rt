@@ -20,5 +20,4 @@ pub fn examples_come_to()
     // A call that an event answers, and one that none does.
     ensures answered { (n : ℕ) → ComesTo 32 names calls (world_of 5 0 0 answered) (suc n) (Returned (7 ∷ []) counting 1) }
     ensures unanswered { (n : ℕ) → ComesTo 32 names calls (world_of 5 0 0 []) (suc n) (Asking (codes "g") (5 ∷ []) counting 0) }
-{
-}
+{}

@@ -13,20 +13,17 @@ ghost use Rattle.gi_refine.specs.Simulation.{AreFollowed, IsFollowed};
 /// of block entries adds anything.
 pub fn may_fail_is_failing()
     ensures { (x : ℕ) (names : List (List ℕ)) (f : FunctionData) (world : World) (n : ℕ) → MayFail x names f world n ↔ Runs x names f world n Fails }
-{
-}
+{}
 
 /// A function refines itself.
 pub fn refinement_is_reflexive()
     ensures { (x : ℕ) (names : List (List ℕ)) (f : FunctionData) → IsRefinement x names f f }
-{
-}
+{}
 
 /// What refines a refinement refines: also where the function between isn't valid.
 pub fn refinement_is_transitive()
     ensures { (x : ℕ) (names : List (List ℕ)) (f g h : FunctionData) → IsRefinement x names f g → IsRefinement x names g h → IsRefinement x names f h }
-{
-}
+{}
 
 /// Two pieces of a block that follow, follow one after the other. What is hidden may vary from point to point.
 pub fn pieces_follow()
@@ -34,8 +31,7 @@ pub fn pieces_follow()
         → IsFollowed s t world (Agree before) (Agree middle) (AgreeAt out) a b
         → IsFollowed s t world (Agree middle) (Agree after) (AgreeAt out) c d
         → IsFollowed s t world (Agree before) (Agree after) (AgreeAt out) (a ++ c) (b ++ d) }
-{
-}
+{}
 
 /// An instruction that reads nothing hidden is followed by itself, and shows what it writes.
 pub fn same_instruction_follows()
@@ -44,18 +40,16 @@ pub fn same_instruction_follows()
         → AreSeen hidden old new (read_places i.1.operands)
         → AreAlike old new (written_places (meaning_of i.1.flags i.1.op) i.1.operands)
         → IsFollowed (setting x names old) (setting x names new) world (Agree hidden)
-            (Agree (all_shown hidden (written_places (meaning_of i.1.flags i.1.op) i.1.operands)))
-            (AgreeAt (λ b. hidden)) (i ∷ []) (j ∷ []) }
-{
-}
+        (Agree (all_shown hidden (written_places (meaning_of i.1.flags i.1.op) i.1.operands)))
+        (AgreeAt (λ b. hidden)) (i ∷ []) (j ∷ []) }
+{}
 
 /// Where each block follows, from states that agree at its entry to states that agree at the entry of the next,
 /// the new function refines the old one: for every number of block entries, loops included.
 pub fn whole_runs_follow()
     ensures { (x : ℕ) (names : List (List ℕ)) (old new : FunctionData) (entry middle after : ℕ → Place → Bool) (out : ℕ → ℕ → Place → Bool)
         → ((world : World) → IsWorld x world
-            → AreFollowed (setting_of x names old) (setting_of x names new) world (AgreeEntering entry)
-                (AgreeAt middle) (AgreeAt after) (λ b. AgreeAt (out b)) old.blocks new.blocks)
+        → AreFollowed (setting_of x names old) (setting_of x names new) world (AgreeEntering entry)
+        (AgreeAt middle) (AgreeAt after) (λ b. AgreeAt (out b)) old.blocks new.blocks)
         → IsRefinement x names old new }
-{
-}
+{}

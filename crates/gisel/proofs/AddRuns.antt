@@ -1,5 +1,5 @@
 -- The example returns the sum of its two words, before and after selection, and does nothing else.
-use Rattle.std.proofs.Common.{◌≡◌, ℕ, zero, suc, List, [], ◌∷◌, drop, refl, ap, ◌∙◌, subst}
+use Rattle.std.proofs.Common.{◌≡◌, ℕ, suc, List, [], ◌∷◌, drop, refl, ap, ◌∙◌, subst}
 use Rattle.gi_llt.specs.declared.Llt.TheVariants.{Scalar}
 use Rattle.gi_mir.specs.AddExample.{block_of}
 use Rattle.gi_mir.specs.Data.{InstrData}

@@ -1,5 +1,5 @@
 -- A text that is printed of what is selected from a read one keeps the promise.
-use Rattle.std.proofs.Common.{◌≡◌, ℕ, Bool, true, ◌&&◌, List, [], ◌∷◌, map, Option, None, refl, sym, ap, ap₂, ◌∙◌, subst, inl}
+use Rattle.std.proofs.Common.{◌≡◌, ℕ, true, ◌&&◌, List, [], ◌∷◌, map, refl, sym, ap, ap₂, ◌∙◌, subst, inl}
 use Rattle.std.specs.List.{AllZip, list_all}
 use Rattle.gi_mir.specs.Data.{InstrData, BlockData, FunctionData, ModuleData}
 use Rattle.gi_mir.specs.Numbering.{order_of, number_in, numbered, numbered_module}
@@ -7,7 +7,7 @@ use Rattle.gi_mir.specs.Renaming.{renamed_pair, renamed_block, renamed_instr}
 use Rattle.gi_mir.specs.Printable.{is_named_instr, is_named_block, has_no_liveins, later_blocks, IsPrintable, AllPrintable, IsPrintableModule}
 use Rattle.gi_mir.specs.Printed.{name_at, printed}
 use Rattle.gi_mir.specs.Spelling.{is_name, Spells}
-use Rattle.gi_mir.specs.Stated.{stated_instr, IsStatedInstr, IsStated, IsStatedText}
+use Rattle.gi_mir.specs.Stated.{stated_instr, IsStatedInstr, IsStated}
 use Rattle.gi_mir.proofs.NumberingLaws.{number_in_apart}
 use Rattle.gi_mir.proofs.Texts.{stated_printable, printed_spells, stated_spells}
 use Rattle.gi_meaning.proofs.Renaming.{runs_renamed}
@@ -18,7 +18,7 @@ use Rattle.gisel.specs.Selection.{selected_instr, IsSelectedInstr, IsSelectedBlo
 use Rattle.gisel.specs.Selectable.{IsSelectable, AllSelectable}
 use Rattle.gisel.specs.Reading.{IsRead}
 use Rattle.gisel.specs.Promise.{Refines, Compiles}
-use Rattle.gisel.proofs.SelectionLaws.{Functions, only_block, runs_selected}
+use Rattle.gisel.proofs.SelectionLaws.{only_block, runs_selected}
 
 -- ══ What is printed can be spelled ══
 

@@ -1,5 +1,5 @@
 -- The functions that selection takes so far: one block of statements, and no stack object.
-use Rattle.std.specs.Prelude.{◌≡◌, ℕ, List, [], ◌∷◌, map, ⊤}
+use Rattle.std.specs.Prelude.{◌≡◌, List, [], ◌∷◌, map, ⊤}
 use Rattle.std.specs.List.{AllZip}
 use Rattle.gi_mir.specs.Data.{BlockData, FunctionData}
 use Rattle.gi_mir.specs.Stated.{IsStatedInstr}

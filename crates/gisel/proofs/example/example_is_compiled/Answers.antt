@@ -2,7 +2,7 @@ use Rattle.std.proofs.Common.{◌≡◌, suc, ◌+◌, ◌∷◌, [], refl, ap, 
 use Rattle.gi_llt.specs.Bits.{wrapped}
 use Rattle.gi_meaning.specs.State.{World, Returned}
 use Rattle.gi_meaning.specs.Runs.{Runs}
-use Rattle.gisel.specs.AddRuns.{names, before, after, sum_in, ReturnsOne}
+use Rattle.gisel.specs.AddRuns.{names, before, after, sum_in}
 use Rattle.gisel.proofs.AddRuns.{returns, returns_only, returns_after, returns_only_after}
 use Rattle.gisel.proofs.example.example_is_compiled.Goals as goal
 

@@ -1,4 +1,4 @@
-use Rattle.std.proofs.Common.{◌∙◌, sym}
+use Rattle.std.proofs.Common.{◌∙◌}
 use Rattle.std.specs.Cmp.Lexicographic.{same_text}
 use Rattle.gisel.proofs.line.returns.Goals as goal
 

@@ -1,7 +1,6 @@
-use Rattle.std.proofs.Common.{◌≡◌, ◌<◌, ◌+◌, ℕ, length, get_or, suc, subst, sym, ap, ◌∙◌, arith, add-one}
+use Rattle.std.proofs.Common.{◌≡◌, ◌<◌, ◌+◌, ℕ, length, get_or, subst, sym, ap, add-one}
 use Rattle.gi_mir.specs.Data.{InstrData, FunctionData}
-use Rattle.gi_mir.specs.Edit.{block_at}
-use Rattle.gisel.proofs.SelectFront.{SelectedFront, selected_formed, front_more, front_whole}
+use Rattle.gisel.proofs.SelectFront.{SelectedFront, selected_formed, front_more}
 use Rattle.gisel.proofs.select.select.Goals as goal
 
 pub append_selected-requires-clause-formed : goal.append_selected-requires-clause-formed

@@ -1,4 +1,4 @@
-use Rattle.std.proofs.Common.{◌+◌, ℕ, List, take, suc, subst, sym, add-one}
+use Rattle.std.proofs.Common.{◌+◌, ℕ, List, take, subst, sym, add-one}
 use Rattle.std.specs.List.{AllZip}
 use Rattle.gi_mir.specs.Data.{FunctionData}
 use Rattle.gisel.specs.Selection.{IsSelected}
