@@ -10,3 +10,4 @@ pub mod Selection
 pub mod Standing
 pub mod Statement
 pub mod Stop
+pub mod Words

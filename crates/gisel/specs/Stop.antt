@@ -1,5 +1,6 @@
--- The status of each reason to stop before a text is written.
-use Rattle.std.specs.Prelude.{ℕ}
+-- The status of each reason to stop before a text is written, and what the program says of it.
+use Rattle.std.specs.Prelude.{◌≡◌, ◌⊎◌, ℕ, List, [], ◌∷◌, ◌++◌, codes, decimal, Option, Some, None}
+use Rattle.gi_io.specs.Faults.{Rose}
 use Rattle.gisel.specs.declared.stop.Stop.{Stop}
 use Rattle.gisel.specs.declared.stop.Stop.TheVariants as stop
 
@@ -9,3 +10,19 @@ status_of stop.ReadFault = 4
 status_of stop.TooLong = 1
 status_of (stop.NotBuilt line) = 1
 status_of stop.Memory = 3
+
+abbrev pub message_of : Stop → List ℕ
+message_of (stop.Usage word) = codes "gisel: usage: " ++ word.now
+message_of stop.ReadFault = codes "gisel: read fault"
+message_of stop.TooLong = codes "gisel: input: limit 8388608"
+message_of (stop.NotBuilt line) = codes "gisel: line " ++ (decimal line ++ codes ": not built")
+message_of stop.Memory = codes "gisel: memory"
+
+-- where no fault rose, what was held and then the message with a line feed
+abbrev pub Says : (message : List ℕ) (old_faults new_faults : ℕ) (before after : List ℕ) → Type 0
+Says message old_faults new_faults before after = (after ≡ before ++ (message ++ 10 ∷ [])) ⊎ Rose old_faults new_faults
+
+-- a usage is of the word at fault, and any other reason is of words that are right
+abbrev pub UsageOf : (wrong : Option (List ℕ)) → Stop → Type 0
+UsageOf wrong (stop.Usage word) = wrong ≡ Some word.now
+UsageOf wrong other = wrong ≡ None

@@ -1,7 +1,8 @@
 //! Why the program stops without a text, and what it says then.
 
-ghost use Rattle.std.specs.Prelude.{◌≡◌, ◌⊎◌, ◌≤◌, IsTrue};
-ghost use Rattle.gisel.specs.Stop.{status_of};
+ghost use Rattle.std.specs.Prelude.{◌≡◌, ◌≢◌, ◌⊎◌, ◌++◌, ◌∷◌, [], IsTrue, IfOk, codes, string_bytes};
+ghost use Rattle.gi_io.specs.Faults.{Rose};
+ghost use Rattle.gisel.specs.Stop.{message_of, status_of, Says};
 
 use crate::refusal::Refusal;
 use gi_io::{Output, write_all};
@@ -32,11 +33,13 @@ impl Stop<'_> {
     }
 
     /// What the program says, without the line feed.
-    fn message(&self, alloc: Global) -> Result<String, AllocError> {
+    fn message(&self, alloc: Global) -> Result<String, AllocError>
+        ensures { IfOk result (λ message. string_bytes message ≡ message_of self.now) }
+    {
         match self {
             Stop::Usage(word) => format!(in alloc; "gisel: usage: {word}"),
             Stop::ReadFault => String::from_str(alloc, "gisel: read fault"),
-            Stop::TooLong => format!(in alloc; "gisel: input: limit {LIMIT}"),
+            Stop::TooLong => String::from_str(alloc, "gisel: input: limit 8388608"),
             Stop::NotBuilt { line } => format!(in alloc; "gisel: line {line}: not built"),
             Stop::Memory => String::from_str(alloc, "gisel: memory"),
         }
@@ -47,15 +50,19 @@ impl Stop<'_> {
 pub const LIMIT: usize = 8_388_608;
 
 /// Writes a message and a line feed. A fault changes nothing else.
-pub fn say<E: Output>(err: &mut E, message: &str) {
+pub fn say<E: Output>(err: &mut E, message: &str)
+    ensures { IsTrue (E.tells err.old) → Says message.now (E.faults err.old) (E.faults err.new) (E.held err.old) (E.held err.new) }
+{
     if err.create(None).is_ok() && write_all(err, message.as_bytes()).is_ok() {
         let _ = write_all(err, b"\n");
     }
 }
 
-/// Says why the program stops, and answers its status, which is that of no memory where the message found none.
+/// Says why the program stops, and answers its status. Where the message finds no memory it ends for want of it.
 pub fn end_with<E: Output>(alloc: Global, err: &mut E, why: &Stop<'_>) -> u8
-    ensures { (result ≡ status_of why.now) ⊎ (result ≡ 3) }
+    ensures status { (result ≡ status_of why.now) ⊎ (result ≡ 3) }
+    ensures said { result ≢ 3 → IsTrue (E.tells err.old) → Says (message_of why.now) (E.faults err.old) (E.faults err.new) (E.held err.old) (E.held err.new) }
+    ensures no_memory { result ≡ 3 → IsTrue (E.tells err.old) → Says (codes "gisel: memory") (E.faults err.old) (E.faults err.new) (E.held err.old) (E.held err.new) }
 {
     match why.message(alloc) {
         Ok(message) => {

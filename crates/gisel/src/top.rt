@@ -1,8 +1,10 @@
 //! The top call.
 
-ghost use Rattle.std.specs.Prelude.{◌≡◌, ◌≢◌, ◌⊎◌, ◌≤◌, ◌<◌, ◌^◌, ◌-◌, ◌++◌, [], None, IsTrue, IfOk, OnOk, IsErrOf, length};
+ghost use Rattle.std.specs.Prelude.{◌≡◌, ◌≢◌, ◌⊎◌, ◌≤◌, ◌<◌, ◌^◌, ◌-◌, ◌++◌, [], None, IsTrue, IfOk, OnOk, IfErr, IfSome, IsSome, IsErrOf, length, map, string_bytes, Some, codes};
 ghost use Rattle.gi_io.specs.Faults.{Rose};
 ghost use Rattle.gisel.specs.Promise.{Compiles, AppendsCompiled};
+ghost use Rattle.gisel.specs.Stop.{UsageOf, Says};
+ghost use Rattle.gisel.specs.Words.{wrong_word};
 
 use crate::compile::compile;
 use crate::refusal::Refusal;
@@ -17,6 +19,7 @@ fn read_input<'a, I: Input>(alloc: Global, input: &mut I) -> Result<Vec<u8>, Sto
     ensures short { IfOk result (λ bytes. length bytes.items < 2 ^ 32 - 1) }
     ensures whole { OnOk result (IsTrue (I.tells input.old) → I.left input.new ≡ []) }
     ensures read_fault { IsErrOf result Stop.ReadFault → Rose (I.faults input.old) (I.faults input.new) }
+    ensures no_usage { IfErr result (UsageOf None) }
 {
     if input.open(None).is_err() {
         return Err(Stop::ReadFault);
@@ -36,13 +39,18 @@ fn text_for<'a, I: Input>(
     input: &mut I,
 ) -> Result<Vec<u8>, Stop<'a>>
     ensures text { IfOk result (λ text. IsTrue (I.tells input.old) → Compiles 32 (I.stored input.old None) text.items) }
+    ensures words { OnOk result (wrong_word (map string_bytes words.now) ≡ None) }
+    ensures usage { IfErr result (UsageOf (wrong_word (map string_bytes words.now))) }
     ensures whole { OnOk result (IsTrue (I.tells input.old) → I.left input.new ≡ []) }
     ensures read_fault { IsErrOf result Stop.ReadFault → Rose (I.faults input.old) (I.faults input.new) }
 {
     if let Some(word) = faulty_word(words) {
         return Err(Stop::Usage(word));
     }
-    let bytes = read_input(alloc, input)?;
+    let bytes = match read_input(alloc, input) {
+        Ok(bytes) => bytes,
+        Err(why) => return Err(why),
+    };
     match compile(alloc, bytes.as_slice()) {
         Ok(text) => Ok(text),
         Err(Refusal::NotBuilt { line }) => Err(Stop::NotBuilt { line }),
@@ -55,6 +63,8 @@ fn written<O: Output, E: Output>(out: &mut O, err: &mut E, text: &[u8]) -> u8
     ensures status { (result ≡ 0) ⊎ (result ≡ 5) }
     ensures text { result ≡ 0 → IsTrue (O.tells out.old) → O.held out.new ≡ O.held out.old ++ text.now }
     ensures write_fault { result ≡ 5 → Rose (O.faults out.old) (O.faults out.new) }
+    ensures said { result ≡ 5 → IsTrue (E.tells err.old)
+        → Says (codes "gisel: write fault") (E.faults err.old) (E.faults err.new) (E.held err.old) (E.held err.new) }
 {
     if out.create(None).is_ok() && write_all(out, text).is_ok() {
         return 0;
@@ -90,6 +100,17 @@ pub fn gisel<I: Input, O: Output, E: Output>(
     ensures write_fault { result ≡ 5 → Rose (O.faults out.old) (O.faults out.new) }
     ensures untouched { result ≢ 0 → result ≢ 5 → IsTrue (O.tells out.old) → O.held out.new ≡ O.held out.old }
     ensures not_created { result ≢ 0 → result ≢ 5 → O.created out.new ≡ O.created out.old }
+
+    // Status 2 comes only of other words than the two, and such words give no other, but where memory runs out.
+    ensures words { IsSome (wrong_word (map string_bytes words.now)) → (result ≡ 2) ⊎ (result ≡ 3) }
+    ensures usage { result ≡ 2 → IfSome (wrong_word (map string_bytes words.now)) (λ word. IsTrue (E.tells err.old)
+        → Says (codes "gisel: usage: " ++ word) (E.faults err.old) (E.faults err.new) (E.held err.old) (E.held err.new)) }
+    ensures read_fault_said { result ≡ 4 → IsTrue (E.tells err.old)
+        → Says (codes "gisel: read fault") (E.faults err.old) (E.faults err.new) (E.held err.old) (E.held err.new) }
+    ensures write_fault_said { result ≡ 5 → IsTrue (E.tells err.old)
+        → Says (codes "gisel: write fault") (E.faults err.old) (E.faults err.new) (E.held err.old) (E.held err.new) }
+    ensures no_memory_said { result ≡ 3 → IsTrue (E.tells err.old)
+        → Says (codes "gisel: memory") (E.faults err.old) (E.faults err.new) (E.held err.old) (E.held err.new) }
 {
     match text_for(alloc, words, input) {
         Ok(text) => written(out, err, text.as_slice()),

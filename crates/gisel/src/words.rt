@@ -1,6 +1,8 @@
 //! The words of the command line.
 
-ghost use Rattle.std.specs.Prelude.{◌≡◌, [], ◌∷◌, map, string_bytes, codes, IfNone};
+ghost use Rattle.std.specs.Prelude.{◌≡◌, map, string_bytes};
+ghost use Rattle.std.specs.Option.{option_copied};
+ghost use Rattle.gisel.specs.Words.{wrong_word, wrong_start, wrong_third};
 
 /// The word that chooses the target, and the one that chooses the passes: those that the program takes so far.
 const TRIPLE: &str = "-mtriple=riscv32";
@@ -9,41 +11,42 @@ const START: &str = "-start-after=regbankselect";
 
 /// The word at fault: the first that differs from its place, the third, or the one that is missing.
 pub fn faulty_word(words: &[String]) -> Option<&str>
-    ensures { IfNone result (map string_bytes words.now ≡ codes "-mtriple=riscv32" ∷ codes "-start-after=regbankselect" ∷ []) }
+    ensures { option_copied result ≡ wrong_word (map string_bytes words.now) }
 {
     match words {
-        [triple, start] => wrong_word(triple.as_str(), start.as_str()),
-        _ => Some(word_out_of_place(words)),
+        [] => Some(TRIPLE),
+        [triple, rest @ ..] => {
+            if triple.as_str() == TRIPLE {
+                faulty_start(rest)
+            } else {
+                Some(triple.as_str())
+            }
+        }
     }
 }
 
-/// The first of two words that is wrong.
-fn wrong_word<'a>(triple: &'a str, start: &'a str) -> Option<&'a str>
-    ensures triple { IfNone result (triple.now ≡ codes "-mtriple=riscv32") }
-    ensures start { IfNone result (start.now ≡ codes "-start-after=regbankselect") }
+/// The word at fault behind the target's.
+fn faulty_start(words: &[String]) -> Option<&str>
+    ensures { option_copied result ≡ wrong_start (map string_bytes words.now) }
 {
-    if triple != TRIPLE {
-        return Some(triple);
+    match words {
+        [] => Some(START),
+        [start, rest @ ..] => {
+            if start.as_str() == START {
+                faulty_third(rest)
+            } else {
+                Some(start.as_str())
+            }
+        }
     }
-    if start != START {
-        return Some(start);
-    }
-    None
 }
 
-/// Of fewer or more words than two, the one that is wrong, missing or too many.
-fn word_out_of_place(words: &[String]) -> &str {
-    let Some(triple) = words.get(0) else {
-        return TRIPLE;
-    };
-    if triple.as_str() != TRIPLE {
-        return triple.as_str();
+/// The first word too many.
+fn faulty_third(words: &[String]) -> Option<&str>
+    ensures { option_copied result ≡ wrong_third (map string_bytes words.now) }
+{
+    match words {
+        [] => None,
+        [third, ..] => Some(third.as_str()),
     }
-    let Some(start) = words.get(1) else {
-        return START;
-    };
-    if start.as_str() != START {
-        return start.as_str();
-    }
-    words.get(2).map_or(START, |word| word.as_str())
 }
