@@ -1,6 +1,6 @@
 -- A line is cut step by step.
-use Rattle.std.proofs.Common.{◌≡◌, ℕ, zero, suc, ◌+◌, ◌-◌, ◌<◌, ◌≤◌, Bool, true, false, List, [], ◌∷◌, ◌++◌, length, take, drop, refl, sym, ap, ◌∙◌, subst, arith, add-one, append_assoc, length-append}
-use Rattle.std.specs.Prelude.{Result, Ok, Err, if◌then◌else◌}
+use Rattle.std.proofs.Common.{◌≡◌, ℕ, zero, suc, ◌+◌, true, false, List, [], ◌∷◌, ◌++◌, length, take, drop, refl, sym, ap, ◌∙◌, subst, arith, add-one, append_assoc}
+use Rattle.std.specs.Prelude.{Ok, Err, if◌then◌else◌}
 use Rattle.std.proofs.lemmas.List.{append-nil}
 use Rattle.std.proofs.Math.Seq.{take-append_seam}
 use Rattle.gi_llt.specs.Tokens.{LexemeKind, Word, Number, Register, Physical, Global, Routine, Quoted, Metadata, Mark, start_of, Found, FoundBlank, FoundComment, FoundToken, FoundNothing, found}
@@ -12,7 +12,7 @@ use Rattle.gi_text.specs.declared.token.LineError.TheVariants.{BadToken, BadNumb
 use Rattle.gi_text.specs.Kinds.{kind_of, lexeme_kind}
 use Rattle.gi_text.specs.Numbers.{is_too_great}
 use Rattle.gi_text.specs.Steps.{step_of, step_at}
-use Rattle.gi_text.specs.Cutting.{Fault, NoToken, TooGreat, Cut, behind, token_at, cut_from, cut_past, cut_line, told_place, IsFaultOf}
+use Rattle.gi_text.specs.Cutting.{NoToken, TooGreat, Cut, behind, cut_from, cut_past, cut_line, told_place, IsFaultOf}
 use Rattle.gi_text.proofs.StepLemmas.{IsFront, front_found}
 
 -- bytes that are skipped are dropped

@@ -2,3 +2,4 @@ pub mod RunLemmas
 pub mod NumberLemmas
 pub mod StepLemmas
 pub mod CutLemmas
+pub mod LawLemmas

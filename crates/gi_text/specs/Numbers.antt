@@ -1,5 +1,5 @@
 -- The numbers that tokens write: decimal with or without a minus, or hexadecimal behind `0x`.
-use Rattle.std.specs.Prelude.{ℕ, suc, ◌+◌, ◌-◌, ◌*◌, ◌^◌, Bool, true, false, ◌&&◌, List, [], ◌∷◌, Option, Some, None, ◌==◌, nat_le, nat_lt, if◌then◌else◌}
+use Rattle.std.specs.Prelude.{ℕ, ◌+◌, ◌-◌, ◌*◌, ◌^◌, Bool, false, ◌&&◌, List, [], ◌∷◌, Option, Some, None, ◌==◌, nat_le, nat_lt, if◌then◌else◌}
 use Rattle.gi_llt.specs.Tokens.{LexemeKind, Number, is_digit, is_within}
 use Rattle.gi_text.specs.declared.token.Number.{Number as NumberData}
 

@@ -1,7 +1,7 @@
 -- What stands at the front of the bytes that are left of a line, as code tells it: a token by its kind
 -- and by how many bytes it has after its first.
 use Rattle.std.specs.Prelude.{ℕ, suc, List, [], ◌∷◌, length}
-use Rattle.gi_llt.specs.Tokens.{LexemeKind, Register, Physical, Global, Routine, Start, OfBlank, OfComment, OfWord, OfNumber, OfMinus, OfName, OfQuoted, OfMetadata, OfMark, OfNothing, start_of, Found, FoundBlank, FoundComment, FoundToken, FoundNothing, found}
+use Rattle.gi_llt.specs.Tokens.{Register, Physical, Global, Routine, Start, OfBlank, OfComment, OfWord, OfNumber, OfMinus, OfName, OfQuoted, OfMetadata, OfMark, OfNothing, start_of, Found, FoundBlank, FoundComment, FoundToken, FoundNothing, found}
 use Rattle.gi_text.specs.declared.bytes.Begin.{Begin}
 use Rattle.gi_text.specs.declared.bytes.Begin.TheVariants as begin
 use Rattle.gi_text.specs.declared.step.Step.{Step}

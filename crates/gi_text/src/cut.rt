@@ -69,6 +69,7 @@ pub fn tokens(
     requires within { end ≤ length bytes.now }
     requires short { end < 2 ^ 32 - 1 }
     ensures ok { IfOk result (λ tokens. cut_of bytes.now start end ≡ Ok tokens.items) }
+    ensures slices { IfOk result (λ tokens. All (IsSlice bytes.now) tokens.items) }
     ensures err { IfErr result (λ error. IsFaultOf (cut_of bytes.now start end) line start error) }
 {
     let mut tokens = Vec::new(alloc);

@@ -2,11 +2,14 @@
 #![tactic(auto)]
 
 mod bytes;
+mod cursor;
 mod cut;
+pub mod laws;
 mod numbers;
 mod step;
 mod token;
 
+pub use cursor::Cursor;
 pub use cut::tokens;
 pub use numbers::number;
 pub use token::{LineError, Number, Place, SizeError, TextError, Token, TokenKind};

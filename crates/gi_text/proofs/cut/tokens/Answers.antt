@@ -3,7 +3,8 @@ use Rattle.gi_text.specs.declared.token.LineError.TheVariants.{BadNumber}
 use Rattle.gi_text.specs.Kinds.{lexeme_kind}
 use Rattle.gi_text.specs.Numbers.{is_too_great}
 use Rattle.gi_text.specs.Cutting.{IsFaultOf, behind, cut_line, cut_of}
-use Rattle.gi_text.proofs.CutLemmas.{after_token, at_great}
+use Rattle.gi_text.proofs.CutLemmas.{after_token, at_end, at_great}
+use Rattle.gi_text.proofs.LawLemmas.{slices_of}
 use Rattle.gi_text.proofs.cut.tokens.Goals as goal
 
 pub returns-then-is_too_great-clause-err : goal.returns-then-is_too_great-clause-err
@@ -24,3 +25,8 @@ loop-rest-preserved c =
           (after_token c.loop-rest.tokens.items c.append.new.tokens.items c.in-Token.kind c.in-Token.more c.loop-rest.place c.loop-rest.rest.now _ c.in-Token.ensures.step
           (sym (c.if-is_too_great.ensures ∙ ap (is_too_great (lexeme_kind c.in-Token.kind)) c.front.ensures)) c.in_ok-append-in-Token.ensures.ok c.loop-rest.invariant.cut);
     }
+
+pub returns-in-End-clause-slices : goal.returns-in-End-clause-slices
+returns-in-End-clause-slices c =
+    slices_of c.args.bytes.now c.args.start c.args.end c.loop-rest.tokens.items c.requires.ordered c.requires.within
+    (at_end c.loop-rest.tokens.items c.loop-rest.place c.loop-rest.rest.now _ c.in-End.ensures.step c.loop-rest.invariant.cut)
