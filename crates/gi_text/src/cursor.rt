@@ -8,6 +8,7 @@ use crate::token::{Token, TokenKind};
 use std::marker::Model;
 
 /// Tokens of a text, of which the first is the next.
+#[derive(Drop)]
 pub struct Cursor<'a> {
     bytes: &'a [u8],
     tokens: &'a [Token],

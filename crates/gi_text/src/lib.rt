@@ -13,3 +13,6 @@ pub use cursor::Cursor;
 pub use cut::tokens;
 pub use numbers::number;
 pub use token::{LineError, Number, Place, SizeError, TextError, Token, TokenKind};
+
+#[cfg(test)]
+mod tests;
