@@ -1,0 +1,5 @@
+pub mod RunLemmas
+pub mod NumberLemmas
+pub mod StepLemmas
+pub mod CutLemmas
+pub mod LawLemmas

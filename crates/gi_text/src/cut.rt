@@ -1,0 +1,102 @@
+//! The tokens of a line.
+
+ghost use Rattle.std.specs.Prelude.{◌≡◌, ◌+◌, ◌-◌, ◌<◌, ◌≤◌, ◌^◌, [], ◌∷◌, ◌++◌, Ok, length, take, drop, All, IfOk, IfErr, OnOk};
+ghost use Rattle.gi_text.specs.Cutting.{IsFaultOf, IsSlice, cut_of, slice, told_place};
+ghost use Rattle.gi_text.specs.declared.token.LineError.TheVariants.{Memory};
+
+use crate::numbers::is_too_great;
+use crate::step::{Step, next_step};
+use crate::token::{LineError, Place, Token};
+use std::alloc::Global;
+
+/// The bytes from a place up to another.
+fn slice(bytes: &[u8], start: usize, end: usize) -> &[u8]
+    requires ordered { start ≤ end }
+    requires within { end ≤ length bytes.now }
+    ensures { result.now ≡ slice start end bytes.now }
+{
+    &bytes[start..end]
+}
+
+/// The bytes after the first so many.
+fn after(bytes: &[u8], count: usize) -> &[u8]
+    requires { count ≤ length bytes.now }
+    ensures { result.now ≡ drop count bytes.now }
+{
+    &bytes[count..]
+}
+
+/// The first so many bytes.
+fn front(bytes: &[u8], count: usize) -> &[u8]
+    requires { count ≤ length bytes.now }
+    ensures { result.now ≡ take count bytes.now }
+{
+    &bytes[..count]
+}
+
+/// The column of a place in a line that begins at `start`, with the line.
+fn told_place(line: u32, start: usize, place: usize) -> Place
+    requires ordered { start ≤ place }
+    requires short { place < 2 ^ 32 - 1 }
+    ensures { result ≡ told_place line start place }
+{
+    let column = (place - start + 1) as u32;
+    Place { line, column }
+}
+
+/// Adds a token.
+fn append(tokens: &mut Vec<Token>, token: Token) -> Result<(), LineError>
+    ensures ok { OnOk result (tokens.new.items ≡ tokens.old.items ++ token ∷ []) }
+    ensures err { IfErr result (λ e. e ≡ Memory) }
+{
+    match tokens.push(token) {
+        Ok(_) => Ok(()),
+        Err(_) => Err(LineError::Memory),
+    }
+}
+
+/// The tokens of the bytes from `start` up to `end`, in order, or the leftmost place at which a byte begins
+/// no token or a number passes 2^128 - 1. The place is told with the line that is given, and counts the
+/// bytes from `start` on from 1.
+pub fn tokens(
+    alloc: Global,
+    bytes: &[u8],
+    line: u32,
+    start: usize,
+    end: usize,
+) -> Result<Vec<Token>, LineError>
+    requires ordered { start ≤ end }
+    requires within { end ≤ length bytes.now }
+    requires short { end < 2 ^ 32 - 1 }
+    ensures ok { IfOk result (λ tokens. cut_of bytes.now start end ≡ Ok tokens.items) }
+    ensures slices { IfOk result (λ tokens. All (IsSlice bytes.now) tokens.items) }
+    ensures err { IfErr result (λ error. IsFaultOf (cut_of bytes.now start end) line start error) }
+{
+    let mut tokens = Vec::new(alloc);
+    let mut rest = slice(bytes, start, end);
+    let mut place = start;
+    loop {
+        match next_step(rest) {
+            Step::Blank => {
+                rest = after(rest, 1);
+                place += 1;
+            }
+            Step::End => return Ok(tokens),
+            Step::Token(kind, more) => {
+                let count = more + 1;
+                if is_too_great(kind, front(rest, count)) {
+                    return Err(LineError::BadNumber(told_place(line, start, place)));
+                }
+                let token = Token {
+                    kind,
+                    start: place,
+                    end: place + count,
+                };
+                append(&mut tokens, token)?;
+                rest = after(rest, count);
+                place += count;
+            }
+            Step::Nothing => return Err(LineError::BadToken(told_place(line, start, place))),
+        }
+    }
+}

@@ -1,0 +1,18 @@
+//! The tokens of a line of text, the numbers that they write, and a cursor over them.
+#![tactic(auto)]
+
+mod bytes;
+mod cursor;
+mod cut;
+pub mod laws;
+mod numbers;
+mod step;
+mod token;
+
+pub use cursor::Cursor;
+pub use cut::tokens;
+pub use numbers::number;
+pub use token::{LineError, Number, Place, SizeError, TextError, Token, TokenKind};
+
+#[cfg(test)]
+mod tests;
