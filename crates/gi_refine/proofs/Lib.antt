@@ -1,4 +1,5 @@
 pub mod Agreeing
+pub mod Computing
 pub mod CallRuns
 pub mod Doing
 pub mod ExampleRuns
