@@ -3,3 +3,4 @@ pub mod Examples
 pub mod Outcomes
 pub mod Refinement
 pub mod Simulation
+pub mod TargetExamples
