@@ -23,7 +23,7 @@ record Only (P : Answer → Type 0) (a : Answer) : Type 0 where
   can : P a
   only : (other : Answer) → P other → other ≡ a
 
-some_same : {A : Type 0} (a b : A) → Some a ≡ Some b → b ≡ a
+pub some_same : {A : Type 0} (a b : A) → Some a ≡ Some b → b ≡ a
 some_same a b h = cc
 
 none_there : {A : Type 0} {B : Type 0} (a : A) → None ≡ Some a → B
@@ -217,7 +217,7 @@ exact_from s w i state None = Some (Over Fails)
 exact_from s w i state (Some args) = option_map (progress_of state (written_places (meaning_of i.flags i.op) i.operands))
     (exact s.x w (meaning_of i.flags i.op) i.mem (map (width_of_place s) (written_places (meaning_of i.flags i.op) i.operands)) args (outside_of state))
 
-abbrev exact_step : Setting → World → InstrData → State → Option Progress
+abbrev pub exact_step : Setting → World → InstrData → State → Option Progress
 exact_step s w i state = exact_from s w i state (arguments_of s w state i.operands)
 
 mapped : (f : Answer → Progress) (r : Option Answer) (p : Progress) → option_map f r ≡ Some p → (a : Answer) × (r ≡ Some a) × (p ≡ f a)
@@ -232,7 +232,7 @@ does_nothing s w i state p e fails = record {
       failed ∙ sym fails;
 }
 
-does_exactly : (s : Setting) (w : World) (i : ℕ × InstrData) (state : State) (p : Progress) → exact_step s w i.1 state ≡ Some p → Does s w i state p
+pub does_exactly : (s : Setting) (w : World) (i : ℕ × InstrData) (state : State) (p : Progress) → exact_step s w i.1 state ≡ Some p → Does s w i state p
 does_exactly s w i state p h = at (arguments_of s w state i.1.operands) refl h
   where
     m : Meaning
@@ -249,13 +249,13 @@ does_exactly s w i state p h = at (arguments_of s w state i.1.operands) refl h
 
 -- ══ A list of instructions ══
 
-abbrev exact_after : Option Progress → (State → Option Progress) → Option Progress
+abbrev pub exact_after : Option Progress → (State → Option Progress) → Option Progress
 exact_after None rest = None
 exact_after (Some (On state)) rest = rest state
 exact_after (Some (Left b state)) rest = Some (Left b state)
 exact_after (Some (Over o)) rest = Some (Over o)
 
-abbrev exact_all : Setting → World → List (ℕ × InstrData) → State → Option Progress
+abbrev pub exact_all : Setting → World → List (ℕ × InstrData) → State → Option Progress
 exact_all s w [] state = Some (On state)
 exact_all s w (i ∷ is) state = exact_after (exact_step s w i.1 state) (exact_all s w is)
 
@@ -269,7 +269,7 @@ does_all_from s w i is state p more (Some (Left b middle)) e h =
 does_all_from s w i is state p more (Some (Over o)) e h =
     subst (λ q. DoesAll s w (i ∷ is) state q) (sym (some_same (Over o) p h)) (does_end s w i is state o (does_exactly s w i state (Over o) e))
 
-does_all_exactly : (s : Setting) (w : World) (is : List (ℕ × InstrData)) (state : State) (p : Progress) → exact_all s w is state ≡ Some p → DoesAll s w is state p
+pub does_all_exactly : (s : Setting) (w : World) (is : List (ℕ × InstrData)) (state : State) (p : Progress) → exact_all s w is state ≡ Some p → DoesAll s w is state p
 does_all_exactly s w [] state p h = subst (λ q. DoesAll s w [] state q) (sym (some_same (On state) p h)) (does_none s w state)
 does_all_exactly s w (i ∷ is) state p h = does_all_from s w i is state p (λ middle more. does_all_exactly s w is middle p more) (exact_step s w i.1 state) refl h
 

@@ -1,8 +1,12 @@
 pub mod Agreeing
+pub mod Choosing
 pub mod Computing
 pub mod CallRuns
 pub mod Doing
 pub mod ExampleRuns
 pub mod Failing
+pub mod FreeRuns
+pub mod NarrowRuns
 pub mod Refining
+pub mod RoutineRuns
 pub mod Simulating

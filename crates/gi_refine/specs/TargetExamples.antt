@@ -2,14 +2,15 @@
 use Rattle.std.specs.Prelude.{ℕ, ℤ, pos, negsuc, true, false, List, [], ◌∷◌, ◌++◌, Option, Some, None}
 use Rattle.gi_llt.specs.declared.Llt.TheVariants.{Scalar}
 use Rattle.gi_mir.specs.Data.{InstrData, FunctionData}
-use Rattle.gi_mir.specs.Stated.{reg_of}
+use Rattle.gi_mir.specs.Stated.{reg_of, no_flags}
 use Rattle.gi_mir.specs.declared.opcode.Opcode.{Opcode}
 use Rattle.gi_mir.specs.declared.opcode.Opcode.TheVariants as op
 use Rattle.gi_mir.specs.declared.operand.Kind.{Kind}
 use Rattle.gi_mir.specs.declared.operand.Kind.TheVariants.{Generic, Class}
 use Rattle.gi_mir.specs.declared.operand.MemOp.{MemOp}
-use Rattle.gi_mir.specs.declared.operand.Operand.TheVariants.{Def, ImplicitUse, ImplicitDef, Int, Constant, Block, Global}
-use Rattle.gi_mir.specs.declared.operand.SymbolFlag.TheVariants.{Hi, Lo}
+use Rattle.gi_mir.specs.declared.operand.Operand.{Operand}
+use Rattle.gi_mir.specs.declared.operand.Operand.TheVariants.{Def, ImplicitUse, ImplicitDef, Int, Constant, Block, Global, Routine, SavedMask}
+use Rattle.gi_mir.specs.declared.operand.SymbolFlag.TheVariants.{Call, Hi, Lo}
 use Rattle.gi_meaning.specs.State.{World}
 use Rattle.gi_refine.specs.Examples.{made, block_of, function_of, s32, use_of, copy_in, copy_out, return_of, world_of}
 
@@ -133,3 +134,54 @@ compares = function_of
     ∷ block_of [] (return_of 10 ∷ [])
     ∷ block_of [] (return_of 12 ∷ [])
     ∷ [])
+
+-- ══ Free choices ══
+
+abbrev pub s8 : Kind
+s8 = Generic (Scalar 8)
+
+-- the bits of an s8 in a register of 32, the others free
+abbrev pub extends_anyhow : List (ℕ × InstrData)
+extends_anyhow = copy_in 0 10 s8 ∷ made op.GenericAnyExtend (Def (reg_of 2) s32 ∷ use_of 0 ∷ []) None ∷ copy_out 10 2 ∷ return_of 10 ∷ []
+
+abbrev pub takes_anything : List (ℕ × InstrData)
+takes_anything = made op.GenericImplicitDef (Def (reg_of 2) s32 ∷ []) None ∷ copy_out 10 2 ∷ return_of 10 ∷ []
+
+-- an addition that promises not to wrap
+abbrev pub adds_without_wrapping : List (ℕ × InstrData)
+adds_without_wrapping =
+    copy_in 0 10 s32
+    ∷ copy_in 1 11 s32
+    ∷ (0, record { op = op.GenericAdd; flags = record no_flags { nuw = true }; operands = Def (reg_of 2) s32 ∷ use_of 0 ∷ use_of 1 ∷ []; mem = None; line = 1 })
+    ∷ copy_out 10 2
+    ∷ return_of 10
+    ∷ []
+
+abbrev pub shifts : List (ℕ × InstrData)
+shifts = copy_in 0 10 s32 ∷ copy_in 1 11 s32 ∷ on_two op.GenericShiftLeft s32 2 0 1 ∷ copy_out 10 2 ∷ return_of 10 ∷ []
+
+-- the low half of x10 through a register of 32 bits
+abbrev pub copies_low_half : List (ℕ × InstrData)
+copies_low_half = copy_in 0 10 s32 ∷ copy_out 10 0 ∷ return_of 10 ∷ []
+
+-- machine instructions that read registers of 32 bits: the sum of low halves, and the upper half
+abbrev pub adds_low_halves : List (ℕ × InstrData)
+adds_low_halves = copy_in 0 10 s32 ∷ copy_in 1 11 s32 ∷ on_two op.AddWord Class 2 0 1 ∷ copy_out 10 2 ∷ return_of 10 ∷ []
+
+abbrev pub takes_upper_half : List (ℕ × InstrData)
+takes_upper_half = copy_in 0 10 s32 ∷ on_number op.ShiftRightLogicalImmediate Class 2 0 (pos 32) ∷ copy_out 10 2 ∷ return_of 10 ∷ []
+
+abbrev pub one_block : List (ℕ × InstrData) → FunctionData
+one_block instrs = function_of (block_of [] instrs ∷ [])
+
+-- ══ Routines of the runtime ══
+
+-- `PseudoCALL &__udivdi3` of x10 to x13
+abbrev pub routine_call : ℕ × InstrData
+routine_call = made op.PseudoCall
+    (Routine Call 2 ∷ SavedMask ∷ ImplicitDef 1
+    ∷ ImplicitUse 10 ∷ ImplicitUse 11 ∷ ImplicitUse 12 ∷ ImplicitUse 13 ∷ ImplicitDef 10 ∷ ImplicitDef 11 ∷ []) None
+
+-- the call, and then the return of these registers
+abbrev pub divides_by_routine : List Operand → List (ℕ × InstrData)
+divides_by_routine registers = routine_call ∷ made op.PseudoReturn registers None ∷ []
