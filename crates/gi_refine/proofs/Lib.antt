@@ -5,3 +5,5 @@ pub mod ExampleRuns
 pub mod Failing
 pub mod Refining
 pub mod Simulating
+pub mod ValuesFollowed
+pub mod ValuesPlaced
