@@ -7,3 +7,4 @@ pub mod Refining
 pub mod Simulating
 pub mod ValuesFollowed
 pub mod ValuesPlaced
+pub mod ValuesThere

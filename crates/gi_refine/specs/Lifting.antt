@@ -1,5 +1,5 @@
 -- A rule on values, placed on registers: when instructions show operations, and what is hidden after them.
-use Rattle.std.specs.Prelude.{◌≡◌, ℕ, ◌^◌, ◌<◌, List, [], ◌∷◌, ◌++◌, map, Option, Some, None, Bool, true, false, not, ◌&&◌, ◌||◌, ◌==◌, if◌then◌else◌, slice_get}
+use Rattle.std.specs.Prelude.{◌≡◌, ℕ, suc, ◌^◌, ◌<◌, List, [], ◌∷◌, ◌++◌, map, Option, Some, None, Bool, true, false, not, ◌&&◌, ◌||◌, ◌==◌, if◌then◌else◌, slice_get}
 use Rattle.gi_mir.specs.Data.{InstrData}
 use Rattle.gi_mir.specs.declared.operand.Operand.{Operand}
 use Rattle.gi_mir.specs.declared.operand.Operand.TheVariants as operand
@@ -141,3 +141,33 @@ pub record IsReady (s : Setting) (w : World) (rule : Rule) (registers : List ℕ
 pub record AgreeReady (s : Setting) (w : World) (rule : Rule) (registers : List ℕ) (hidden : Place → Bool) (old new : State) : Type 0 where
   pub agree : Agree hidden old new
   pub ready : IsReady s w rule registers old
+
+-- ══ Inputs that may have no value ══
+
+-- some slot takes the value at the place
+abbrev pub takes : ℕ → List Slot → Bool
+takes place [] = false
+takes place (At k ∷ slots) = (k == place) || takes place slots
+takes place (Fixed argument ∷ slots) = takes place slots
+
+-- what the first operation takes
+abbrev pub first_slots : List Operation → List Slot
+first_slots [] = []
+first_slots (o ∷ os) = o.slots
+
+abbrev pub HasValue : Option ℕ → Type 0
+HasValue None = ⊥
+HasValue (Some value) = Unit {0}
+
+-- each register, from the place on, has a value or is taken by these slots
+abbrev pub AreThere : (slots : List Slot) → (values : ℕ → Option ℕ) → (place : ℕ) → List ℕ → Type 0
+AreThere slots values place [] = Unit {0}
+AreThere slots values place (r ∷ rs) = (takes place slots ≡ false → HasValue (values r)) × AreThere slots values (suc place) rs
+
+-- The states agree, and whatever values the inputs have in the old one, they fit their widths and the facts hold of
+-- them. An input that the first old operation takes may have none, since then the old instructions fail.
+pub record AgreeKnown (s : Setting) (w : World) (rule : Rule) (registers : List ℕ) (hidden : Place → Bool) (old new : State) : Type 0 where
+  pub agree : Agree hidden old new
+  pub there : AreThere (first_slots rule.old) old.values 0 registers
+  pub sized : (env : Environment) → Reads s.width old.values registers env → AreSized env
+  pub facts : (env : Environment) → Reads s.width old.values registers env → AllHold s.x w (outside_of old) env rule.facts

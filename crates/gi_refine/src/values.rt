@@ -4,7 +4,7 @@ ghost use Rattle.std.specs.Prelude.{ℕ, Bool, List};
 ghost use Rattle.gi_mir.specs.Data.{InstrData};
 ghost use Rattle.gi_meaning.specs.State.{World, Place};
 ghost use Rattle.gi_refine.specs.Agreement.{Agree, AgreeAt, setting};
-ghost use Rattle.gi_refine.specs.Lifting.{AgreeReady, IsPlaced, Placing};
+ghost use Rattle.gi_refine.specs.Lifting.{AgreeKnown, AgreeReady, IsPlaced, Placing};
 ghost use Rattle.gi_refine.specs.Simulation.{IsFollowed};
 ghost use Rattle.gi_refine.specs.Values.{IsSound, Rule};
 
@@ -18,4 +18,14 @@ pub fn values_follow()
         → IsPlaced x names old new world rule placing before after a b
         → IsFollowed (setting x names old) (setting x names new) world
         (AgreeReady (setting x names old) world rule placing.inputs before) (Agree after) (AgreeAt out) a b }
+{}
+
+/// The same where the inputs that the first old instruction takes may have no value: then it fails.
+pub fn known_values_follow()
+    ensures { (x : ℕ) (names : List (List ℕ)) (old new : ℕ → ℕ) (world : World) (rule : Rule) (placing : Placing)
+        (before after : Place → Bool) (out : ℕ → Place → Bool) (a b : List (ℕ × InstrData))
+        → IsSound x world rule
+        → IsPlaced x names old new world rule placing before after a b
+        → IsFollowed (setting x names old) (setting x names new) world
+        (AgreeKnown (setting x names old) world rule placing.inputs before) (Agree after) (AgreeAt out) a b }
 {}
