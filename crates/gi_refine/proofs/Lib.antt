@@ -3,5 +3,6 @@ pub mod CallRuns
 pub mod Doing
 pub mod ExampleRuns
 pub mod Failing
+pub mod Keeping
 pub mod Refining
 pub mod Simulating

@@ -1,12 +1,11 @@
 -- Instructions that stay while the registers that they use are replaced by others.
 use Rattle.std.specs.Prelude.{◌≡◌, ℕ, Bool, false, map, List, [], ◌∷◌, ◌++◌, Option, Some, None}
-use Rattle.gi_mir.specs.Data.{InstrData, BlockData, FunctionData}
+use Rattle.gi_mir.specs.Data.{InstrData, FunctionData}
 use Rattle.gi_mir.specs.declared.operand.Kind.TheVariants.{Class}
 use Rattle.gi_mir.specs.declared.operand.Operand.{Operand}
 use Rattle.gi_mir.specs.declared.operand.Operand.TheVariants as operand
 use Rattle.gi_meaning.specs.State.{World, IsWorld, State, Place, Virtual, Physical}
-use Rattle.gi_meaning.specs.Runs.{Setting, setting_of, phis_of, after_phis, from_block}
-use Rattle.gi_refine.specs.Agreement.{Agree}
+use Rattle.gi_meaning.specs.Runs.{Setting, setting_of, from_block}
 use Rattle.gi_refine.specs.Reached.{Arrives, IsReached}
 
 -- ══ Renaming ══
@@ -87,10 +86,3 @@ pub record PhisHold (x : ℕ) (names : List (List ℕ)) (f : FunctionData) (b : 
 pub record BodyHolds (x : ℕ) (names : List (List ℕ)) (f : FunctionData) (b : ℕ) (rename : ℕ → ℕ) (before is : List (ℕ × InstrData)) : Type 0 where
   pub by : (w : World) → IsWorld x w → (front : List (ℕ × InstrData)) (i : ℕ × InstrData) (back : List (ℕ × InstrData)) → is ≡ front ++ (i ∷ back)
       → (state : State) → IsReached (setting_of x names f) w f.blocks b (before ++ front) state → UsesHold rename state i.1.operands
-
--- ══ States ══
-
--- the old state is reached behind these instructions of the block, and the new one agrees with it
-pub record ReachedAgreeing (s t : Setting) (w : World) (blocks : List BlockData) (b : ℕ) (before : List (ℕ × InstrData)) (hidden : Place → Bool) (old new : State) : Type 0 where
-  pub reached : IsReached s w blocks b before old
-  pub agree : Agree s t hidden old new

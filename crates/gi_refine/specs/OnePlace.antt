@@ -5,7 +5,8 @@ use Rattle.gi_mir.specs.Data.{InstrData, BlockData, FunctionData}
 use Rattle.gi_meaning.specs.State.{World, IsWorld, Place, Virtual, Physical}
 use Rattle.gi_meaning.specs.Runs.{setting_of, phis_of, after_phis}
 use Rattle.gi_refine.specs.Agreement.{Agree, AgreeAt}
-use Rattle.gi_refine.specs.Kept.{AreKept, AllSeenAs, PhisHold, BodyHolds, ReachedAgreeing}
+use Rattle.gi_refine.specs.Kept.{AreKept, AllSeenAs, PhisHold, BodyHolds}
+use Rattle.gi_refine.specs.Reached.{WhereReached}
 use Rattle.gi_refine.specs.Simulation.{IsFollowed}
 
 -- a test of virtual registers as one of places: no physical register is hidden
@@ -68,6 +69,6 @@ pub record RewritesOnePlace (x : ℕ) (names : List (List ℕ)) (f g : FunctionD
   -- the place itself, from the old states that are reached there
   pub follows : (w : World) → IsWorld x w
       → IsFollowed (setting_of x names f) (setting_of x names g) w
-      (ReachedAgreeing (setting_of x names f) (setting_of x names g) w f.blocks p.block p.before (only_virtual p.hidden))
+      (WhereReached (setting_of x names f) w f.blocks p.block p.before (Agree (setting_of x names f) (setting_of x names g) (only_virtual p.hidden)))
       (Agree (setting_of x names f) (setting_of x names g) (only_virtual p.hidden))
       (AgreeAt (setting_of x names f) (setting_of x names g) (λ b. only_virtual p.hidden)) p.old p.new

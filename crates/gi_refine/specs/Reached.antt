@@ -40,9 +40,18 @@ pub record IsEntered (s : Setting) (w : World) (blocks : List BlockData) (b : �
   pub arrives : Arrives s w blocks entries from b entered
   pub joins : AfterPhis blocks from b entered block middle
 
--- a run comes to this state in this block, behind its phis and these instructions
-pub record IsReached (s : Setting) (w : World) (blocks : List BlockData) (b : ℕ) (before : List (ℕ × InstrData)) (state : State) : Type 0 where
+-- behind the phis of this block and these instructions a run has come so far
+pub record Reaches (s : Setting) (w : World) (blocks : List BlockData) (b : ℕ) (before : List (ℕ × InstrData)) (progress : Progress) : Type 0 where
   pub block : BlockData
   pub middle : State
   pub enters : IsEntered s w blocks b block middle
-  pub ran : Executes s w before middle (On state)
+  pub ran : Executes s w before middle progress
+
+-- and goes on there in this state
+abbrev pub IsReached : (s : Setting) → (w : World) → (blocks : List BlockData) → (b : ℕ) → (before : List (ℕ × InstrData)) → State → Type 0
+IsReached s w blocks b before state = Reaches s w blocks b before (On state)
+
+-- the old state is reached there, and the new one is related to it
+pub record WhereReached (s : Setting) (w : World) (blocks : List BlockData) (b : ℕ) (before : List (ℕ × InstrData)) (related : State → State → Type 0) (old new : State) : Type 0 where
+  pub reached : IsReached s w blocks b before old
+  pub relates : related old new
