@@ -1,7 +1,10 @@
 pub mod Agreement
 pub mod Examples
 pub mod Lifting
+pub mod Kept
+pub mod OnePlace
 pub mod Outcomes
+pub mod Reached
 pub mod Refinement
 pub mod Simulation
 pub mod Values
