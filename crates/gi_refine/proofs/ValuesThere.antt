@@ -110,9 +110,9 @@ missing_fails s w state (results ∷ rss) (o ∷ os) (i ∷ is) rs shown m =
 
 -- ══ The law ══
 
-known_ready : (s : Setting) (w : World) (rule : Rule) (placing : Placing) (is : List (ℕ × InstrData)) (hidden : Place → Bool) (old new : State) → AllShow s w placing.inputs placing.old rule.old is
-    → AgreeKnown s w rule placing.inputs hidden old new → AgreeReady s w rule placing.inputs hidden old new ⊎ Executes s w is old (Over Fails)
-known_ready s w rule placing is hidden old new shown known =
+known_ready : (s t : Setting) (w : World) (rule : Rule) (placing : Placing) (is : List (ℕ × InstrData)) (hidden : Place → Bool) (old new : State) → AllShow s w placing.inputs placing.old rule.old is
+    → AgreeKnown s t w rule placing.inputs hidden old new → AgreeReady s t w rule placing.inputs hidden old new ⊎ Executes s w is old (Over Fails)
+known_ready s t w rule placing is hidden old new shown known =
     ⊎_elim
     (λ read. inl (record {
       agree = known.agree;
@@ -124,10 +124,10 @@ known_ready s w rule placing is hidden old new shown known =
 -- a sound rule lifts also where inputs that the first old instruction takes have no value
 pub known_values_followed : (x : ℕ) (names : List (List ℕ)) (width width' : ℕ → ℕ) (w : World) (rule : Rule) (placing : Placing) (before after : Place → Bool) (exit : ℕ → State → State → Type 0) (is is' : List (ℕ × InstrData))
     → IsSound x w rule → IsPlaced x names width width' w rule placing before after is is'
-    → IsFollowed (setting x names width) (setting x names width') w (AgreeKnown (setting x names width) w rule placing.inputs before) (Agree after) exit is is'
+    → IsFollowed (setting x names width) (setting x names width') w (AgreeKnown (setting x names width) (setting x names width') w rule placing.inputs before) (Agree (setting x names width) (setting x names width') after) exit is is'
 known_values_followed x names width width' w rule placing before after exit is is' sound placed = record {
   by = λ old new known p' run. ⊎_elim
       (λ ready. (values_followed x names width width' w rule placing before after exit is is' sound placed).by old new ready p' run)
       (λ fails. inr fails)
-      (known_ready (setting x names width) w rule placing is before old new placed.old_shown known);
+      (known_ready (setting x names width) (setting x names width') w rule placing is before old new placed.old_shown known);
 }

@@ -138,8 +138,8 @@ pub record IsReady (s : Setting) (w : World) (rule : Rule) (registers : List ℕ
   pub facts : AllHold s.x w (outside_of state) env rule.facts
 
 -- the states agree, and the old one is ready for the rule
-pub record AgreeReady (s : Setting) (w : World) (rule : Rule) (registers : List ℕ) (hidden : Place → Bool) (old new : State) : Type 0 where
-  pub agree : Agree hidden old new
+pub record AgreeReady (s t : Setting) (w : World) (rule : Rule) (registers : List ℕ) (hidden : Place → Bool) (old new : State) : Type 0 where
+  pub agree : Agree s t hidden old new
   pub ready : IsReady s w rule registers old
 
 -- ══ Inputs that may have no value ══
@@ -166,8 +166,8 @@ AreThere slots values place (r ∷ rs) = (takes place slots ≡ false → HasVal
 
 -- The states agree, and whatever values the inputs have in the old one, they fit their widths and the facts hold of
 -- them. An input that the first old operation takes may have none, since then the old instructions fail.
-pub record AgreeKnown (s : Setting) (w : World) (rule : Rule) (registers : List ℕ) (hidden : Place → Bool) (old new : State) : Type 0 where
-  pub agree : Agree hidden old new
+pub record AgreeKnown (s t : Setting) (w : World) (rule : Rule) (registers : List ℕ) (hidden : Place → Bool) (old new : State) : Type 0 where
+  pub agree : Agree s t hidden old new
   pub there : AreThere (first_slots rule.old) old.values 0 registers
   pub sized : (env : Environment) → Reads s.width old.values registers env → AreSized env
   pub facts : (env : Environment) → Reads s.width old.values registers env → AllHold s.x w (outside_of old) env rule.facts

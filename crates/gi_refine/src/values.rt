@@ -17,7 +17,9 @@ pub fn values_follow()
         → IsSound x world rule
         → IsPlaced x names old new world rule placing before after a b
         → IsFollowed (setting x names old) (setting x names new) world
-        (AgreeReady (setting x names old) world rule placing.inputs before) (Agree after) (AgreeAt out) a b }
+        (AgreeReady (setting x names old) (setting x names new) world rule placing.inputs before)
+        (Agree (setting x names old) (setting x names new) after)
+        (AgreeAt (setting x names old) (setting x names new) out) a b }
 {}
 
 /// The same where the inputs that the first old instruction takes may have no value: then it fails.
@@ -27,5 +29,7 @@ pub fn known_values_follow()
         → IsSound x world rule
         → IsPlaced x names old new world rule placing before after a b
         → IsFollowed (setting x names old) (setting x names new) world
-        (AgreeKnown (setting x names old) world rule placing.inputs before) (Agree after) (AgreeAt out) a b }
+        (AgreeKnown (setting x names old) (setting x names new) world rule placing.inputs before)
+        (Agree (setting x names old) (setting x names new) after)
+        (AgreeAt (setting x names old) (setting x names new) out) a b }
 {}
