@@ -5,7 +5,9 @@ pub mod ExampleRuns
 pub mod Failing
 pub mod Keeping
 pub mod Refining
+pub mod RuleSteps
 pub mod Simulating
+pub mod TrialRules
 pub mod ValuesFollowed
 pub mod ValuesPlaced
 pub mod ValuesThere

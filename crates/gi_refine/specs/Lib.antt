@@ -7,4 +7,5 @@ pub mod Outcomes
 pub mod Reached
 pub mod Refinement
 pub mod Simulation
+pub mod TrialRules
 pub mod Values

@@ -3,6 +3,7 @@
 
 mod examples;
 mod laws;
+mod trials;
 mod values;
 
 pub use examples::examples_come_to;
@@ -10,4 +11,5 @@ pub use laws::{
     may_fail_is_failing, pieces_follow, refinement_is_reflexive, refinement_is_transitive,
     same_instruction_follows, whole_runs_follow,
 };
+pub use trials::trial_rules_hold;
 pub use values::{known_values_follow, values_follow};
