@@ -4,5 +4,7 @@ pub mod Doing
 pub mod ExampleRuns
 pub mod Failing
 pub mod Keeping
+pub mod OnePlaceFollows
+pub mod Reaching
 pub mod Refining
 pub mod Simulating
