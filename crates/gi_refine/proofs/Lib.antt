@@ -8,3 +8,4 @@ pub mod OnePlaceFollows
 pub mod Reaching
 pub mod Refining
 pub mod Simulating
+pub mod Staying

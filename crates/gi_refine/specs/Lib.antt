@@ -5,4 +5,5 @@ pub mod OnePlace
 pub mod Outcomes
 pub mod Reached
 pub mod Refinement
+pub mod Replacing
 pub mod Simulation
