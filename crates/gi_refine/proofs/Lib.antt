@@ -4,6 +4,8 @@ pub mod Doing
 pub mod ExampleRuns
 pub mod Failing
 pub mod Keeping
+pub mod OnePlaceFollows
+pub mod Reaching
 pub mod Refining
 pub mod RuleSteps
 pub mod Simulating
@@ -11,3 +13,4 @@ pub mod TrialRules
 pub mod ValuesFollowed
 pub mod ValuesPlaced
 pub mod ValuesThere
+pub mod Staying

@@ -33,7 +33,7 @@ join_after s w xs ys (On state) between p goes first second = goes state first s
 join_after s w xs ys (Left b state) between p goes first second = subst (λ q. After q (Executes s w ys) p) first second
 join_after s w xs ys (Over o) between p goes first second = subst (λ q. After q (Executes s w ys) p) first second
 
-join : (s : Setting) (w : World) (xs ys : List (ℕ × InstrData)) (state : State) (between p : Progress)
+pub join : (s : Setting) (w : World) (xs ys : List (ℕ × InstrData)) (state : State) (between p : Progress)
     → Executes s w xs state between → After between (Executes s w ys) p → Executes s w (xs ++ ys) state p
 join s w [] ys state between p first second = subst (λ q. After q (Executes s w ys) p) first second
 join s w (x ∷ xs) ys state between p first second =

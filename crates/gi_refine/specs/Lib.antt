@@ -6,6 +6,7 @@ pub mod OnePlace
 pub mod Outcomes
 pub mod Reached
 pub mod Refinement
+pub mod Replacing
 pub mod Simulation
 pub mod TrialRules
 pub mod Values

@@ -3,6 +3,7 @@
 
 mod examples;
 mod laws;
+mod rewriting;
 mod trials;
 mod values;
 
@@ -11,5 +12,6 @@ pub use laws::{
     may_fail_is_failing, pieces_follow, refinement_is_reflexive, refinement_is_transitive,
     same_instruction_follows, whole_runs_follow,
 };
+pub use rewriting::{one_place_follows, replacement_follows};
 pub use trials::trial_rules_hold;
 pub use values::{known_values_follow, values_follow};
