@@ -8,6 +8,7 @@ pub mod OnePlaceFollows
 pub mod Reaching
 pub mod Refining
 pub mod RuleSteps
+pub mod RulesUsed
 pub mod Simulating
 pub mod TrialRules
 pub mod ValuesFollowed

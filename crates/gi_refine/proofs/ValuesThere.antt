@@ -116,10 +116,10 @@ known_ready s t w rule placing is hidden old new shown known =
     ⊎_elim
     (λ read. inl (record {
       agree = known.agree;
-      ready = record { env = read.0; read = read.1; sized = known.sized read.0 read.1; facts = known.facts read.0 read.1 };
+      ready = record { env = read.0; read = read.1; sized = known.known.sized read.0 read.1; facts = known.known.facts read.0 read.1 };
     }))
     (λ m. inr (missing_fails s w old placing.old rule.old is placing.inputs shown m))
-    (read_or_missing (first_slots rule.old) s.width old.values 0 placing.inputs known.there)
+    (read_or_missing (first_slots rule.old) s.width old.values 0 placing.inputs known.known.there)
 
 -- a sound rule lifts also where inputs that the first old instruction takes have no value
 pub known_values_followed : (x : ℕ) (names : List (List ℕ)) (width width' : ℕ → ℕ) (w : World) (rule : Rule) (placing : Placing) (before after : Place → Bool) (exit : ℕ → State → State → Type 0) (is is' : List (ℕ × InstrData))

@@ -7,6 +7,7 @@ pub mod Outcomes
 pub mod Reached
 pub mod Refinement
 pub mod Replacing
+pub mod RuleUse
 pub mod Simulation
 pub mod TrialRules
 pub mod Values

@@ -164,10 +164,14 @@ abbrev pub AreThere : (slots : List Slot) → (values : ℕ → Option ℕ) → 
 AreThere slots values place [] = Unit {0}
 AreThere slots values place (r ∷ rs) = (takes place slots ≡ false → HasValue (values r)) × AreThere slots values (suc place) rs
 
--- The states agree, and whatever values the inputs have in the old one, they fit their widths and the facts hold of
--- them. An input that the first old operation takes may have none, since then the old instructions fail.
+-- Whatever values the inputs have in the state, they fit their widths and the facts hold of them. An input that the
+-- first old operation takes may have none, since then the old instructions fail.
+pub record IsKnown (s : Setting) (w : World) (rule : Rule) (registers : List ℕ) (state : State) : Type 0 where
+  pub there : AreThere (first_slots rule.old) state.values 0 registers
+  pub sized : (env : Environment) → Reads s.width state.values registers env → AreSized env
+  pub facts : (env : Environment) → Reads s.width state.values registers env → AllHold s.x w (outside_of state) env rule.facts
+
+-- the states agree, and this much is known of the old one
 pub record AgreeKnown (s t : Setting) (w : World) (rule : Rule) (registers : List ℕ) (hidden : Place → Bool) (old new : State) : Type 0 where
   pub agree : Agree s t hidden old new
-  pub there : AreThere (first_slots rule.old) old.values 0 registers
-  pub sized : (env : Environment) → Reads s.width old.values registers env → AreSized env
-  pub facts : (env : Environment) → Reads s.width old.values registers env → AllHold s.x w (outside_of old) env rule.facts
+  pub known : IsKnown s w rule registers old

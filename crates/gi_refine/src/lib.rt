@@ -14,4 +14,4 @@ pub use laws::{
 };
 pub use rewriting::{one_place_follows, replacement_follows};
 pub use trials::trial_rules_hold;
-pub use values::{known_values_follow, values_follow};
+pub use values::{known_values_follow, rule_use_follows, values_follow};
