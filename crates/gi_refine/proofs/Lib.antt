@@ -4,6 +4,7 @@ pub mod Doing
 pub mod ExampleRuns
 pub mod Failing
 pub mod Keeping
+pub mod OneBlock
 pub mod OnePlaceFollows
 pub mod Reaching
 pub mod Refining

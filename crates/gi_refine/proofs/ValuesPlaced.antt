@@ -116,12 +116,12 @@ IsPlain outside (Results results after) = after ≡ outside
 IsPlain outside Breaks = Unit {0}
 IsPlain outside _ = ⊥
 
-answers_plain : (given : Given) (outside : Outside) (answer : Answer) → Answers given outside answer → IsPlain outside answer
+pub answers_plain : (given : Given) (outside : Outside) (answer : Answer) → Answers given outside answer → IsPlain outside answer
 answers_plain Undefined outside answer h = subst (IsPlain outside) (sym h) tt
 answers_plain (Exactly results) outside answer h = subst (IsPlain outside) (sym h.2) refl
 answers_plain (LowBits known width value) outside answer h = subst (IsPlain outside) (sym h.2) refl
 
-words_plain : (x : ℕ) (widths : List ℕ) (given : Given) (outside : Outside) (answer : Answer) → AnswersWords x widths given outside answer → IsPlain outside answer
+pub words_plain : (x : ℕ) (widths : List ℕ) (given : Given) (outside : Outside) (answer : Answer) → AnswersWords x widths given outside answer → IsPlain outside answer
 words_plain x widths Undefined outside answer h = subst (IsPlain outside) (sym h) tt
 words_plain x widths (Exactly results) outside answer h = subst (IsPlain outside) (sym h.2) refl
 words_plain x widths (LowBits known width value) outside answer h = subst (IsPlain outside) (sym h.2) refl
