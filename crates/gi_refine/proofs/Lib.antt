@@ -9,4 +9,16 @@ pub mod FreeRuns
 pub mod NarrowRuns
 pub mod Refining
 pub mod RoutineRuns
+pub mod Keeping
+pub mod OneBlock
+pub mod OnePlaceFollows
+pub mod Reaching
+pub mod Refining
+pub mod RuleSteps
+pub mod RulesUsed
 pub mod Simulating
+pub mod TrialRules
+pub mod ValuesFollowed
+pub mod ValuesPlaced
+pub mod ValuesThere
+pub mod Staying

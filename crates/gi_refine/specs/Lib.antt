@@ -1,6 +1,14 @@
 pub mod Agreement
 pub mod Examples
+pub mod Lifting
+pub mod Kept
+pub mod OnePlace
 pub mod Outcomes
+pub mod Reached
 pub mod Refinement
+pub mod Replacing
+pub mod RuleUse
 pub mod Simulation
 pub mod TargetExamples
+pub mod TrialRules
+pub mod Values

@@ -4,7 +4,10 @@
 mod examples;
 mod free_examples;
 mod laws;
+mod rewriting;
 mod target_examples;
+mod trials;
+mod values;
 
 pub use examples::examples_come_to;
 pub use free_examples::{free_choices_come_to, routines_come_to};
@@ -12,4 +15,7 @@ pub use laws::{
     may_fail_is_failing, pieces_follow, refinement_is_reflexive, refinement_is_transitive,
     same_instruction_follows, whole_runs_follow,
 };
+pub use rewriting::{one_place_follows, replacement_follows};
 pub use target_examples::{generic_examples_come_to, target_examples_come_to};
+pub use trials::trial_rules_hold;
+pub use values::{known_values_follow, rule_use_follows, values_follow};

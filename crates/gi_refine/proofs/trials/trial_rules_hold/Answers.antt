@@ -1,0 +1,10 @@
+use Rattle.gi_refine.proofs.TrialRules.{subtract_self_sound, add_constants_sound, add_zero_sound, select_add_sound}
+use Rattle.gi_refine.proofs.trials.trial_rules_hold.Goals as goal
+
+pub returns : goal.returns
+returns c = record {
+  subtract_self = subtract_self_sound;
+  add_constants = add_constants_sound;
+  add_zero = add_zero_sound;
+  select_add = select_add_sound;
+}
