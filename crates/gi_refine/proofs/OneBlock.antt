@@ -116,6 +116,6 @@ pub reached_from_start : (s : Setting) (w : World) (block : BlockData) → IsLas
 reached_from_start s w block last before state reached =
     let same : block ≡ reached.block = the_block block reached.block 0 reached.enters.joins.here in
     let phis : joined reached.enters.entered reached.enters.from (phis_of reached.block.instrs) ≡ Some reached.enters.entered =
-        ap (joined reached.enters.entered reached.enters.from) (subst (λ k. phis_of k.instrs ≡ []) same last.phis) in
+    ap (joined reached.enters.entered reached.enters.from) (subst (λ k. phis_of k.instrs ≡ []) same last.phis) in
     let middle : reached.enters.entered ≡ reached.middle = unwrapped reached.enters.entered reached.middle (sym phis ∙ reached.enters.joins.phis) in
     subst (λ st. Executes s w before st (On state)) (sym middle ∙ arrives_once s w block last reached.enters.entries reached.enters.from 0 reached.enters.entered reached.enters.arrives) reached.ran

@@ -1,7 +1,7 @@
 pub mod Agreement
 pub mod Examples
-pub mod Lifting
 pub mod Kept
+pub mod Lifting
 pub mod OnePlace
 pub mod Outcomes
 pub mod Reached
