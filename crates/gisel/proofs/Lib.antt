@@ -6,6 +6,8 @@ pub mod HeaderLemmas
 pub mod LineLemmas
 pub mod LinesLemmas
 pub mod ReadLemmas
+pub mod RefusedLaws
 pub mod SelectFront
 pub mod SelectionLaws
 pub mod StandingLemmas
+pub mod TopLemmas

@@ -1,13 +1,16 @@
 pub mod AddRuns
+pub mod Answers
 pub mod Body
 pub mod Built
 pub mod Header
 pub mod Lines
 pub mod Promise
+pub mod Refused
 pub mod Reading
 pub mod Selectable
 pub mod Selection
 pub mod Standing
 pub mod Statement
 pub mod Stop
+pub mod Text
 pub mod Words

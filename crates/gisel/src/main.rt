@@ -10,6 +10,7 @@ mod line;
 mod lines;
 mod read;
 mod refusal;
+mod refused;
 mod select;
 mod standing;
 mod statement;
@@ -21,6 +22,7 @@ mod words;
 use gi_io::{StdInput, StdOutput};
 use std::process::ExitCode;
 use std::{env, io};
+pub use refused::refused_line_is_one;
 pub use top::gisel;
 
 /// The words of the command line after the program's own name.
