@@ -20,9 +20,9 @@ mod unused;
 mod words;
 
 use gi_io::{StdInput, StdOutput};
+pub use refused::refused_line_is_one;
 use std::process::ExitCode;
 use std::{env, io};
-pub use refused::refused_line_is_one;
 pub use top::gisel;
 
 /// The words of the command line after the program's own name.
@@ -43,3 +43,6 @@ fn main(rt: HostRuntime) -> ExitCode {
     let mut err = StdOutput::new(&rt, rt.stderr());
     ExitCode::from(gisel(rt.alloc(), words.as_slice(), &mut input, &mut out, &mut err))
 }
+
+#[cfg(test)]
+mod tests;
