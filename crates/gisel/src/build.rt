@@ -2,6 +2,7 @@
 
 ghost use Rattle.std.specs.Prelude.{◌≡◌, ℕ, ◌+◌, ◌<◌, ◌^◌, true, None, List, [], ◌∷◌, ◌++◌, length, map, IfOk, OnOk};
 ghost use Rattle.std.specs.List.{list_all};
+ghost use Rattle.gi_llt.specs.Bits.{unsigned};
 ghost use Rattle.gi_mir.specs.Formed.{is_formed};
 ghost use Rattle.gi_mir.specs.Stated.{StatedInstr, stated_instr, no_flags};
 ghost use Rattle.gisel.specs.Built.{IsBuilt, IsModule, has_arguments};
@@ -48,6 +49,13 @@ fn plain(alloc: Global, op: Opcode, operands: &[Operand], line: u32) -> Result<I
     })
 }
 
+/// The 32 bits of a number.
+fn bits_of(value: i16) -> u128
+    ensures { result ≡ unsigned 32 value }
+{
+    u128::from(i32::from(value).cast_unsigned())
+}
+
 /// The instruction of a statement.
 fn instr_of(alloc: Global, statement: Statement, line: u32) -> Result<Instr, Refusal>
     ensures { IfOk result (λ instr. instr ≡ stated_instr (stated_of statement) line) }
@@ -57,6 +65,15 @@ fn instr_of(alloc: Global, statement: Statement, line: u32) -> Result<Instr, Ref
             alloc,
             Opcode::Copy,
             &[Operand::Def(Reg(register), KIND), Operand::Phys(physical)],
+            line,
+        ),
+        Statement::MakeConstant { register, value } => plain(
+            alloc,
+            Opcode::GenericConstant,
+            &[
+                Operand::Def(Reg(register), KIND),
+                Operand::Constant(32, bits_of(value)),
+            ],
             line,
         ),
         Statement::AddUp {

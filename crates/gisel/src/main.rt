@@ -15,7 +15,6 @@ mod standing;
 mod statement;
 mod stop;
 mod top;
-mod unused;
 mod words;
 
 use gi_io::{StdInput, StdOutput};

@@ -7,7 +7,6 @@ use crate::body::body;
 use crate::build::module;
 use crate::header::{fixed_line, head, line_taken, liveins_of};
 use crate::refusal::Refusal;
-use crate::unused::first_unused_sum;
 use gi_mir::module::Module;
 use std::alloc::Global;
 
@@ -17,7 +16,7 @@ const FIRST: u32 = 9;
 /// The module of a text.
 ///
 /// The line that is not built is the first that breaks a rule of the text; the last line where the text ends
-/// too early, and 1 where it is empty. Of a text that breaks none it is the first sum that nothing uses.
+/// too early, and 1 where it is empty.
 pub fn read(alloc: Global, bytes: &[u8]) -> Result<Module, Refusal>
     requires { length bytes.now < 2 ^ 32 - 1 }
     ensures { IfOk result (λ m. IsRead bytes.now m) }
@@ -28,12 +27,7 @@ pub fn read(alloc: Global, bytes: &[u8]) -> Result<Module, Refusal>
     let liveins = liveins_of(alloc, line, 7)?;
     let rest = fixed_line(rest, 8, b"")?;
     let statements = body(alloc, rest, FIRST, liveins.as_slice())?;
-    match first_unused_sum(alloc, statements.as_slice())? {
-        Some(place) => Err(Refusal::NotBuilt {
-            line: FIRST + place,
-        }),
-        None => module(alloc, name, liveins, statements.as_slice(), FIRST),
-    }
+    module(alloc, name, liveins, statements.as_slice(), FIRST)
 }
 
 #[cfg(test)]
@@ -150,7 +144,7 @@ mod tests {
                 alloc,
                 "    %0:gprb(s32) = COPY $x10\n    %1:gprb(s32) = G_ADD %0, %0\n    PseudoRET implicit $x10\n"
             )?,
-            10
+            0
         );
         Ok(())
     }

@@ -3,7 +3,8 @@
 ghost use Rattle.std.specs.Prelude.{◌≡◌, ℕ, ◌==◌, ◌||◌, List, [], false, IfOk, OnOk};
 ghost use Rattle.std.specs.HashSet.{contains};
 ghost use Rattle.std.specs.Prelude.{nat_eq};
-ghost use Rattle.gi_mir.specs.Stated.{is_stated_after, defined_after, live_after, is_argument};
+ghost use Rattle.gi_llt.specs.Bits.{unsigned};
+ghost use Rattle.gi_mir.specs.Stated.{is_stated_after, defined_after, live_after, is_argument, is_short};
 ghost use Rattle.gisel.specs.Statement.{stated_of};
 ghost use Rattle.gisel.specs.Standing.{IsStanding, is_new_where};
 
@@ -58,6 +59,13 @@ fn is_argument(physical: u8) -> bool
     10 <= physical && physical <= 17
 }
 
+/// From -2048 to 2047.
+fn is_short(value: i16) -> bool
+    ensures { result ≡ is_short (unsigned 32 value) }
+{
+    -2048 <= value && value <= 2047
+}
+
 impl Standing {
     /// What stands before the first instruction of a block with these physical registers live.
     pub fn new(alloc: Global, liveins: &[u8]) -> Result<Standing, Refusal>
@@ -88,6 +96,7 @@ impl Standing {
             Statement::CopyIn { register, physical } => {
                 self.is_new(register) && is_argument(physical) && self.live.contains(&physical)
             }
+            Statement::MakeConstant { register, value } => self.is_new(register) && is_short(value),
             Statement::AddUp {
                 register,
                 left,
@@ -111,6 +120,7 @@ impl Standing {
     {
         match statement {
             Statement::CopyIn { register, .. } => add_defined(&mut self.defined, register),
+            Statement::MakeConstant { register, .. } => add_defined(&mut self.defined, register),
             Statement::AddUp { register, .. } => add_defined(&mut self.defined, register),
             Statement::CopyOut { physical, .. } => add_live(&mut self.live, physical),
             Statement::Return => Ok(()),

@@ -8,13 +8,13 @@ use Rattle.gisel.proofs.read.read.Goals as goal
 
 pub module-requires-clause-arguments : goal.module-requires-clause-arguments
 module-requires-clause-arguments c =
-    ap (λ s. list_all has_arguments (map stated_of s)) c.as_slice-in-None.ensures.value
+    ap (λ s. list_all has_arguments (map stated_of s)) c.as_slice-2.ensures.value
     ∙ all_arguments (map stated_of c.in_ok-statements.statements.items) [] _ c.in_ok-statements.ensures.body.ordered
 
-pub returns-in-None : goal.returns-in-None
-returns-in-None c = if_ok _ _ c.module.result (λ m made. read_from c.args.bytes.now c.in_ok-name.rest.now c.in_ok-rest.rest.now c.in_ok-line.rest.now c.in_ok-rest-2.rest.now
+pub returns : goal.returns
+returns c = if_ok _ _ c.module.result (λ m made. read_from c.args.bytes.now c.in_ok-name.rest.now c.in_ok-rest.rest.now c.in_ok-line.rest.now c.in_ok-rest-2.rest.now
     c.in_ok-line.line.now c.in_ok-name.name.now c.in_ok-liveins.liveins.items
     c.in_ok-statements.statements.items m _ c.in_ok-name.ensures.lines c.in_ok-name.ensures.named c.in_ok-rest.ensures.lines c.in_ok-line.ensures.lines
     c.in_ok-liveins.ensures.line c.in_ok-liveins.ensures.arguments c.in_ok-rest-2.ensures.lines
     (subst (λ l. IsBody c.in_ok-rest-2.rest.now l (map stated_of c.in_ok-statements.statements.items)) c.as_slice.ensures.value c.in_ok-statements.ensures.body)
-    c.as_slice-in-None.ensures.value made) c.module.ensures
+    c.as_slice-2.ensures.value made) c.module.ensures
