@@ -2,10 +2,15 @@ pub mod AddRuns
 pub mod BodyLemmas
 pub mod BuildLemmas
 pub mod CompileLaws
+pub mod DigitsLemmas
+pub mod FrontLemmas
 pub mod HeaderLemmas
+pub mod InstrLemmas
 pub mod LineLemmas
 pub mod LinesLemmas
 pub mod ReadLemmas
+pub mod RefusedLemmas
 pub mod SelectFront
 pub mod SelectionLaws
 pub mod StandingLemmas
+pub mod TextLemmas

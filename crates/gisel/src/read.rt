@@ -1,7 +1,8 @@
 //! Reading a text.
 
-ghost use Rattle.std.specs.Prelude.{◌-◌, ◌^◌, ◌<◌, length, IfOk};
+ghost use Rattle.std.specs.Prelude.{◌-◌, ◌^◌, ◌<◌, length, IfOk, IfErr};
 ghost use Rattle.gisel.specs.Reading.{IsRead};
+ghost use Rattle.gisel.specs.Refused.{IsRefusedAt, AtLine};
 
 use crate::body::body;
 use crate::build::module;
@@ -19,7 +20,8 @@ const FIRST: u32 = 9;
 /// too early, and 1 where it is empty.
 pub fn read(alloc: Global, bytes: &[u8]) -> Result<Module, Refusal>
     requires { length bytes.now < 2 ^ 32 - 1 }
-    ensures { IfOk result (λ m. IsRead bytes.now m) }
+    ensures taken { IfOk result (λ m. IsRead bytes.now m) }
+    ensures refused { IfErr result (λ e. AtLine e (IsRefusedAt bytes.now)) }
 {
     let (name, rest) = head(bytes)?;
     let rest = fixed_line(rest, 6, b"  bb.0:")?;
