@@ -14,7 +14,7 @@ use Rattle.gisel.specs.Statement.{stated_of, Fits}
 use Rattle.gisel.proofs.InstrLemmas.{one_line, fits_where, small_after}
 use Rattle.gisel.proofs.RefusedLemmas.{IsBehind, IsNext, IsNextOf, refused_behind, refused_next}
 
-abbrev end_lines : Bool → List (List ℕ)
+abbrev pub end_lines : Bool → List (List ℕ)
 end_lines closed = (if closed then codes "..." ∷ [] else [])
 
 -- ══ Lists of instructions ══
@@ -37,7 +37,7 @@ passed last admitted after p q = rw (p, q) refl
 ended : (last admitted : Bool) → last ≡ true → admitted ≡ true → (last && admitted) ≡ true
 ended last admitted p q = rw (p, q) refl
 
-first_admitted : (defined live : List ℕ) (instr : StatedInstr) (instrs : List StatedInstr) → are_stated defined live (instr ∷ instrs) ≡ true → is_stated_after defined live instr ≡ true
+pub first_admitted : (defined live : List ℕ) (instr : StatedInstr) (instrs : List StatedInstr) → are_stated defined live (instr ∷ instrs) ≡ true → is_stated_after defined live instr ≡ true
 first_admitted defined live instr [] ordered = (and_parts (is_return instr) (is_stated_after defined live instr) ordered).1
 first_admitted defined live instr (next ∷ instrs) ordered =
     (and_parts (not (is_return instr)) (is_stated_after defined live instr)
