@@ -25,6 +25,7 @@ use Rattle.gisel.proofs.SelectionLaws.{only_block, runs_selected}
 named_instr : (number : ℕ → ℕ) (names : List (List ℕ)) (s : Statement) (line : ℕ) (id : ℕ)
     → is_named_instr names (id, renamed_instr number (selected_instr (stated_instr (stated_of s) line))) ≡ true
 named_instr number names (statement.CopyIn d p) line id = refl
+named_instr number names (statement.MakeConstant d v) line id = refl
 named_instr number names (statement.AddUp d a b) line id = refl
 named_instr number names (statement.CopyOut p r) line id = refl
 named_instr number names statement.Return line id = refl

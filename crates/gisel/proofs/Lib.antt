@@ -2,12 +2,16 @@ pub mod AddRuns
 pub mod BodyLemmas
 pub mod BuildLemmas
 pub mod CompileLaws
+pub mod DigitsLemmas
+pub mod FrontLemmas
 pub mod HeaderLemmas
+pub mod InstrLemmas
 pub mod LineLemmas
 pub mod LinesLemmas
 pub mod ReadLemmas
-pub mod RefusedLaws
+pub mod RefusedLemmas
 pub mod SelectFront
 pub mod SelectionLaws
 pub mod StandingLemmas
+pub mod TextLemmas
 pub mod TopLemmas

@@ -79,6 +79,7 @@ front_whole f g h front =
 formed_selected : (s : Statement) (line : ℕ) → is_formed (stated_instr (stated_of s) line) ≡ true → is_formed (selected_instr (stated_instr (stated_of s) line)) ≡ true
 unfolding is_formed
 formed_selected (statement.CopyIn d p) line h = h
+formed_selected (statement.MakeConstant d v) line h = h
 formed_selected (statement.AddUp d a b) line h = refl
 formed_selected (statement.CopyOut p r) line h = h
 formed_selected statement.Return line h = refl

@@ -36,12 +36,14 @@ at_32 false k h = tt
 
 stated_32 : (r : ℕ) (s : Statement) (line : ℕ) → Is32 (kind_in_operands r (stated_instr (stated_of s) line).operands)
 stated_32 r (statement.CopyIn d p) line = first_32 _ None (at_32 (d == r) stated_kind refl) tt
+stated_32 r (statement.MakeConstant d v) line = first_32 _ None (at_32 (d == r) stated_kind refl) tt
 stated_32 r (statement.AddUp d a b) line = first_32 _ None (at_32 (d == r) stated_kind refl) tt
 stated_32 r (statement.CopyOut p s) line = tt
 stated_32 r statement.Return line = tt
 
 selected_32 : (r : ℕ) (s : Statement) (line : ℕ) → Is32 (kind_in_operands r (selected_instr (stated_instr (stated_of s) line)).operands)
 selected_32 r (statement.CopyIn d p) line = first_32 _ None (at_32 (d == r) kind.Class refl) tt
+selected_32 r (statement.MakeConstant d v) line = first_32 _ None (at_32 (d == r) kind.Class refl) tt
 selected_32 r (statement.AddUp d a b) line = first_32 _ None (at_32 (d == r) kind.Class refl) tt
 selected_32 r (statement.CopyOut p s) line = tt
 selected_32 r statement.Return line = tt
@@ -104,6 +106,7 @@ step_back : (names : List (List ℕ)) (w : World) (s : Statement) (line : ℕ) (
     → Steps (plain names) w (selected_instr (stated_instr (stated_of s) line)) state p
     → Steps (plain names) w (stated_instr (stated_of s) line) state p
 step_back names w (statement.CopyIn d q) line state p step = step
+step_back names w (statement.MakeConstant d v) line state p step = step
 step_back names w (statement.AddUp d a b) line state p step = add_back names w d a b line state p (state.values a) (state.values b) step
 step_back names w (statement.CopyOut q r) line state p step = step
 step_back names w statement.Return line state p step = step
@@ -135,12 +138,14 @@ executes_back names w (s ∷ ss) (i ∷ is) (j ∷ js) h g state p run = (
 
 stated_no_phi : (s : Statement) (line : ℕ) → is_phi (stated_instr (stated_of s) line) ≡ false
 stated_no_phi (statement.CopyIn d q) line = refl
+stated_no_phi (statement.MakeConstant d v) line = refl
 stated_no_phi (statement.AddUp d a b) line = refl
 stated_no_phi (statement.CopyOut q r) line = refl
 stated_no_phi statement.Return line = refl
 
 selected_no_phi : (s : Statement) (line : ℕ) → is_phi (selected_instr (stated_instr (stated_of s) line)) ≡ false
 selected_no_phi (statement.CopyIn d q) line = refl
+selected_no_phi (statement.MakeConstant d v) line = refl
 selected_no_phi (statement.AddUp d a b) line = refl
 selected_no_phi (statement.CopyOut q r) line = refl
 selected_no_phi statement.Return line = refl

@@ -6,7 +6,7 @@ use Rattle.gisel.specs.Refused.{IsStatedLines}
 use Rattle.gisel.specs.Stop.{IsCause, UsageOf, status_of}
 use Rattle.gisel.specs.declared.stop.Stop.{Stop}
 use Rattle.gisel.specs.declared.stop.Stop.TheVariants as stop
-use Rattle.gisel.proofs.RefusedLaws.{taken_not_refused}
+use Rattle.gisel.proofs.TextLemmas.{not_refused}
 
 no_word : {A : Type 0} (wrong : Option A) (word : A) → wrong ≡ None → wrong ≡ Some word → ⊥
 no_word wrong word none some = cc
@@ -16,7 +16,7 @@ wants_memory : (wrong : Option (List ℕ)) (read : List ℕ) (rose : Type 0) (wh
 wants_memory wrong read rose (stop.Usage word) right usage cause within stated fault none = absurd (no_word wrong word.now right usage)
 wants_memory wrong read rose stop.ReadFault right usage cause within stated fault none = absurd (none (fault refl))
 wants_memory wrong read rose stop.TooLong right usage cause within stated fault none = absurd (omega (arith, cause, within))
-wants_memory wrong read rose (stop.NotBuilt line) right usage cause within stated fault none = absurd (taken_not_refused read line stated cause.1)
+wants_memory wrong read rose (stop.NotBuilt line) right usage cause within stated fault none = absurd (not_refused read line stated cause.1)
 wants_memory wrong read rose stop.Memory right usage cause within stated fault none = refl
 
 pub ends_for_memory : (wrong : Option (List ℕ)) (read : List ℕ) (rose : Type 0) (why : Stop) (result : ℕ) → wrong ≡ None → UsageOf wrong why → IsCause read why → length read ≤ limit → IsStatedLines (lines_of read)

@@ -2,11 +2,13 @@ pub mod AddRuns
 pub mod Answers
 pub mod Body
 pub mod Built
+pub mod Digits
 pub mod Header
 pub mod Lines
+pub mod Next
 pub mod Promise
-pub mod Refused
 pub mod Reading
+pub mod Refused
 pub mod Selectable
 pub mod Selection
 pub mod Standing

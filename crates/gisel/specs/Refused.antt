@@ -1,11 +1,12 @@
--- Which line of a text is refused.
-use Rattle.std.specs.Prelude.{◌≡◌, ◌⊎◌, ℕ, ◌-◌, ◌≤◌, Bool, true, List, [], ◌++◌, length, take, max}
+-- Which line of a text is refused: the first that no text that is taken has there, or the last one, where the text
+-- ends too early.
+use Rattle.std.specs.Prelude.{◌≡◌, ℕ, suc, ◌+◌, ◌-◌, ◌<◌, max, Bool, true, ⊤, ◌⊎◌, List, [], ◌++◌, take, length}
 use Rattle.gi_mir.specs.Spelling.{lines_of}
+use Rattle.gi_mir.specs.Stated.{StatedInstr, Gaps, are_arguments, are_stated, is_stated_name, stated_lines}
 use Rattle.gisel.specs.declared.refusal.Refusal.{Refusal}
 use Rattle.gisel.specs.declared.refusal.Refusal.TheVariants as refusal
-use Rattle.gi_mir.specs.Stated.{StatedInstr, Gaps, stated_lines, is_stated_name, are_arguments, are_stated}
 
--- lines of a text that is taken
+-- all lines of a text that is taken
 pub record IsStatedLines (lines : List (List ℕ)) : Type 0 where
   pub gaps : Gaps
   pub closed : Bool
@@ -14,32 +15,36 @@ pub record IsStatedLines (lines : List (List ℕ)) : Type 0 where
   pub instrs : List StatedInstr
   pub same : lines ≡ stated_lines gaps closed name liveins instrs
   pub named : is_stated_name name ≡ true
-  pub live : are_arguments liveins ≡ true
+  pub arguments : are_arguments liveins ≡ true
   pub ordered : are_stated [] liveins instrs ≡ true
 
--- lines with which a text that is taken can begin
-pub record CanBegin (lines : List (List ℕ)) : Type 0 where
+-- these lines can begin lines that are taken
+pub record CanBegin (IsTaken : List (List ℕ) → Type 0) (lines : List (List ℕ)) : Type 0 where
   pub more : List (List ℕ)
-  pub stated : IsStatedLines (lines ++ more)
+  pub taken : IsTaken (lines ++ more)
 
--- the first line up to which no text that is taken can begin
-pub record BreaksAt (lines : List (List ℕ)) (line : ℕ) : Type 0 where
-  pub counted : 1 ≤ line
-  pub there : line ≤ length lines
-  pub before : CanBegin (take (line - 1) lines)
-  pub breaks : CanBegin (take line lines) → ⊥
+-- so many lines can begin lines that are taken, and one more can't; the first line has the number `first`
+pub record IsBrokenAt (IsTaken : List (List ℕ) → Type 0) (first : ℕ) (lines : List (List ℕ)) (line : ℕ) : Type 0 where
+  pub count : ℕ
+  pub next : line ≡ first + count
+  pub within : count < length lines
+  pub begins : CanBegin IsTaken (take count lines)
+  pub breaks : CanBegin IsTaken (take (suc count) lines) → ⊥
 
--- a text that ends before it is one that is taken: its last line, or 1 where it has none
-pub record EndsEarlyAt (lines : List (List ℕ)) (line : ℕ) : Type 0 where
-  pub begins : CanBegin lines
-  pub short : IsStatedLines lines → ⊥
-  pub last : line ≡ max 1 (length lines)
+-- the lines can begin lines that are taken, and aren't taken; the last of them is meant, and 1 where there is none
+pub record EndsEarlyAt (IsTaken : List (List ℕ) → Type 0) (first : ℕ) (lines : List (List ℕ)) (line : ℕ) : Type 0 where
+  pub last : line ≡ max (first + length lines - 1) 1
+  pub begins : CanBegin IsTaken lines
+  pub short : IsTaken lines → ⊥
 
--- the line that is refused of a text
+abbrev pub IsRefusedFrom : (IsTaken : List (List ℕ) → Type 0) (first : ℕ) (lines : List (List ℕ)) (line : ℕ) → Type 0
+IsRefusedFrom IsTaken first lines line = IsBrokenAt IsTaken first lines line ⊎ EndsEarlyAt IsTaken first lines line
+
+-- a text is refused at this line
 abbrev pub IsRefusedAt : (text : List ℕ) (line : ℕ) → Type 0
-IsRefusedAt text line = BreaksAt (lines_of text) line ⊎ EndsEarlyAt (lines_of text) line
+IsRefusedAt text line = IsRefusedFrom IsStatedLines 1 (lines_of text) line
 
--- a line that isn't built is one that is refused
-abbrev pub IsRefusalOf : (text : List ℕ) → Refusal → Type 0
-IsRefusalOf text (refusal.NotBuilt line) = IsRefusedAt text line
-IsRefusalOf text refusal.Memory = Unit {0}
+-- where a line is refused, it is such a one
+abbrev pub AtLine : Refusal → (ℕ → Type 0) → Type 0
+AtLine (refusal.NotBuilt line) IsRefused = IsRefused line
+AtLine refusal.Memory IsRefused = ⊤

@@ -2,7 +2,7 @@
 
 ghost use Rattle.std.specs.Prelude.{◌-◌, ◌^◌, ◌<◌, length, IfErr, IfOk};
 ghost use Rattle.gisel.specs.Promise.{Compiles};
-ghost use Rattle.gisel.specs.Refused.{IsRefusalOf};
+ghost use Rattle.gisel.specs.Refused.{IsRefusedAt, AtLine};
 ghost use Rattle.gisel.specs.Text.{IsText};
 
 use crate::read::read;
@@ -17,7 +17,7 @@ pub fn compile(alloc: Global, bytes: &[u8]) -> Result<Vec<u8>, Refusal>
     requires { length bytes.now < 2 ^ 32 - 1 }
     ensures compiled { IfOk result (λ text. Compiles 32 bytes.now text.items) }
     ensures text { IfOk result (λ text. IsText bytes.now text.items) }
-    ensures refused { IfErr result (IsRefusalOf bytes.now) }
+    ensures refused { IfErr result (λ why. AtLine why (IsRefusedAt bytes.now)) }
 {
     let selected = match select_module(alloc, read(alloc, bytes)?) {
         Ok(selected) => selected,
