@@ -3,9 +3,12 @@ pub mod Body
 pub mod Built
 pub mod Header
 pub mod Lines
+pub mod NormalForm
 pub mod Promise
 pub mod Reading
+pub mod Rows
 pub mod Selectable
+pub mod Selecting
 pub mod Selection
 pub mod Standing
 pub mod Statement

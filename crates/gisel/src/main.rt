@@ -8,6 +8,7 @@ mod example;
 mod header;
 mod line;
 mod lines;
+mod normal_form;
 mod read;
 mod refusal;
 mod select;

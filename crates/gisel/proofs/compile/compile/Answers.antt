@@ -6,5 +6,5 @@ use Rattle.gisel.proofs.compile.compile.Goals as goal
 
 pub returns-in-Ok-print : goal.returns-in-Ok-print
 returns-in-Ok-print c =
-    compiled c.args.bytes.now c.print.new.out.items c.in_ok-read.field-0 c.in-Ok.selected c.in_ok-read.ensures c.in-Ok.ensures
+    compiled c.args.bytes.now c.print.new.out.items c.in_ok-read.field-0 c.in-Ok.selected c.in_ok-read.ensures.stated c.in-Ok.ensures
     (c.in-Ok-print.ensures.text ∙ ap (λ (t : List ℕ). t ++ printed (numbered_module c.in-Ok.selected)) c.new-text.ensures.items)
