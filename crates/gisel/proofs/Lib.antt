@@ -3,12 +3,16 @@ pub mod BodyLemmas
 pub mod BuildLemmas
 pub mod ClassedRuns
 pub mod CompileLaws
+pub mod DigitsLemmas
+pub mod FrontLemmas
 pub mod HeaderLemmas
+pub mod InstrLemmas
 pub mod LineLemmas
 pub mod LinesLemmas
 pub mod MachineSums
 pub mod NormalForms
 pub mod ReadLemmas
+pub mod RefusedLemmas
 pub mod SelectFits
 pub mod SelectFronts
 pub mod SelectLoops
@@ -16,3 +20,4 @@ pub mod SelectRuns
 pub mod SelectShapes
 pub mod SelectSteps
 pub mod StandingLemmas
+pub mod TextLemmas

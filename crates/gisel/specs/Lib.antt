@@ -1,11 +1,14 @@
 pub mod AddRuns
 pub mod Body
 pub mod Built
+pub mod Digits
 pub mod Header
 pub mod Lines
+pub mod Next
 pub mod NormalForm
 pub mod Promise
 pub mod Reading
+pub mod Refused
 pub mod Rows
 pub mod Selectable
 pub mod Selecting
@@ -13,4 +16,5 @@ pub mod Selection
 pub mod Standing
 pub mod Statement
 pub mod Stop
+pub mod Text
 pub mod Words

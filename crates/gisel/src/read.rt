@@ -1,7 +1,8 @@
 //! Reading a text.
 
-ghost use Rattle.std.specs.Prelude.{◌-◌, ◌^◌, ◌<◌, length, IfOk};
+ghost use Rattle.std.specs.Prelude.{◌-◌, ◌^◌, ◌<◌, length, IfOk, IfErr};
 ghost use Rattle.gisel.specs.Reading.{IsRead};
+ghost use Rattle.gisel.specs.Refused.{IsRefusedAt, AtLine};
 
 use crate::body::body;
 use crate::build::module;
@@ -19,7 +20,8 @@ const FIRST: u32 = 9;
 /// too early, and 1 where it is empty.
 pub fn read(alloc: Global, bytes: &[u8]) -> Result<Module, Refusal>
     requires { length bytes.now < 2 ^ 32 - 1 }
-    ensures { IfOk result (λ m. IsRead bytes.now m) }
+    ensures taken { IfOk result (λ m. IsRead bytes.now m) }
+    ensures refused { IfErr result (λ e. AtLine e (IsRefusedAt bytes.now)) }
 {
     let (name, rest) = head(bytes)?;
     let rest = fixed_line(rest, 6, b"  bb.0:")?;
@@ -98,6 +100,31 @@ mod tests {
         assert_eq!(rt; refused(alloc, head), 7);
     }
 
+    // The line that is refused of a text that returns this constant, and 0 where none is.
+    fn refused_constant(alloc: Global, value: &str) -> Result<u32, Fail> {
+        let mut instructions = String::from_str(alloc, "    %0:gprb(s32) = G_CONSTANT i32 ")?;
+        instructions.push_str(value)?;
+        instructions.push_str("\n    $x10 = COPY %0(s32)\n    PseudoRET implicit $x10\n")?;
+        refused_body(alloc, instructions.as_str())
+    }
+
+    #[test]
+    fn takes_constants_of_twelve_bits(rt: HostRuntime) -> Result<(), Fail> {
+        let alloc = rt.alloc();
+        assert_eq!(rt; refused_constant(alloc, "-2049")?, 9);
+        assert_eq!(rt; refused_constant(alloc, "-2048")?, 0);
+        assert_eq!(rt; refused_constant(alloc, "-1")?, 0);
+        assert_eq!(rt; refused_constant(alloc, "-0")?, 9);
+        assert_eq!(rt; refused_constant(alloc, "0")?, 0);
+        assert_eq!(rt; refused_constant(alloc, "00")?, 9);
+        assert_eq!(rt; refused_constant(alloc, "+1")?, 9);
+        assert_eq!(rt; refused_constant(alloc, "2047")?, 0);
+        assert_eq!(rt; refused_constant(alloc, "2048")?, 9);
+        assert_eq!(rt; refused_constant(alloc, "4294967296")?, 9);
+        assert_eq!(rt; refused_constant(alloc, "")?, 9);
+        Ok(())
+    }
+
     #[test]
     fn names_the_line_of_an_instruction(rt: HostRuntime) -> Result<(), Fail> {
         let alloc = rt.alloc();
@@ -107,7 +134,7 @@ mod tests {
             9
         );
         assert_eq!(rt;
-            refused_body(alloc, "    %0:gprb(s32) = G_CONSTANT i32 5\n")?,
+            refused_body(alloc, "    %0:gprb(s32) = G_CONSTANT i64 5\n")?,
             9
         );
         assert_eq!(rt; refused_body(alloc, "    %00:gprb(s32) = COPY $x10\n")?, 9);

@@ -1,0 +1,17 @@
+//! What holds of the texts that are taken and of those that are refused.
+
+ghost use Rattle.std.specs.Prelude.{◌≡◌, ℕ, List};
+ghost use Rattle.gi_mir.specs.Data.{ModuleData};
+ghost use Rattle.gi_mir.specs.Stated.{IsStatedText};
+ghost use Rattle.gisel.specs.Refused.{IsStatedLines, IsRefusedAt};
+
+/// A text states one name, one list of physical registers and one list of instructions.
+pub fn stated_text_is_one()
+    ensures { (lines : List (List ℕ)) (a b : IsStatedLines lines) → (a.name ≡ b.name) × (a.liveins ≡ b.liveins) × (a.instrs ≡ b.instrs) }
+{}
+
+/// A text is refused at one line at most, and at none where it states a module.
+pub fn refused_line_is_one()
+    ensures one { (text : List ℕ) (a b : ℕ) → IsRefusedAt text a → IsRefusedAt text b → a ≡ b }
+    ensures none { (text : List ℕ) (m : ModuleData) (line : ℕ) → IsStatedText text m → IsRefusedAt text line → ⊥ }
+{}
