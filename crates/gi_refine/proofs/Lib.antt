@@ -3,5 +3,9 @@ pub mod CallRuns
 pub mod Doing
 pub mod ExampleRuns
 pub mod Failing
+pub mod Keeping
+pub mod OnePlaceFollows
+pub mod Reaching
 pub mod Refining
 pub mod Simulating
+pub mod Staying

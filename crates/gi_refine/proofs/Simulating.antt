@@ -33,7 +33,7 @@ join_after s w xs ys (On state) between p goes first second = goes state first s
 join_after s w xs ys (Left b state) between p goes first second = subst (λ q. After q (Executes s w ys) p) first second
 join_after s w xs ys (Over o) between p goes first second = subst (λ q. After q (Executes s w ys) p) first second
 
-join : (s : Setting) (w : World) (xs ys : List (ℕ × InstrData)) (state : State) (between p : Progress)
+pub join : (s : Setting) (w : World) (xs ys : List (ℕ × InstrData)) (state : State) (between p : Progress)
     → Executes s w xs state between → After between (Executes s w ys) p → Executes s w (xs ++ ys) state p
 join s w [] ys state between p first second = subst (λ q. After q (Executes s w ys) p) first second
 join s w (x ∷ xs) ys state between p first second =
@@ -77,16 +77,16 @@ record Entered (entry : Option ℕ → ℕ → State → State → Type 0) (ente
   by : (from : Option ℕ) (b : ℕ) (state state' : State) (o : Outcome) → entry from b state state' → enters' from b state' o → enters from b state o ⊎ enters from b state Fails
 
 falls_on : (entry : Option ℕ → ℕ → State → State → Type 0) (enters enters' : Option ℕ → ℕ → State → Outcome → Type 0) → Entered entry enters enters'
-    → (test : Bool) (from : Option ℕ) (b : ℕ) (state state' : State) (o : Outcome) → entry from b state state' → cond test (enters' from b state' o) (o ≡ Fails)
+    → (test : Bool) (from : Option ℕ) (b : ℕ) (state state' : State) (o : Outcome) → (test ≡ true → entry from b state state') → cond test (enters' from b state' o) (o ≡ Fails)
     → cond test (enters from b state o) (o ≡ Fails) ⊎ cond test (enters from b state Fails) (Fails ≡ Fails)
-falls_on entry enters enters' on true from b state state' o related run = on.by from b state state' o related run
+falls_on entry enters enters' on true from b state state' o related run = on.by from b state state' o (related refl) run
 falls_on entry enters enters' on false from b state state' o related run = inl run
 
 ends : (s s' : Setting) (w : World) (entry : Option ℕ → ℕ → State → State → Type 0) (middle after : State → State → Type 0) (exit : ℕ → State → State → Type 0) (b : ℕ) (old new : BlockData)
     → IsBlockFollowed s s' w entry middle after exit b old new → (enters enters' : Option ℕ → ℕ → State → Outcome → Type 0) → Entered entry enters enters'
     → (p p' : Progress) (o : Outcome) → Stands after exit p p' → Follows b old.successors enters' p' o → Follows b old.successors enters p o ⊎ Follows b old.successors enters p Fails
 ends s s' w entry middle after exit b old new followed enters enters' on (On σ) (On σ') o stands run =
-    falls_on entry enters enters' on (is_among (b + 1) old.successors) (Some b) (b + 1) σ σ' o (followed.falls σ σ' stands) run
+    falls_on entry enters enters' on (is_among (b + 1) old.successors) (Some b) (b + 1) σ σ' o (λ among. followed.falls among σ σ' stands) run
 ends s s' w entry middle after exit b old new followed enters enters' on (On σ) (Left c σ') o stands run = absurd stands
 ends s s' w entry middle after exit b old new followed enters enters' on (On σ) (Over q) o stands run = absurd stands
 ends s s' w entry middle after exit b old new followed enters enters' on (Left c σ) (On σ') o stands run = absurd stands

@@ -1,18 +1,24 @@
 -- States that agree but for hidden places.
-use Rattle.std.specs.Prelude.{◌≡◌, ℕ, Bool, false, cond, ◌==◌, List, [], ◌∷◌, Option, Some, None}
+use Rattle.std.specs.Prelude.{◌≡◌, ℕ, ◌%◌, ◌^◌, ◌<◌, Bool, false, cond, ◌==◌, List, [], ◌∷◌, Option, Some, None}
 use Rattle.gi_mir.specs.declared.operand.Operand.{Operand}
 use Rattle.gi_mir.specs.declared.operand.Operand.TheVariants as operand
 use Rattle.gi_meaning.specs.State.{State, Place, Virtual, Physical}
 use Rattle.gi_meaning.specs.Runs.{Setting}
 
--- the new value is the old one; where the old register has none, the new one may have any
-abbrev pub ValueStands : (old new : Option ℕ) → Type 0
-ValueStands None new = Unit {0}
-ValueStands (Some value) new = new ≡ Some value
+-- The new value of a register stands for the old one. Where the old function gives the register m bits and the new one n, it
+-- is the old one if m is n; and where a register of fewer bits than a word became a word, any word with these low bits.
+abbrev pub StandsFor : (x m n : ℕ) → (value value' : ℕ) → Type 0
+StandsFor x m n value value' = cond (m == n) (value' ≡ value) ((n ≡ x) × (m < x) × (value' < 2 ^ x) × (value' % 2 ^ m ≡ value))
+
+-- where the old register has no value, the new one may have any
+abbrev pub ValueStands : (x m n : ℕ) → (old new : Option ℕ) → Type 0
+ValueStands x m n None new = Unit {0}
+ValueStands x m n (Some value) None = ⊥
+ValueStands x m n (Some value) (Some value') = StandsFor x m n value value'
 
 -- the states agree in each place that isn't hidden, in memory and in the events taken
-pub record Agree (hidden : Place → Bool) (old new : State) : Type 0 where
-  pub values : (r : ℕ) → hidden (Virtual r) ≡ false → ValueStands (old.values r) (new.values r)
+pub record Agree (s t : Setting) (hidden : Place → Bool) (old new : State) : Type 0 where
+  pub values : (r : ℕ) → hidden (Virtual r) ≡ false → ValueStands s.x (s.width r) (t.width r) (old.values r) (new.values r)
   pub words : (n : ℕ) → hidden (Physical n) ≡ false → new.words n ≡ old.words n
   pub memory : new.memory ≡ old.memory
   pub taken : new.taken ≡ old.taken
@@ -51,12 +57,12 @@ AreAlike width width' (Virtual r ∷ ps) = (width' r ≡ width r) × AreAlike wi
 AreAlike width width' (Physical n ∷ ps) = AreAlike width width' ps
 
 -- agreement at each place of a map from blocks to what is hidden there
-abbrev pub AgreeAt : (hidden : ℕ → Place → Bool) → ℕ → State → State → Type 0
-AgreeAt hidden b = Agree (hidden b)
+abbrev pub AgreeAt : (s t : Setting) → (hidden : ℕ → Place → Bool) → ℕ → State → State → Type 0
+AgreeAt s t hidden b = Agree s t (hidden b)
 
 -- at the entry of a block, whichever block was left
-abbrev pub AgreeEntering : (hidden : ℕ → Place → Bool) → Option ℕ → ℕ → State → State → Type 0
-AgreeEntering hidden from b = Agree (hidden b)
+abbrev pub AgreeEntering : (s t : Setting) → (hidden : ℕ → Place → Bool) → Option ℕ → ℕ → State → State → Type 0
+AgreeEntering s t hidden from b = Agree s t (hidden b)
 
 -- the setting of a register width, names and widths of registers
 abbrev pub setting : (x : ℕ) (names : List (List ℕ)) (width : ℕ → ℕ) → Setting

@@ -1,9 +1,9 @@
 -- How a run of the new code is followed by the old: states that stand for each other, point by point.
 -- What may differ is a relation of its own at each point, so it may vary from point to point.
-use Rattle.std.specs.Prelude.{◌≡◌, ℕ, ◌+◌, List, Option, Some, None, ◌⊎◌, slice_get}
+use Rattle.std.specs.Prelude.{◌≡◌, ℕ, ◌+◌, true, List, Option, Some, None, ◌⊎◌, slice_get}
 use Rattle.gi_mir.specs.Data.{InstrData, BlockData}
 use Rattle.gi_meaning.specs.State.{World, State, Fails}
-use Rattle.gi_meaning.specs.Runs.{Setting, Progress, On, Left, Over, Executes, phis_of, after_phis, joined}
+use Rattle.gi_meaning.specs.Runs.{Setting, Progress, On, Left, Over, Executes, phis_of, after_phis, joined, is_among}
 
 -- How far the old run has come stands for how far the new one has: in related states where both go on, in
 -- related states where both left for one block, or with one outcome.
@@ -31,7 +31,7 @@ pub record IsBlockFollowed (s s' : Setting) (w : World) (entry : Option ℕ → 
   pub phis : (from : Option ℕ) (state state' : State) → entry from b state state'
       → PhisStand middle (joined state from (phis_of old.instrs)) (joined state' from (phis_of new.instrs))
   pub body : IsFollowed s s' w middle after exit (after_phis old.instrs) (after_phis new.instrs)
-  pub falls : (state state' : State) → after state state' → entry (Some b) (b + 1) state state'
+  pub falls : is_among (b + 1) old.successors ≡ true → (state state' : State) → after state state' → entry (Some b) (b + 1) state state'
   pub leaves : (c : ℕ) (state state' : State) → exit c state state' → entry (Some b) c state state'
 
 -- where the old function has a block, the new one has a block that it follows

@@ -28,9 +28,9 @@ pub fn refinement_is_transitive()
 /// Two pieces of a block that follow, follow one after the other. What is hidden may vary from point to point.
 pub fn pieces_follow()
     ensures { (s t : Setting) (world : World) (before middle after : Place → Bool) (out : ℕ → Place → Bool) (a b c d : List (ℕ × InstrData))
-        → IsFollowed s t world (Agree before) (Agree middle) (AgreeAt out) a b
-        → IsFollowed s t world (Agree middle) (Agree after) (AgreeAt out) c d
-        → IsFollowed s t world (Agree before) (Agree after) (AgreeAt out) (a ++ c) (b ++ d) }
+        → IsFollowed s t world (Agree s t before) (Agree s t middle) (AgreeAt s t out) a b
+        → IsFollowed s t world (Agree s t middle) (Agree s t after) (AgreeAt s t out) c d
+        → IsFollowed s t world (Agree s t before) (Agree s t after) (AgreeAt s t out) (a ++ c) (b ++ d) }
 {}
 
 /// An instruction that reads nothing hidden is followed by itself, and shows what it writes.
@@ -39,9 +39,9 @@ pub fn same_instruction_follows()
         → j.1 ≡ i.1
         → AreSeen hidden old new (read_places i.1.operands)
         → AreAlike old new (written_places (meaning_of i.1.flags i.1.op) i.1.operands)
-        → IsFollowed (setting x names old) (setting x names new) world (Agree hidden)
-        (Agree (all_shown hidden (written_places (meaning_of i.1.flags i.1.op) i.1.operands)))
-        (AgreeAt (λ b. hidden)) (i ∷ []) (j ∷ []) }
+        → IsFollowed (setting x names old) (setting x names new) world (Agree (setting x names old) (setting x names new) hidden)
+        (Agree (setting x names old) (setting x names new) (all_shown hidden (written_places (meaning_of i.1.flags i.1.op) i.1.operands)))
+        (AgreeAt (setting x names old) (setting x names new) (λ b. hidden)) (i ∷ []) (j ∷ []) }
 {}
 
 /// Where each block follows, from states that agree at its entry to states that agree at the entry of the next,
@@ -49,7 +49,8 @@ pub fn same_instruction_follows()
 pub fn whole_runs_follow()
     ensures { (x : ℕ) (names : List (List ℕ)) (old new : FunctionData) (entry middle after : ℕ → Place → Bool) (out : ℕ → ℕ → Place → Bool)
         → ((world : World) → IsWorld x world
-        → AreFollowed (setting_of x names old) (setting_of x names new) world (AgreeEntering entry)
-        (AgreeAt middle) (AgreeAt after) (λ b. AgreeAt (out b)) old.blocks new.blocks)
+        → AreFollowed (setting_of x names old) (setting_of x names new) world (AgreeEntering (setting_of x names old) (setting_of x names new) entry)
+        (AgreeAt (setting_of x names old) (setting_of x names new) middle) (AgreeAt (setting_of x names old) (setting_of x names new) after)
+        (λ b. AgreeAt (setting_of x names old) (setting_of x names new) (out b)) old.blocks new.blocks)
         → IsRefinement x names old new }
 {}

@@ -3,9 +3,11 @@
 
 mod examples;
 mod laws;
+mod rewriting;
 
 pub use examples::examples_come_to;
 pub use laws::{
     may_fail_is_failing, pieces_follow, refinement_is_reflexive, refinement_is_transitive,
     same_instruction_follows, whole_runs_follow,
 };
+pub use rewriting::{one_place_follows, replacement_follows};

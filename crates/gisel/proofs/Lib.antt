@@ -1,6 +1,7 @@
 pub mod AddRuns
 pub mod BodyLemmas
 pub mod BuildLemmas
+pub mod ClassedRuns
 pub mod CompileLaws
 pub mod DigitsLemmas
 pub mod FrontLemmas
@@ -8,10 +9,16 @@ pub mod HeaderLemmas
 pub mod InstrLemmas
 pub mod LineLemmas
 pub mod LinesLemmas
+pub mod MachineSums
+pub mod NormalForms
 pub mod ReadLemmas
 pub mod RefusedLemmas
-pub mod SelectFront
-pub mod SelectionLaws
+pub mod SelectFits
+pub mod SelectFronts
+pub mod SelectLoops
+pub mod SelectRuns
+pub mod SelectShapes
+pub mod SelectSteps
 pub mod StandingLemmas
 pub mod TextLemmas
 pub mod TopLemmas

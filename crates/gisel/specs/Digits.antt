@@ -25,7 +25,7 @@ pub record IsNumberAfter (bytes word : List ℕ) (number : ℕ) (rest : List ℕ
   pub split : bytes ≡ word ++ (decimal number ++ rest)
   pub apart : begins_with_digit rest ≡ false
 
--- two numbers between three pieces, and three between four
+-- two numbers between three pieces, and three numbers behind three pieces
 abbrev pub with_two : (first between last : List ℕ) (a b : ℕ) → List ℕ
 with_two first between last a b = first ++ (decimal a ++ (between ++ (decimal b ++ last)))
 

@@ -6,10 +6,13 @@ pub mod Digits
 pub mod Header
 pub mod Lines
 pub mod Next
+pub mod NormalForm
 pub mod Promise
 pub mod Reading
 pub mod Refused
+pub mod Rows
 pub mod Selectable
+pub mod Selecting
 pub mod Selection
 pub mod Standing
 pub mod Statement

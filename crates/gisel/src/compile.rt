@@ -15,7 +15,7 @@ use std::alloc::Global;
 /// The text after instruction selection.
 pub fn compile(alloc: Global, bytes: &[u8]) -> Result<Vec<u8>, Refusal>
     requires { length bytes.now < 2 ^ 32 - 1 }
-    ensures compiled { IfOk result (λ text. Compiles 32 bytes.now text.items) }
+    ensures compiles { IfOk result (λ text. Compiles 32 bytes.now text.items) }
     ensures text { IfOk result (λ text. IsText bytes.now text.items) }
     ensures refused { IfErr result (λ why. AtLine why (IsRefusedAt bytes.now)) }
 {

@@ -9,6 +9,7 @@ mod header;
 mod laws;
 mod line;
 mod lines;
+mod normal_form;
 mod read;
 mod refusal;
 mod select;

@@ -1,0 +1,20 @@
+//! The laws of rewriting at a place.
+
+ghost use Rattle.std.specs.Prelude.{ℕ, List};
+ghost use Rattle.gi_mir.specs.Data.{FunctionData};
+ghost use Rattle.gi_refine.specs.OnePlace.{OnePlace, RewritesOnePlace};
+ghost use Rattle.gi_refine.specs.Refinement.{IsRefinement};
+ghost use Rattle.gi_refine.specs.Replacing.{IsReplaced, Replacement};
+
+/// A function with one place rewritten refines the old one: where the place follows from the states that runs of the
+/// old function reach there, nothing outside it reads what is hidden, and each register that is replaced outside
+/// it holds the value of its replacement wherever it is used.
+pub fn one_place_follows()
+    ensures { (x : ℕ) (names : List (List ℕ)) (f g : FunctionData) (p : OnePlace) → RewritesOnePlace x names f g p → IsRefinement x names f g }
+{}
+
+/// Instructions replaced in one block, and nothing else changed: where the place follows from the states that runs of the
+/// old function reach there, and nothing outside it touches what is hidden, the new function refines the old one.
+pub fn replacement_follows()
+    ensures { (x : ℕ) (names : List (List ℕ)) (f g : FunctionData) (r : Replacement) → IsReplaced x names f g r → IsRefinement x names f g }
+{}
