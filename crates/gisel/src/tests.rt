@@ -16,7 +16,7 @@ const SUM: &str =
 
 // What the program answers: its status, and what the outputs hold.
 #[derive(Drop)]
-struct Run {
+struct Answered {
     status: u8,
     out: Vec<u8>,
     err: Vec<u8>,
@@ -36,7 +36,7 @@ fn run(
     text: Vec<u8>,
     input_fails: &[u32],
     out_fails: &[u32],
-) -> Result<Run, Fail> {
+) -> Result<Answered, Fail> {
     let mut given = Vec::new(alloc);
     for word in words {
         given.push(String::from_str(alloc, word)?)?;
@@ -45,7 +45,7 @@ fn run(
     let mut out = sink(alloc, 10, out_fails)?;
     let mut err = sink(alloc, 4096, &[])?;
     let status = gisel(alloc, given.as_slice(), &mut input, &mut out, &mut err);
-    Ok(Run {
+    Ok(Answered {
         status,
         out: out.bytes().to_vec(alloc)?,
         err: err.bytes().to_vec(alloc)?,
@@ -75,12 +75,12 @@ fn selects_and_prints(rt: HostRuntime) -> Result<(), Fail> {
             "    %0:gpr = ADDI $x0, -2048\n    %1:gpr = ADDI %0, 2047\n    $x10 = COPY %1\n    PseudoRET implicit $x10\n...\n",
         ),
     ] {
-        let run = run(alloc, &WORDS, text_of(alloc, instructions)?, &[], &[])?;
+        let answered = run(alloc, &WORDS, text_of(alloc, instructions)?, &[], &[])?;
         let mut wanted = PRINTED_HEAD.as_bytes().to_vec(alloc)?;
         wanted.extend_from_slice(printed.as_bytes())?;
-        assert_eq!(rt; run.out.as_slice(), wanted.as_slice());
-        assert_eq!(rt; run.status, 0);
-        assert!(rt; run.err.is_empty());
+        assert_eq!(rt; answered.out.as_slice(), wanted.as_slice());
+        assert_eq!(rt; answered.status, 0);
+        assert!(rt; answered.err.is_empty());
     }
     Ok(())
 }
@@ -153,16 +153,16 @@ fn says_why_it_stops(rt: HostRuntime) -> Result<(), Fail> {
             "gisel: line 8: not built\n",
         ),
     ] {
-        let run = run(
+        let answered = run(
             alloc,
             words,
             text_of(alloc, instructions)?,
             input_fails,
             out_fails,
         )?;
-        assert_eq!(rt; run.status, status);
-        assert_eq!(rt; run.out.as_slice(), out.as_bytes());
-        assert_eq!(rt; run.err.as_slice(), err.as_bytes());
+        assert_eq!(rt; answered.status, status);
+        assert_eq!(rt; answered.out.as_slice(), out.as_bytes());
+        assert_eq!(rt; answered.err.as_slice(), err.as_bytes());
     }
     Ok(())
 }
@@ -174,10 +174,10 @@ fn refuses_an_input_that_is_too_long(rt: HostRuntime) -> Result<(), Fail> {
         (8_388_609usize, "gisel: input: limit 8388608\n"),
         (8_388_608, "gisel: line 1: not built\n"),
     ] {
-        let run = run(alloc, &WORDS, vec![in alloc; b'-'; length]?, &[], &[])?;
-        assert_eq!(rt; run.status, 1);
-        assert!(rt; run.out.is_empty());
-        assert_eq!(rt; run.err.as_slice(), err.as_bytes());
+        let answered = run(alloc, &WORDS, vec![in alloc; b'-'; length]?, &[], &[])?;
+        assert_eq!(rt; answered.status, 1);
+        assert!(rt; answered.out.is_empty());
+        assert_eq!(rt; answered.err.as_slice(), err.as_bytes());
     }
     Ok(())
 }
