@@ -20,4 +20,5 @@ pub mod SelectRuns
 pub mod SelectShapes
 pub mod SelectSteps
 pub mod StandingLemmas
+pub mod TextLaws
 pub mod TextLemmas
