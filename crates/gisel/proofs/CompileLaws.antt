@@ -34,27 +34,31 @@ pub record IsReadFunction (names : List (List ℕ)) (f : FunctionData) : Type 0 
   pub block : BlockData
   pub stated : IsStated names f instrs block
 
-pub read_selectable : (names : List (List ℕ)) (f : FunctionData) → IsReadFunction names f → IsSelectable f
+abbrev pub read_selectable : (names : List (List ℕ)) (f : FunctionData) → IsReadFunction names f → IsSelectable f
 read_selectable names f h =
     record { instrs = h.instrs; block = h.block; blocks = h.stated.blocks; stated = h.stated.instructed; ordered = h.stated.ordered; no_objects = h.stated.no_objects }
 
 -- the one block of what is selected, and what it is selected from
-record SelectedBlock (f : FunctionData) (h : IsSelectable f) (g : FunctionData) : Type 0 where
-  came : Came (short_among h.block.instrs) f h.block [] [] h.block.instrs f.next_reg f.next_id
-  start : f ≡ shaped f h.block h.block.instrs f.next_reg f.next_id
-  block : BlockData
-  blocks : g.blocks ≡ block ∷ []
-  successors : block.successors ≡ h.block.successors
-  instrs : AllZip IsSameInstr (classed_pairs came.back) block.instrs
-  name : g.name ≡ f.name
-  stack : g.stack ≡ []
+pub record SelectedBlock (f : FunctionData) (h : IsSelectable f) (g : FunctionData) : Type 0 where
+  pub came : Came (short_among h.block.instrs) f h.block [] [] h.block.instrs f.next_reg f.next_id
+  pub start : f ≡ shaped f h.block h.block.instrs f.next_reg f.next_id
+  pub block : BlockData
+  pub blocks : g.blocks ≡ block ∷ []
+  pub successors : block.successors ≡ h.block.successors
+  pub liveins : block.liveins ≡ h.block.liveins
+  pub instrs : AllZip IsSameInstr (classed_pairs came.back) block.instrs
+  pub name : g.name ≡ f.name
+  pub legalized : g.legalized ≡ f.legalized
+  pub banked : g.banked ≡ f.banked
+  pub chosen : g.selected ≡ true
+  pub stack : g.stack ≡ []
 
 only_same : (b : BlockData) (bs : List BlockData) → AllZip IsSameBlock (b ∷ []) bs → (c : BlockData) × (bs ≡ c ∷ []) × IsSameBlock b c
 only_same b [] h = absurd h
 only_same b (c ∷ []) h = (c, refl, h.0)
 only_same b (c ∷ d ∷ bs) h = absurd h.1
 
-selected_block : (f : FunctionData) (h : IsSelectable f) (g : FunctionData) → IsSelected f g → SelectedBlock f h g
+pub selected_block : (f : FunctionData) (h : IsSelectable f) (g : FunctionData) → IsSelected f g → SelectedBlock f h g
 selected_block f h g made =
     let found = normal_of f h in
     let n : NormalOf f h found.0 = found.1 in
@@ -69,8 +73,12 @@ selected_block f h g made =
       block = one.0;
       blocks = one.1;
       successors = one.2.successors;
+      liveins = one.2.liveins;
       instrs = one.2.instrs;
       name = same.name;
+      legalized = same.legalized;
+      banked = same.banked;
+      chosen = same.chosen;
       stack = same.stack ∙ h.no_objects;
     }
 
@@ -86,7 +94,7 @@ named_operands : (number : ℕ → ℕ) (names : List (List ℕ)) (os : List Ope
 named_operands number names [] = refl
 named_operands number names (o ∷ os) = ap₂ (λ a b. a && b) (named_operand number names o) (named_operands number names os)
 
-named_instrs : (number : ℕ → ℕ) (names : List (List ℕ)) (is js : List (ℕ × InstrData)) → AllZip IsSameInstr (classed_pairs is) js
+pub named_instrs : (number : ℕ → ℕ) (names : List (List ℕ)) (is js : List (ℕ × InstrData)) → AllZip IsSameInstr (classed_pairs is) js
     → list_all (is_named_instr names) (map (renamed_pair number) js) ≡ list_all (is_named_instr names) is
 named_instrs number names [] [] h = refl
 named_instrs number names [] (j ∷ js) h = absurd h
@@ -131,12 +139,12 @@ numbered_refines names f g h made = record {
       (runs_renamed (number_in (order_of g)) (number_in_apart (order_of g)) 32 names g world n outcome run);
 }
 
-only_function : (f : FunctionData) (gs : List FunctionData) → AllZip IsSelected (f ∷ []) gs → (g : FunctionData) × (gs ≡ g ∷ []) × IsSelected f g
+pub only_function : (f : FunctionData) (gs : List FunctionData) → AllZip IsSelected (f ∷ []) gs → (g : FunctionData) × (gs ≡ g ∷ []) × IsSelected f g
 only_function f [] h = absurd h
 only_function f (g ∷ []) h = (g, refl, h.0)
 only_function f (g ∷ k ∷ gs) h = absurd h.1
 
-read_function : (text : List ℕ) (m : ModuleData) (h : IsStatedText text m) → IsReadFunction m.names h.f
+pub read_function : (text : List ℕ) (m : ModuleData) (h : IsStatedText text m) → IsReadFunction m.names h.f
 read_function text m h = record { instrs = h.instrs; block = h.block; stated = h.stated }
 
 pub all_selectable : (text : List ℕ) (m : ModuleData) → IsStatedText text m → AllSelectable m.functions

@@ -20,5 +20,6 @@ pub mod SelectRuns
 pub mod SelectShapes
 pub mod SelectSteps
 pub mod StandingLemmas
+pub mod TextLaws
 pub mod TextLemmas
 pub mod TopLemmas

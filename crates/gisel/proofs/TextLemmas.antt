@@ -150,7 +150,7 @@ one_text lines a b =
     )
 
 -- the lines of a stated text
-pub stated_lines_of : (text : List ℕ) (m : ModuleData) → IsStatedText text m → IsStatedLines (lines_of text)
+abbrev pub stated_lines_of : (text : List ℕ) (m : ModuleData) → IsStatedText text m → IsStatedLines (lines_of text)
 stated_lines_of text m h = record {
   gaps = h.gaps;
   closed = h.closed;

@@ -3,6 +3,7 @@
 ghost use Rattle.std.specs.Prelude.{◌≡◌, ℕ, List};
 ghost use Rattle.gi_mir.specs.Spelling.{lines_of};
 ghost use Rattle.gisel.specs.Refused.{IsStatedLines, IsRefusedAt};
+ghost use Rattle.gisel.specs.Text.{IsText};
 
 /// A text states one name, one list of physical registers and one list of instructions.
 pub fn stated_text_is_one()
@@ -13,4 +14,9 @@ pub fn stated_text_is_one()
 pub fn refused_line_is_one()
     ensures one { (text : List ℕ) (a b : ℕ) → IsRefusedAt text a → IsRefusedAt text b → a ≡ b }
     ensures none { (text : List ℕ) (line : ℕ) → IsStatedLines (lines_of text) → IsRefusedAt text line → ⊥ }
+{}
+
+/// A text is written in one way: whatever module it states, and whatever the ids are of what is selected.
+pub fn written_text_is_one()
+    ensures { (text written other : List ℕ) → IsText text written → IsText text other → written ≡ other }
 {}
