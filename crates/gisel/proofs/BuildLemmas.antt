@@ -3,8 +3,9 @@ use Rattle.std.proofs.Common.{◌≡◌, ℕ, suc, zero, ◌+◌, ◌<◌, true,
 use Rattle.std.proofs.lemmas.Bool.{and_parts}
 use Rattle.std.proofs.lemmas.List.{take_more, map-append}
 use Rattle.std.proofs.lemmas.Bool.Decides.{nat_tests}
-use Rattle.std.specs.Prelude.{nat_lt, slice_set, slice_index_or}
+use Rattle.std.specs.Prelude.{ℤ, pos, negsuc, ◌-◌, ◌%◌, ◌^◌, nat_lt, slice_set, slice_index_or}
 use Rattle.std.specs.List.{list_all, AllZip}
+use Rattle.gi_llt.specs.Bits.{unsigned}
 use Rattle.gi_mir.specs.Data.{InstrData, FunctionData}
 use Rattle.gi_mir.specs.Edit.{with_instr, block_with_instr, empty_block}
 use Rattle.gi_mir.specs.Formed.{is_formed}
@@ -17,9 +18,14 @@ use Rattle.gisel.specs.Statement.{stated_of}
 below_32 : (physical : ℕ) → is_argument physical ≡ true → nat_lt physical 32 ≡ true
 below_32 physical h = grind (arith, nat_tests)
 
+unsigned_below : (value : ℤ) → nat_lt (unsigned 32 value) (2 ^ 32) ≡ true
+unsigned_below (pos n) = let below : n % 2 ^ 32 < 2 ^ 32 = omega arith in grind (arith, nat_tests)
+unsigned_below (negsuc n) = let below : 2 ^ 32 - 1 - n % 2 ^ 32 < 2 ^ 32 = omega arith in grind (arith, nat_tests)
+
 pub stated_formed : (s : Statement) (line : ℕ) → has_arguments (stated_of s) ≡ true → is_formed (stated_instr (stated_of s) line) ≡ true
 unfolding is_formed
 stated_formed (statement.CopyIn register physical) line h = rw (below_32 physical h) refl
+stated_formed (statement.MakeConstant register value) line h = rw (unsigned_below value) refl
 stated_formed (statement.AddUp register left right) line h = refl
 stated_formed (statement.CopyOut physical register) line h = rw (below_32 physical h) refl
 stated_formed statement.Return line h = refl

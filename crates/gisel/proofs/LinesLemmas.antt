@@ -1,9 +1,9 @@
 -- The first line of a text by the place of its first line feed.
-use Rattle.std.proofs.Common.{Bor, ◌≡◌, ◌≢◌, ℕ, suc, ◌+◌, ◌-◌, Bool, true, false, cond, List, [], ◌∷◌, ◌++◌, Option, Some, None, length, take, drop, refl, sym, ap, ◌∙◌, subst, arith, add-one}
+use Rattle.std.proofs.Common.{◌≡◌, ℕ, suc, ◌+◌, ◌-◌, Bool, true, false, cond, List, [], ◌∷◌, ◌++◌, Some, None, length, take, drop, refl, sym, ap, ◌∙◌, subst, arith, add-one}
 use Rattle.std.proofs.lemmas.List.{take_rest, append_assoc, replicate-append-replicate}
 use Rattle.std.proofs.lemmas.Iterator.Adapters.{position_from-zero}
 use Rattle.std.proofs.Math.Seq.{drop-length}
-use Rattle.std.specs.Prelude.{◌==◌, replicate, MatchOption, IfSome}
+use Rattle.std.specs.Prelude.{◌==◌, replicate}
 use Rattle.std.specs.List.{position_from, position}
 use Rattle.gi_mir.specs.Spelling.{lines_of, onto_first}
 use Rattle.gisel.specs.Lines.{IsBehindSpaces}
@@ -54,8 +54,3 @@ past_one bytes rest more behind next = record {
   count = behind.count + 1;
   split = behind.split ∙ ap (λ t. replicate behind.count 32 ++ t) next ∙ sym (append_assoc (replicate behind.count 32) (32 ∷ []) more) ∙ ap (λ t. t ++ more) (replicate-append-replicate behind.count 1 32);
 }
-
--- what is stripped stood at the front
-pub after_some : (bytes word : List ℕ) (r : Option (Bor (List ℕ))) → MatchOption r ((rest : List ℕ) → bytes ≢ word ++ rest) (λ x. bytes ≡ word ++ x.now) → IfSome r (λ rest. bytes ≡ word ++ rest.now)
-after_some bytes word None h = tt
-after_some bytes word (Some rest) h = h

@@ -1,11 +1,12 @@
 //! The lines of the instructions, and what may follow them.
 
-ghost use Rattle.std.specs.Prelude.{◌≡◌, ℕ, ◌+◌, ◌<◌, ◌≤◌, ◌^◌, Bool, true, false, List, ◌∷◌, ◌++◌, length, map, IfOk, OnOk};
+ghost use Rattle.std.specs.Prelude.{◌≡◌, ℕ, ◌+◌, ◌<◌, ◌≤◌, ◌^◌, Bool, true, false, List, [], ◌∷◌, ◌++◌, length, map, IfOk, IfErr, OnOk};
 ghost use Rattle.gi_mir.specs.Spelling.{lines_of};
-ghost use Rattle.gi_mir.specs.Stated.{is_stated_after, is_return};
-ghost use Rattle.gisel.specs.Body.{IsBody, IsEnd};
+ghost use Rattle.gi_mir.specs.Stated.{is_stated_after, is_return, stated_line};
+ghost use Rattle.gisel.specs.Body.{IsBody, IsBodyFrom, IsEnd, AllSmall};
+ghost use Rattle.gisel.specs.Next.{IsWrongNext, IsInstrLine};
+ghost use Rattle.gisel.specs.Refused.{IsRefusedFrom, AtLine};
 ghost use Rattle.gisel.specs.Standing.{IsStanding};
-ghost use Rattle.gi_mir.specs.Stated.{stated_line};
 ghost use Rattle.gisel.specs.Statement.{stated_of};
 
 use crate::header::line_taken;
@@ -19,21 +20,18 @@ use std::alloc::Global;
 /// Nothing may be left of a text, or the line `...` alone.
 fn end(text: &[u8], place: u32) -> Result<(), Refusal>
     requires { place + length text.now < 2 ^ 32 }
-    ensures { OnOk result (IsEnd text.now) }
+    ensures ended { OnOk result (IsEnd (lines_of text.now)) }
+    ensures refused { IfErr result (λ e. AtLine e (IsRefusedFrom IsEnd place (lines_of text.now))) }
 {
-    match next_line(text) {
+    let Some((line, rest)) = next_line(text) else {
+        return Ok(());
+    };
+    if line != b"...".as_slice() {
+        return Err(Refusal::NotBuilt { line: place });
+    }
+    match next_line(rest) {
         None => Ok(()),
-        Some((line, rest)) => {
-            if line == b"...".as_slice() {
-                if rest.is_empty() {
-                    Ok(())
-                } else {
-                    Err(Refusal::NotBuilt { line: place + 1 })
-                }
-            } else {
-                Err(Refusal::NotBuilt { line: place })
-            }
-        }
+        Some(_) => Err(Refusal::NotBuilt { line: place + 1 }),
     }
 }
 
@@ -48,6 +46,10 @@ fn next_statement<'a>(
         → IsStanding standing.now defined live
         → is_stated_after defined live (stated_of p.0) ≡ true) }
     ensures shorter { IfOk result (λ p. length p.1.now < length text.now) }
+    ensures refused { IfErr result (λ e. AtLine e (λ line. (defined live : List ℕ)
+        → IsStanding standing.now defined live
+        → AllSmall defined
+        → IsWrongNext (IsInstrLine defined live) place (lines_of text.now) line)) }
 {
     let (line, rest) = line_taken(text, place)?;
     let Some(statement) = statement_of(line) else {
@@ -77,6 +79,7 @@ pub fn body(
     requires { first + length text.now < 2 ^ 32 }
     ensures body { IfOk result (λ statements. IsBody text.now liveins.now (map stated_of statements.items)) }
     ensures fits { IfOk result (λ statements. first + length statements.items < 2 ^ 32) }
+    ensures refused { IfErr result (λ e. AtLine e (IsRefusedFrom (IsBodyFrom [] liveins.now) first (lines_of text.now))) }
 {
     let mut standing = Standing::new(alloc, liveins)?;
     let mut statements = Vec::new(alloc);

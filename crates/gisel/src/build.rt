@@ -1,10 +1,12 @@
 //! Building a module from what was read.
 
-ghost use Rattle.std.specs.Prelude.{◌≡◌, ℕ, ◌+◌, ◌<◌, ◌^◌, true, None, List, [], ◌∷◌, ◌++◌, length, map, IfOk, OnOk};
+ghost use Rattle.std.specs.Prelude.{◌≡◌, ℕ, ◌+◌, ◌<◌, ◌^◌, true, None, List, [], ◌∷◌, ◌++◌, length, map, IfOk, IfErr, OnOk};
 ghost use Rattle.std.specs.List.{list_all};
+ghost use Rattle.gi_llt.specs.Bits.{unsigned};
 ghost use Rattle.gi_mir.specs.Formed.{is_formed};
 ghost use Rattle.gi_mir.specs.Stated.{StatedInstr, stated_instr, no_flags};
 ghost use Rattle.gisel.specs.Built.{IsBuilt, IsModule, has_arguments};
+ghost use Rattle.gisel.specs.Refused.{AtLine};
 ghost use Rattle.gisel.specs.Statement.{stated_of};
 
 use crate::refusal::{Refusal, append};
@@ -34,7 +36,8 @@ const KIND: Kind = Kind::Banked(Llt::Scalar(32));
 
 /// An instruction without flags and memory operand.
 fn plain(alloc: Global, op: Opcode, operands: &[Operand], line: u32) -> Result<Instr, Refusal>
-    ensures { IfOk result (λ instr. instr ≡ record { op = op; flags = no_flags; operands = operands.now; mem = None; line = line }) }
+    ensures plain { IfOk result (λ instr. instr ≡ record { op = op; flags = no_flags; operands = operands.now; mem = None; line = line }) }
+    ensures memory { IfErr result (λ e. AtLine e (λ line. ⊥)) }
 {
     let Ok(operands) = SmallVec::from_slice(alloc, operands) else {
         return Err(Refusal::Memory);
@@ -48,15 +51,32 @@ fn plain(alloc: Global, op: Opcode, operands: &[Operand], line: u32) -> Result<I
     })
 }
 
+/// The 32 bits of a number.
+fn bits_of(value: i16) -> u128
+    ensures { result ≡ unsigned 32 value }
+{
+    u128::from(i32::from(value).cast_unsigned())
+}
+
 /// The instruction of a statement.
 fn instr_of(alloc: Global, statement: Statement, line: u32) -> Result<Instr, Refusal>
-    ensures { IfOk result (λ instr. instr ≡ stated_instr (stated_of statement) line) }
+    ensures stated { IfOk result (λ instr. instr ≡ stated_instr (stated_of statement) line) }
+    ensures memory { IfErr result (λ e. AtLine e (λ line. ⊥)) }
 {
     match statement {
         Statement::CopyIn { register, physical } => plain(
             alloc,
             Opcode::Copy,
             &[Operand::Def(Reg(register), KIND), Operand::Phys(physical)],
+            line,
+        ),
+        Statement::MakeConstant { register, value } => plain(
+            alloc,
+            Opcode::GenericConstant,
+            &[
+                Operand::Def(Reg(register), KIND),
+                Operand::Constant(32, bits_of(value)),
+            ],
             line,
         ),
         Statement::AddUp {
@@ -90,7 +110,8 @@ fn instr_of(alloc: Global, statement: Statement, line: u32) -> Result<Instr, Ref
 
 /// A function with one block that has no instruction yet.
 fn empty_function(alloc: Global, name: u32, liveins: Vec<u8>) -> Result<Function, Refusal>
-    ensures { IfOk result (λ f. IsBuilt name liveins.items [] f) }
+    ensures built { IfOk result (λ f. IsBuilt name liveins.items [] f) }
+    ensures memory { IfErr result (λ e. AtLine e (λ line. ⊥)) }
 {
     let mut f = Function::new(alloc, name);
     f.set_keys(true, true, false);
@@ -108,9 +129,10 @@ fn empty_function(alloc: Global, name: u32, liveins: Vec<u8>) -> Result<Function
 fn add(alloc: Global, f: &mut Function, statement: Statement, line: u32) -> Result<(), Refusal>
     requires one_block { length f.old.blocks ≡ 1 }
     requires arguments { has_arguments (stated_of statement) ≡ true }
-    ensures { OnOk result ((name : ℕ) (liveins : List ℕ) (instrs : List StatedInstr)
+    ensures built { OnOk result ((name : ℕ) (liveins : List ℕ) (instrs : List StatedInstr)
         → IsBuilt name liveins instrs f.old
         → IsBuilt name liveins (instrs ++ stated_of statement ∷ []) f.new) }
+    ensures memory { IfErr result (λ e. AtLine e (λ line. ⊥)) }
 {
     let instr = instr_of(alloc, statement, line)?;
     match f.insert_before(0, None, instr) {
@@ -129,7 +151,8 @@ fn function(
 ) -> Result<Function, Refusal>
     requires fits { first + length statements.now < 2 ^ 32 }
     requires arguments { list_all has_arguments (map stated_of statements.now) ≡ true }
-    ensures { IfOk result (λ f. IsBuilt name liveins.items (map stated_of statements.now) f) }
+    ensures built { IfOk result (λ f. IsBuilt name liveins.items (map stated_of statements.now) f) }
+    ensures memory { IfErr result (λ e. AtLine e (λ line. ⊥)) }
 {
     let mut f = empty_function(alloc, name, liveins)?;
     for (place, statement) in statements.iter().enumerate() {
@@ -148,7 +171,8 @@ pub fn module(
 ) -> Result<Module, Refusal>
     requires fits { first + length statements.now < 2 ^ 32 }
     requires arguments { list_all has_arguments (map stated_of statements.now) ≡ true }
-    ensures { IfOk result (λ m. IsModule name.now liveins.items (map stated_of statements.now) m) }
+    ensures built { IfOk result (λ m. IsModule name.now liveins.items (map stated_of statements.now) m) }
+    ensures memory { IfErr result (λ e. AtLine e (λ line. ⊥)) }
 {
     let mut names = Names::new(alloc);
     let Ok(number) = names.number(name) else {

@@ -1,8 +1,9 @@
 //! The lines of a text, and what stands at the front of a line.
 
-ghost use Rattle.std.specs.Prelude.{◌≡◌, ◌==◌, ◌<◌, ◌≤◌, [], ◌∷◌, ◌++◌, length, position, decimal, IfSome, MatchOption};
+ghost use Rattle.std.specs.Prelude.{◌≡◌, ◌==◌, ◌+◌, ◌-◌, ◌*◌, ◌^◌, ◌<◌, ◌≤◌, ℕ, false, List, [], ◌∷◌, ◌++◌, length, position, decimal, IfSome, MatchOption};
 ghost use Rattle.gi_mir.specs.Spelling.{lines_of};
-ghost use Rattle.gisel.specs.Lines.{IsBehindSpaces};
+ghost use Rattle.gisel.specs.Digits.{begins_with_digit, value_onto, held, IsNumberAfter};
+ghost use Rattle.gisel.specs.Lines.{IsBehindSpaces, begins_with_space};
 
 use itoa::Buffer;
 
@@ -28,14 +29,15 @@ pub fn next_line(text: &[u8]) -> Option<(&[u8], &[u8])>
 
 /// What follows a word at the front.
 pub fn after<'a>(bytes: &'a [u8], word: &[u8]) -> Option<&'a [u8]>
-    ensures { IfSome result (λ rest. bytes.now ≡ word.now ++ rest.now) }
+    ensures { MatchOption result ((rest : List ℕ) → bytes.now ≡ word.now ++ rest → ⊥) (λ rest. bytes.now ≡ word.now ++ rest.now) }
 {
     bytes.strip_prefix(word)
 }
 
 /// What follows the spaces at the front.
 pub fn past_spaces(bytes: &[u8]) -> &[u8]
-    ensures { IsBehindSpaces bytes.now result.now }
+    ensures behind { IsBehindSpaces bytes.now result.now }
+    ensures apart { begins_with_space result.now ≡ false }
 {
     let mut rest = bytes;
     while let Some(more) = after(rest, b" ") {
@@ -44,24 +46,51 @@ pub fn past_spaces(bytes: &[u8]) -> &[u8]
     rest
 }
 
-/// The value of the digits at the front, unless it is too great.
-fn value_of(bytes: &[u8]) -> Option<u32> {
+/// The value with one digit more, unless 32 bits don't hold it.
+fn extended(value: u32, digit: u8) -> Option<u32>
+    requires { 48 ≤ digit }
+    ensures { result ≡ held (value * 10 + (digit - 48)) }
+{
+    value.checked_mul(10)?.checked_add(u32::from(digit - b'0'))
+}
+
+/// The value of the digits at the front, unless 32 bits don't hold it.
+fn value_of(bytes: &[u8]) -> Option<u32>
+    ensures { result ≡ held (value_onto 0 bytes.now) }
+{
     let mut value: u32 = 0;
     for byte in bytes {
         if !byte.is_ascii_digit() {
             return Some(value);
         }
-        value = value.checked_mul(10)?.checked_add(u32::from(*byte - b'0'))?;
+        value = extended(value, *byte)?;
     }
     Some(value)
 }
 
-/// The number at the front, written without needless zeros, and what follows it.
-pub fn number(bytes: &[u8]) -> Option<(u32, &[u8])>
-    ensures { IfSome result (λ p. bytes.now ≡ decimal p.0 ++ p.1.now) }
+/// Whether a digit stands at the front.
+fn begins_with_digit(bytes: &[u8]) -> bool
+    ensures { result ≡ begins_with_digit bytes.now }
 {
-    let value = value_of(bytes)?;
+    match bytes {
+        [] => false,
+        [first, ..] => first.is_ascii_digit(),
+    }
+}
+
+/// The number of 32 bits behind a word, written without needless zeros, and what follows it.
+pub fn number_after<'a>(bytes: &'a [u8], word: &[u8]) -> Option<(u32, &'a [u8])>
+    ensures number { MatchOption result ((number : ℕ) (rest : List ℕ) → number < 2 ^ 32 → IsNumberAfter bytes.now word.now number rest → ⊥)
+        (λ p. IsNumberAfter bytes.now word.now p.0 p.1.now) }
+    ensures small { IfSome result (λ p. p.0 < 2 ^ 32) }
+{
+    let digits = after(bytes, word)?;
+    let value = value_of(digits)?;
     let mut buffer = Buffer::new();
-    let rest = after(bytes, buffer.format(value).as_bytes())?;
-    Some((value, rest))
+    let rest = after(digits, buffer.format(value).as_bytes())?;
+    if begins_with_digit(rest) {
+        None
+    } else {
+        Some((value, rest))
+    }
 }

@@ -6,8 +6,10 @@ mod build;
 mod compile;
 mod example;
 mod header;
+mod laws;
 mod line;
 mod lines;
+mod normal_form;
 mod read;
 mod refusal;
 mod select;
@@ -15,10 +17,10 @@ mod standing;
 mod statement;
 mod stop;
 mod top;
-mod unused;
 mod words;
 
 use gi_io::{StdInput, StdOutput};
+pub use laws::{refused_line_is_one, stated_text_is_one};
 use std::process::ExitCode;
 use std::{env, io};
 pub use top::gisel;
@@ -41,3 +43,6 @@ fn main(rt: HostRuntime) -> ExitCode {
     let mut err = StdOutput::new(&rt, rt.stderr());
     ExitCode::from(gisel(rt.alloc(), words.as_slice(), &mut input, &mut out, &mut err))
 }
+
+#[cfg(test)]
+mod tests;

@@ -1,13 +1,13 @@
 //! Reading a text.
 
-ghost use Rattle.std.specs.Prelude.{◌-◌, ◌^◌, ◌<◌, length, IfOk};
+ghost use Rattle.std.specs.Prelude.{◌-◌, ◌^◌, ◌<◌, length, IfOk, IfErr};
 ghost use Rattle.gisel.specs.Reading.{IsRead};
+ghost use Rattle.gisel.specs.Refused.{IsRefusedAt, AtLine};
 
 use crate::body::body;
 use crate::build::module;
 use crate::header::{fixed_line, head, line_taken, liveins_of};
 use crate::refusal::Refusal;
-use crate::unused::first_unused_sum;
 use gi_mir::module::Module;
 use std::alloc::Global;
 
@@ -17,10 +17,11 @@ const FIRST: u32 = 9;
 /// The module of a text.
 ///
 /// The line that is not built is the first that breaks a rule of the text; the last line where the text ends
-/// too early, and 1 where it is empty. Of a text that breaks none it is the first sum that nothing uses.
+/// too early, and 1 where it is empty.
 pub fn read(alloc: Global, bytes: &[u8]) -> Result<Module, Refusal>
     requires { length bytes.now < 2 ^ 32 - 1 }
-    ensures { IfOk result (λ m. IsRead bytes.now m) }
+    ensures taken { IfOk result (λ m. IsRead bytes.now m) }
+    ensures refused { IfErr result (λ e. AtLine e (IsRefusedAt bytes.now)) }
 {
     let (name, rest) = head(bytes)?;
     let rest = fixed_line(rest, 6, b"  bb.0:")?;
@@ -28,12 +29,7 @@ pub fn read(alloc: Global, bytes: &[u8]) -> Result<Module, Refusal>
     let liveins = liveins_of(alloc, line, 7)?;
     let rest = fixed_line(rest, 8, b"")?;
     let statements = body(alloc, rest, FIRST, liveins.as_slice())?;
-    match first_unused_sum(alloc, statements.as_slice())? {
-        Some(place) => Err(Refusal::NotBuilt {
-            line: FIRST + place,
-        }),
-        None => module(alloc, name, liveins, statements.as_slice(), FIRST),
-    }
+    module(alloc, name, liveins, statements.as_slice(), FIRST)
 }
 
 #[cfg(test)]
@@ -104,6 +100,31 @@ mod tests {
         assert_eq!(rt; refused(alloc, head), 7);
     }
 
+    // The line that is refused of a text that returns this constant, and 0 where none is.
+    fn refused_constant(alloc: Global, value: &str) -> Result<u32, Fail> {
+        let mut instructions = String::from_str(alloc, "    %0:gprb(s32) = G_CONSTANT i32 ")?;
+        instructions.push_str(value)?;
+        instructions.push_str("\n    $x10 = COPY %0(s32)\n    PseudoRET implicit $x10\n")?;
+        refused_body(alloc, instructions.as_str())
+    }
+
+    #[test]
+    fn takes_constants_of_twelve_bits(rt: HostRuntime) -> Result<(), Fail> {
+        let alloc = rt.alloc();
+        assert_eq!(rt; refused_constant(alloc, "-2049")?, 9);
+        assert_eq!(rt; refused_constant(alloc, "-2048")?, 0);
+        assert_eq!(rt; refused_constant(alloc, "-1")?, 0);
+        assert_eq!(rt; refused_constant(alloc, "-0")?, 9);
+        assert_eq!(rt; refused_constant(alloc, "0")?, 0);
+        assert_eq!(rt; refused_constant(alloc, "00")?, 9);
+        assert_eq!(rt; refused_constant(alloc, "+1")?, 9);
+        assert_eq!(rt; refused_constant(alloc, "2047")?, 0);
+        assert_eq!(rt; refused_constant(alloc, "2048")?, 9);
+        assert_eq!(rt; refused_constant(alloc, "4294967296")?, 9);
+        assert_eq!(rt; refused_constant(alloc, "")?, 9);
+        Ok(())
+    }
+
     #[test]
     fn names_the_line_of_an_instruction(rt: HostRuntime) -> Result<(), Fail> {
         let alloc = rt.alloc();
@@ -113,7 +134,7 @@ mod tests {
             9
         );
         assert_eq!(rt;
-            refused_body(alloc, "    %0:gprb(s32) = G_CONSTANT i32 5\n")?,
+            refused_body(alloc, "    %0:gprb(s32) = G_CONSTANT i64 5\n")?,
             9
         );
         assert_eq!(rt; refused_body(alloc, "    %00:gprb(s32) = COPY $x10\n")?, 9);
@@ -150,7 +171,7 @@ mod tests {
                 alloc,
                 "    %0:gprb(s32) = COPY $x10\n    %1:gprb(s32) = G_ADD %0, %0\n    PseudoRET implicit $x10\n"
             )?,
-            10
+            0
         );
         Ok(())
     }

@@ -1,9 +1,11 @@
 //! What has been defined before a line.
 
-ghost use Rattle.std.specs.Prelude.{◌≡◌, ℕ, ◌==◌, ◌||◌, List, [], false, IfOk, OnOk};
+ghost use Rattle.std.specs.Prelude.{◌≡◌, ℕ, ◌==◌, ◌||◌, List, [], false, IfOk, IfErr, OnOk};
 ghost use Rattle.std.specs.HashSet.{contains};
 ghost use Rattle.std.specs.Prelude.{nat_eq};
-ghost use Rattle.gi_mir.specs.Stated.{is_stated_after, defined_after, live_after, is_argument};
+ghost use Rattle.gi_llt.specs.Bits.{unsigned};
+ghost use Rattle.gi_mir.specs.Stated.{is_stated_after, defined_after, live_after, is_argument, is_short};
+ghost use Rattle.gisel.specs.Refused.{AtLine};
 ghost use Rattle.gisel.specs.Statement.{stated_of};
 ghost use Rattle.gisel.specs.Standing.{IsStanding, is_new_where};
 
@@ -33,7 +35,8 @@ impl Model for Standing {
 
 /// Adds a virtual register.
 fn add_defined(set: &mut HashSet<u32>, number: u32) -> Result<(), Refusal>
-    ensures { OnOk result ((q : ℕ) → contains nat_eq set.new q ≡ ((number == q) || contains nat_eq set.old q)) }
+    ensures added { OnOk result ((q : ℕ) → contains nat_eq set.new q ≡ ((number == q) || contains nat_eq set.old q)) }
+    ensures memory { IfErr result (λ e. AtLine e (λ line. ⊥)) }
 {
     match set.insert(number) {
         Ok(_) => Ok(()),
@@ -43,7 +46,8 @@ fn add_defined(set: &mut HashSet<u32>, number: u32) -> Result<(), Refusal>
 
 /// Adds a physical register.
 fn add_live(set: &mut HashSet<u8>, number: u8) -> Result<(), Refusal>
-    ensures { OnOk result ((q : ℕ) → contains nat_eq set.new q ≡ ((number == q) || contains nat_eq set.old q)) }
+    ensures added { OnOk result ((q : ℕ) → contains nat_eq set.new q ≡ ((number == q) || contains nat_eq set.old q)) }
+    ensures memory { IfErr result (λ e. AtLine e (λ line. ⊥)) }
 {
     match set.insert(number) {
         Ok(_) => Ok(()),
@@ -52,16 +56,24 @@ fn add_live(set: &mut HashSet<u8>, number: u8) -> Result<(), Refusal>
 }
 
 /// From `$x10` to `$x17`.
-fn is_argument(physical: u8) -> bool
+pub fn is_argument(physical: u8) -> bool
     ensures { result ≡ is_argument physical }
 {
     10 <= physical && physical <= 17
 }
 
+/// From -2048 to 2047.
+fn is_short(value: i16) -> bool
+    ensures { result ≡ is_short (unsigned 32 value) }
+{
+    -2048 <= value && value <= 2047
+}
+
 impl Standing {
     /// What stands before the first instruction of a block with these physical registers live.
     pub fn new(alloc: Global, liveins: &[u8]) -> Result<Standing, Refusal>
-        ensures { IfOk result (λ s. IsStanding s [] liveins.now) }
+        ensures stands { IfOk result (λ s. IsStanding s [] liveins.now) }
+        ensures memory { IfErr result (λ e. AtLine e (λ line. ⊥)) }
     {
         let mut live = HashSet::new(alloc);
         for physical in liveins {
@@ -88,6 +100,7 @@ impl Standing {
             Statement::CopyIn { register, physical } => {
                 self.is_new(register) && is_argument(physical) && self.live.contains(&physical)
             }
+            Statement::MakeConstant { register, value } => self.is_new(register) && is_short(value),
             Statement::AddUp {
                 register,
                 left,
@@ -106,11 +119,13 @@ impl Standing {
 
     /// Goes past an instruction.
     pub fn pass(&mut self, statement: Statement) -> Result<(), Refusal>
-        ensures { OnOk result ((defined live : List ℕ) → IsStanding self.old defined live
+        ensures passed { OnOk result ((defined live : List ℕ) → IsStanding self.old defined live
             → IsStanding self.new (defined_after defined (stated_of statement)) (live_after live (stated_of statement))) }
+        ensures memory { IfErr result (λ e. AtLine e (λ line. ⊥)) }
     {
         match statement {
             Statement::CopyIn { register, .. } => add_defined(&mut self.defined, register),
+            Statement::MakeConstant { register, .. } => add_defined(&mut self.defined, register),
             Statement::AddUp { register, .. } => add_defined(&mut self.defined, register),
             Statement::CopyOut { physical, .. } => add_live(&mut self.live, physical),
             Statement::Return => Ok(()),

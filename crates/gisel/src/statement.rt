@@ -9,6 +9,11 @@ pub enum Statement {
         register: u32,
         physical: u8,
     },
+    /// `%register:gprb(s32) = G_CONSTANT i32 value`
+    MakeConstant {
+        register: u32,
+        value: i16,
+    },
     /// `%register:gprb(s32) = G_ADD %left, %right`
     AddUp {
         register: u32,

@@ -1,6 +1,6 @@
 use Rattle.std.proofs.Common.{◌≡◌, ◌+◌, ◌<◌, ◌^◌, map, length}
-use Rattle.gisel.specs.Body.{IsReadTo}
 use Rattle.gisel.specs.Statement.{stated_of}
+use Rattle.gisel.proofs.BodyLemmas.{IsReadTo}
 use Rattle.gisel.proofs.body.body.Given as goal
 
 abbrev pub invariant-loop-statements : goal.invariant-loop-statements

@@ -10,4 +10,4 @@ add-requires-clause-arguments c =
 pub loop-place-preserved : goal.loop-place-preserved
 loop-place-preserved c =
     let within : c.loop-place.place < length c.args.statements.now = omega arith in
-    one_built c.args.name c.args.liveins.items c.args.statements.now c.loop-place.place _ _ within (c.in_ok-add.ensures _ _ _ c.loop-place.invariant)
+    one_built c.args.name c.args.liveins.items c.args.statements.now c.loop-place.place _ _ within (c.in_ok-add.ensures.built _ _ _ c.loop-place.invariant)

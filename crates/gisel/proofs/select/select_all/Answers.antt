@@ -2,7 +2,7 @@ use Rattle.std.proofs.Common.{◌+◌, ℕ, List, take, subst, sym, add-one}
 use Rattle.std.specs.List.{AllZip}
 use Rattle.gi_mir.specs.Data.{FunctionData}
 use Rattle.gisel.specs.Selection.{IsSelected}
-use Rattle.gisel.proofs.SelectFront.{selectable_at, functions_more}
+use Rattle.gisel.proofs.SelectLoops.{selectable_at, functions_more}
 use Rattle.gisel.proofs.select.select_all.Goals as goal
 
 pub select-requires : goal.select-requires

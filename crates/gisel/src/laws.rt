@@ -1,0 +1,22 @@
+//! What holds of the texts that are taken and of those that are refused.
+
+ghost use Rattle.std.specs.Prelude.{◌≡◌, ℕ, List};
+ghost use Rattle.gi_mir.specs.Spelling.{lines_of};
+ghost use Rattle.gisel.specs.Refused.{IsStatedLines, IsRefusedAt};
+ghost use Rattle.gisel.specs.Text.{IsText};
+
+/// A text states one name, one list of physical registers and one list of instructions.
+pub fn stated_text_is_one()
+    ensures { (lines : List (List ℕ)) (a b : IsStatedLines lines) → (a.name ≡ b.name) × (a.liveins ≡ b.liveins) × (a.instrs ≡ b.instrs) }
+{}
+
+/// A text is refused at one line at most, and at none where its lines are those of a text that is taken.
+pub fn refused_line_is_one()
+    ensures one { (text : List ℕ) (a b : ℕ) → IsRefusedAt text a → IsRefusedAt text b → a ≡ b }
+    ensures none { (text : List ℕ) (line : ℕ) → IsStatedLines (lines_of text) → IsRefusedAt text line → ⊥ }
+{}
+
+/// A text is written in one way: whatever module it states, and whatever the ids are of what is selected.
+pub fn written_text_is_one()
+    ensures { (text written other : List ℕ) → IsText text written → IsText text other → written ≡ other }
+{}
