@@ -7,5 +7,7 @@ pub mod Keeping
 pub mod OnePlaceFollows
 pub mod Reaching
 pub mod Refining
+pub mod RewritingFollows
 pub mod Simulating
 pub mod Staying
+pub mod Targets

@@ -6,4 +6,5 @@ pub mod Outcomes
 pub mod Reached
 pub mod Refinement
 pub mod Replacing
+pub mod Rewriting
 pub mod Simulation
