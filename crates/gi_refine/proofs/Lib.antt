@@ -9,5 +9,6 @@ pub mod Reaching
 pub mod Refining
 pub mod RewritingFollows
 pub mod Simulating
+pub mod Sized
 pub mod Staying
 pub mod Targets

@@ -8,3 +8,4 @@ pub mod Refinement
 pub mod Replacing
 pub mod Rewriting
 pub mod Simulation
+pub mod Worded
