@@ -12,3 +12,4 @@ pub mod Simulating
 pub mod Sized
 pub mod Staying
 pub mod Targets
+pub mod Wording

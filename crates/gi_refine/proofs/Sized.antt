@@ -22,6 +22,7 @@ use Rattle.gi_meaning.specs.Routine.{first_routine, InTwoWords}
 use Rattle.gi_meaning.specs.Act.{Answer, Results, Leaves, Returns, Asks, Breaks, Answers, AnswersWords, all_fitted, copied, copy, extended, from_loaded, load, machine_load, StoresThere, Stores, MachineStores, jump, machine_branch, LeavesFree, CallsGlobal, Calls, Act, AllReadAs, are_routine_registers, result_registers, passed, words_of}
 use Rattle.gi_meaning.specs.Runs.{argument_of, arguments_of, joined_lists, written_places, width_of_place, put_all, Progress, On, Left, Over, going_on, progress_of, StepsFrom}
 use Rattle.gi_refine.specs.Agreement.{setting}
+use Rattle.gi_refine.proofs.Targets.{or_breaks}
 use Rattle.gi_refine.specs.Worded.{is_implicit_definition, may_have_words, is_worded, IsSized}
 use Rattle.gi_meaning.specs.State.{Event, World, IsWorld, State, Outside, outside_of, Place, Virtual, Physical, word_in, put, AreWords, AreBytes, AreEvents}
 use Rattle.gi_meaning.specs.Words.{word_of}
@@ -265,7 +266,7 @@ word_if_both x true true g h = h refl
 word_if_both x true false g h = no_word x
 word_if_both x false b g h = no_word x
 
-machine_load_small : (x : ℕ) (exists : ℕ → Bool) (bytes : ℕ) (extension : Extension) (arguments : List Argument) (memory : Memory) → (exists x ≡ true → 8 * bytes ≤ x) → AreBytes memory
+pub machine_load_small : (x : ℕ) (exists : ℕ → Bool) (bytes : ℕ) (extension : Extension) (arguments : List Argument) (memory : Memory) → (exists x ≡ true → 8 * bytes ≤ x) → AreBytes memory
     → GivesWords x (machine_load x exists bytes extension arguments memory)
 machine_load_small x exists bytes extension (Value l base ∷ Number offset ∷ []) memory within are_bytes =
     word_if_both x (exists x) (is_immediate offset) _ (λ there. load_small x bytes _ extension memory (within there) are_bytes)
@@ -285,18 +286,14 @@ stores_there_sized : (x bytes address value : ℕ) (old : Option ℕ) (outside :
 stores_there_sized x bytes address value None outside a are_bytes h = subst (IsAnswerSized x) (sym h) tt
 stores_there_sized x bytes address value (Some old) outside a are_bytes h = subst (IsAnswerSized x) (sym h) (tt, stored_bytes x bytes outside.memory address value are_bytes)
 
-or_breaks_sized : (x : ℕ) (b : Bool) (T : Type 0) (a : Answer) → (T → IsAnswerSized x a) → cond b T (a ≡ Breaks) → IsAnswerSized x a
-or_breaks_sized x true T a f h = f h
-or_breaks_sized x false T a f h = subst (IsAnswerSized x) (sym h) tt
-
 stores_sized : (x align bytes address value : ℕ) (outside : Outside) (a : Answer) → AreBytes outside.memory → Stores x align bytes address value outside a → IsAnswerSized x a
 stores_sized x align bytes address value outside a are_bytes h =
-    or_breaks_sized x (is_aligned align address) (StoresThere (loaded x bytes outside.memory address) x bytes address value outside a) a
+    or_breaks (IsAnswerSized x) tt (is_aligned align address) (StoresThere (loaded x bytes outside.memory address) x bytes address value outside a) a
     (stores_there_sized x bytes address value (loaded x bytes outside.memory address) outside a are_bytes) h
 
 machine_stores_sized : (x : ℕ) (exists : ℕ → Bool) (bytes : ℕ) (arguments : List Argument) (outside : Outside) (a : Answer) → AreBytes outside.memory → MachineStores x exists bytes arguments outside a → IsAnswerSized x a
 machine_stores_sized x exists bytes (Value n value ∷ Value l base ∷ Number offset ∷ []) outside a are_bytes h =
-    or_breaks_sized x (exists x && is_immediate offset) (Stores x bytes bytes _ value outside a) a (stores_sized x bytes bytes _ value outside a are_bytes) h
+    or_breaks (IsAnswerSized x) tt (exists x && is_immediate offset) (Stores x bytes bytes _ value outside a) a (stores_sized x bytes bytes _ value outside a are_bytes) h
 machine_stores_sized x exists bytes _ outside a are_bytes h = subst (IsAnswerSized x) (sym h) tt
 
 -- ══ Branches and calls ══
@@ -345,7 +342,7 @@ calls_sized : (x : ℕ) (w : World) → IsWorld x w → (arguments : List Argume
 calls_sized x w is_world (Symbol Call callee address ∷ rest) outside a are_bytes h =
     calls_global_sized x w is_world callee (words_of (passed rest)) (length (result_registers rest)) outside a h
 calls_sized x w is_world (Called Call routine ∷ rest) outside a are_bytes h =
-    or_breaks_sized x (are_routine_registers (passed rest) (result_registers rest) && nat_le (first_routine x) routine && nat_lt routine (first_routine x + 5)) _ a
+    or_breaks (IsAnswerSized x) tt (are_routine_registers (passed rest) (result_registers rest) && nat_le (first_routine x) routine && nat_lt routine (first_routine x + 5)) _ a
     (λ answered. leaves_free_sized x answered.0 outside a (two_words_small x _ answered.0 answered.1) are_bytes answered.2) h
 calls_sized x w is_world (Symbol Plain callee address ∷ rest) outside a are_bytes h = subst (IsAnswerSized x) (sym h) tt
 calls_sized x w is_world (Symbol Hi callee address ∷ rest) outside a are_bytes h = subst (IsAnswerSized x) (sym h) tt
@@ -390,7 +387,7 @@ word_read_small : (x width value : ℕ) (b : Bool) (word : Argument) (rest : Lis
 word_read_small x width value true word rest small more h = subst (λ u. AreSmall x (u ∷ rest)) (sym h.3) (h.1, more)
 word_read_small x width value false word rest small more h = subst (λ u. AreSmall x (u ∷ rest)) (sym h) (small, more)
 
-reads_small : (x : ℕ) (arguments words : List Argument) → AreSmall x arguments → AllReadAs x arguments words → AreSmall x words
+pub reads_small : (x : ℕ) (arguments words : List Argument) → AreSmall x arguments → AllReadAs x arguments words → AreSmall x words
 reads_small x [] words small reads = subst (AreSmall x) (sym reads) tt
 reads_small x (Value width value ∷ arguments) words small reads =
     subst (AreSmall x) (sym reads.4) (word_read_small x width value (nat_lt width x) reads.0 reads.1 small.0 (reads_small x arguments reads.1 small.1 reads.3) reads.2)
@@ -460,7 +457,7 @@ going_sized : (x : ℕ) (state : Option State) → IsOptionSized x state → IsP
 going_sized x None h = tt
 going_sized x (Some state) h = h
 
-progress_sized : (x : ℕ) (state : State) (ps : List Place) (a : Answer) → IsAnswerSized x a → IsSized x state → IsProgressSized x (progress_of state ps a)
+pub progress_sized : (x : ℕ) (state : State) (ps : List Place) (a : Answer) → IsAnswerSized x a → IsSized x state → IsProgressSized x (progress_of state ps a)
 progress_sized x state ps (Results results outside) h sized =
     going_sized x (put_all (record state { memory = outside.memory; taken = outside.taken }) ps results)
     (put_all_sized x (record state { memory = outside.memory; taken = outside.taken }) ps results h.0 (record { values = sized.values; words = sized.words; memory = h.1 }))

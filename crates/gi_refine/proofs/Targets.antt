@@ -111,33 +111,37 @@ words_in P x widths Undefined outside a h = subst (LeavesIn P) (sym h) tt
 words_in P x widths (Exactly results) outside a h = subst (LeavesIn P) (sym h.2) tt
 words_in P x widths (LowBits known width value) outside a h = subst (LeavesIn P) (sym h.2) tt
 
-stores_there_in : (P : ℕ → Type 0) (o : Option ℕ) (x bytes address value : ℕ) (outside : Outside) (a : Answer) → StoresThere o x bytes address value outside a → LeavesIn P a
-stores_there_in P None x bytes address value outside a h = subst (LeavesIn P) (sym h) tt
-stores_there_in P (Some v) x bytes address value outside a h = subst (LeavesIn P) (sym h) tt
-
 -- one of two, or undefined
-or_breaks_in : (P : ℕ → Type 0) (b : Bool) (T : Type 0) (a : Answer) → (T → LeavesIn P a) → cond b T (a ≡ Breaks) → LeavesIn P a
-or_breaks_in P true T a f h = f h
-or_breaks_in P false T a f h = subst (LeavesIn P) (sym h) tt
+pub or_breaks : (Q : Answer → Type 0) → Q Breaks → (b : Bool) (T : Type 0) (a : Answer) → (T → Q a) → cond b T (a ≡ Breaks) → Q a
+or_breaks Q breaks true T a f h = f h
+or_breaks Q breaks false T a f h = subst Q (sym h) breaks
 
-stores_in : (P : ℕ → Type 0) (x align bytes address value : ℕ) (outside : Outside) (a : Answer) → Stores x align bytes address value outside a → LeavesIn P a
-stores_in P x align bytes address value outside a h =
-    or_breaks_in P (is_aligned align address) (StoresThere (loaded x bytes outside.memory address) x bytes address value outside a) a
-    (stores_there_in P (loaded x bytes outside.memory address) x bytes address value outside a) h
+breaks_or : (Q : Answer → Type 0) → Q Breaks → (b : Bool) (T : Type 0) (a : Answer) → (T → Q a) → cond b (a ≡ Breaks) T → Q a
+breaks_or Q breaks true T a f h = subst Q (sym h) breaks
+breaks_or Q breaks false T a f h = f h
 
-breaks_or_in : (P : ℕ → Type 0) (b : Bool) (T : Type 0) (a : Answer) → (T → LeavesIn P a) → cond b (a ≡ Breaks) T → LeavesIn P a
-breaks_or_in P true T a f h = subst (LeavesIn P) (sym h) tt
-breaks_or_in P false T a f h = f h
+-- a store has no results, or is undefined
+stores_there_have : (Q : Answer → Type 0) → Q Breaks → ((outside : Outside) → Q (Results [] outside)) → (o : Option ℕ) (x bytes address value : ℕ) (outside : Outside) (a : Answer)
+    → StoresThere o x bytes address value outside a → Q a
+stores_there_have Q breaks stores None x bytes address value outside a h = subst Q (sym h) breaks
+stores_there_have Q breaks stores (Some v) x bytes address value outside a h = subst Q (sym h) (stores _)
 
-generic_stores_in : (P : ℕ → Type 0) (x : ℕ) (mem : Option MemOp) (arguments : List Argument) (outside : Outside) (a : Answer) → GenericStores x mem arguments outside a → LeavesIn P a
-generic_stores_in P x (Some mem) (Value n value ∷ Value l address ∷ []) outside a h =
-    breaks_or_in P mem.load (Stores x (alignment x mem) _ address value outside a) a (stores_in P x (alignment x mem) _ address value outside a) h
-generic_stores_in P x _ _ outside a h = subst (LeavesIn P) (sym h) tt
+stores_have : (Q : Answer → Type 0) → Q Breaks → ((outside : Outside) → Q (Results [] outside)) → (x align bytes address value : ℕ) (outside : Outside) (a : Answer) → Stores x align bytes address value outside a → Q a
+stores_have Q breaks stores x align bytes address value outside a h =
+    or_breaks Q breaks (is_aligned align address) (StoresThere (loaded x bytes outside.memory address) x bytes address value outside a) a
+    (stores_there_have Q breaks stores (loaded x bytes outside.memory address) x bytes address value outside a) h
 
-machine_stores_in : (P : ℕ → Type 0) (x : ℕ) (exists : ℕ → Bool) (bytes : ℕ) (arguments : List Argument) (outside : Outside) (a : Answer) → MachineStores x exists bytes arguments outside a → LeavesIn P a
-machine_stores_in P x exists bytes (Value n value ∷ Value l base ∷ Number offset ∷ []) outside a h =
-    or_breaks_in P (exists x && is_immediate offset) (Stores x bytes bytes _ value outside a) a (stores_in P x bytes bytes _ value outside a) h
-machine_stores_in P x exists bytes _ outside a h = subst (LeavesIn P) (sym h) tt
+generic_stores_have : (Q : Answer → Type 0) → Q Breaks → ((outside : Outside) → Q (Results [] outside)) → (x : ℕ) (mem : Option MemOp) (arguments : List Argument) (outside : Outside) (a : Answer)
+    → GenericStores x mem arguments outside a → Q a
+generic_stores_have Q breaks stores x (Some mem) (Value n value ∷ Value l address ∷ []) outside a h =
+    breaks_or Q breaks mem.load (Stores x (alignment x mem) _ address value outside a) a (stores_have Q breaks stores x (alignment x mem) _ address value outside a) h
+generic_stores_have Q breaks stores x _ _ outside a h = subst Q (sym h) breaks
+
+pub machine_stores_have : (Q : Answer → Type 0) → Q Breaks → ((outside : Outside) → Q (Results [] outside)) → (x : ℕ) (exists : ℕ → Bool) (bytes : ℕ) (arguments : List Argument) (outside : Outside) (a : Answer)
+    → MachineStores x exists bytes arguments outside a → Q a
+machine_stores_have Q breaks stores x exists bytes (Value n value ∷ Value l base ∷ Number offset ∷ []) outside a h =
+    or_breaks Q breaks (exists x && is_immediate offset) (Stores x bytes bytes _ value outside a) a (stores_have Q breaks stores x bytes bytes _ value outside a) h
+machine_stores_have Q breaks stores x exists bytes _ outside a h = subst Q (sym h) breaks
 
 same_number : (b : ℕ) → (b == b) ≡ true
 same_number b = eq-eqb b b refl
@@ -168,7 +172,7 @@ global_in P x w callee words results outside a = ⊎_elim (λ event. subst (Leav
 calls_in : (P : ℕ → Type 0) (x : ℕ) (w : World) (arguments : List Argument) (outside : Outside) (a : Answer) → Calls x w arguments outside a → LeavesIn P a
 calls_in P x w (Symbol Call callee address ∷ rest) outside a h = global_in P x w callee (words_of (passed rest)) (length (result_registers rest)) outside a h
 calls_in P x w (Called Call routine ∷ rest) outside a h =
-    or_breaks_in P (are_routine_registers (passed rest) (result_registers rest) && nat_le (first_routine x) routine && nat_lt routine (first_routine x + 5)) _ a
+    or_breaks (LeavesIn P) tt (are_routine_registers (passed rest) (result_registers rest) && nat_le (first_routine x) routine && nat_lt routine (first_routine x + 5)) _ a
     (λ answered. subst (LeavesIn P) (sym answered.2.3) tt) h
 calls_in P x w (Symbol Plain callee address ∷ rest) outside a h = subst (LeavesIn P) (sym h) tt
 calls_in P x w (Symbol Hi callee address ∷ rest) outside a h = subst (LeavesIn P) (sym h) tt
@@ -214,10 +218,10 @@ act_in x w (Generic gives) mem widths arguments outside a h = answers_in (λ c. 
 act_in x w (Machine gives) mem widths arguments outside a h = words_in (λ c. is_aimed c arguments ≡ true) x widths (gives x h.0) outside a h.2
 act_in x w (Loading extension) mem widths arguments outside a h =
     answers_in (λ c. is_aimed c arguments ≡ true) (generic_load x extension mem widths arguments outside.memory) outside a h
-act_in x w Storing mem widths arguments outside a h = generic_stores_in (λ c. is_aimed c arguments ≡ true) x mem arguments outside a h
+act_in x w Storing mem widths arguments outside a h = generic_stores_have (LeavesIn (λ c. is_aimed c arguments ≡ true)) tt (λ o. tt) x mem arguments outside a h
 act_in x w (MachineLoading exists bytes extension) mem widths arguments outside a h =
     words_in (λ c. is_aimed c arguments ≡ true) x widths (machine_load x exists bytes extension h.0 outside.memory) outside a h.2
-act_in x w (MachineStoring exists bytes) mem widths arguments outside a h = machine_stores_in (λ c. is_aimed c arguments ≡ true) x exists bytes h.0 outside a h.2
+act_in x w (MachineStoring exists bytes) mem widths arguments outside a h = machine_stores_have (LeavesIn (λ c. is_aimed c arguments ≡ true)) tt (λ o. tt) x exists bytes h.0 outside a h.2
 act_in x w Jumping mem widths arguments outside a h = subst (LeavesIn (λ c. is_aimed c arguments ≡ true)) (sym h) (jump_in arguments)
 act_in x w Branching mem widths arguments outside a h = subst (LeavesIn (λ c. is_aimed c arguments ≡ true)) (sym h) (branch_in arguments outside)
 act_in x w (MachineBranching test) mem widths arguments outside a h =
