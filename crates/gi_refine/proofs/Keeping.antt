@@ -25,7 +25,7 @@ arguments_plain : (s : Setting) (w : World) (state : State) (os : List Operand) 
 arguments_plain s w state [] = refl
 arguments_plain s w state (o ∷ os) = ap₂ joined_lists (argument_plain s w state o) (arguments_plain s w state os)
 
-places_plain : (os : List Operand) → places_of (map without_kind os) ≡ places_of os
+pub places_plain : (os : List Operand) → places_of (map without_kind os) ≡ places_of os
 places_plain [] = refl
 places_plain (operand.Def r k ∷ os) = ap (λ ps. Virtual r.0 ∷ ps) (places_plain os)
 places_plain (operand.PhysDef n ∷ os) = ap (λ ps. Physical n ∷ ps) (places_plain os)
@@ -275,7 +275,7 @@ use_plain from r (operand.Block b ∷ os) h = ap (λ later. cond (b == from) (So
 use_plain from r (operand.Def q k ∷ os) h = h
 use_plain from r (_ ∷ os) h = h
 
-entry_plain : (from : ℕ) (os : List Operand) → entry_for from (map without_kind os) ≡ entry_for from os
+pub entry_plain : (from : ℕ) (os : List Operand) → entry_for from (map without_kind os) ≡ entry_for from os
 entry_plain from [] = refl
 entry_plain from (operand.Use r ∷ os) = use_plain from r.0 os (entry_plain from os)
 entry_plain from (operand.Def r k ∷ os) = entry_plain from os

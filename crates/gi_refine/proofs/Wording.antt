@@ -59,16 +59,16 @@ cut_twice u n m h =
 
 -- ══ Reads ══
 
-abbrev ArgumentWorded : (x : ℕ) → (old new : Argument) → Type 0
+abbrev pub ArgumentWorded : (x : ℕ) → (old new : Argument) → Type 0
 ArgumentWorded x (Value m v) new = (u : ℕ) × StandsFor x m x v u × (u < 2 ^ x) × (new ≡ Value x u)
 ArgumentWorded x old new = new ≡ old
 
-abbrev AllArgumentsWorded : (x : ℕ) → (old new : List Argument) → Type 0
+abbrev pub AllArgumentsWorded : (x : ℕ) → (old new : List Argument) → Type 0
 AllArgumentsWorded x [] [] = Unit {0}
 AllArgumentsWorded x (a ∷ olds) (b ∷ news) = ArgumentWorded x a b × AllArgumentsWorded x olds news
 AllArgumentsWorded x _ _ = ⊥
 
-abbrev OptionWorded : (x : ℕ) → (old new : Option (List Argument)) → Type 0
+abbrev pub OptionWorded : (x : ℕ) → (old new : Option (List Argument)) → Type 0
 OptionWorded x None new = Unit {0}
 OptionWorded x (Some olds) None = ⊥
 OptionWorded x (Some olds) (Some news) = AllArgumentsWorded x olds news
@@ -97,7 +97,7 @@ use_worded x m n (Some v) (Some u) e stands small = ((u, subst (λ k. StandsFor 
 whole_worded : (x v u : ℕ) → u ≡ v → u < 2 ^ x → ArgumentWorded x (Value x v) (Value x u)
 whole_worded x v u same small = (u, alike_stands x x v u same, small, refl)
 
-arguments_worded : (x : ℕ) (names : List (List ℕ)) (width width' : ℕ → ℕ) (w : World) → IsWorld x w → (hidden : Place → Bool) (old new : State)
+pub arguments_worded : (x : ℕ) (names : List (List ℕ)) (width width' : ℕ → ℕ) (w : World) → IsWorld x w → (hidden : Place → Bool) (old new : State)
     → Agree (setting x names width) (setting x names width') hidden old new → IsSized x new → (os : List Operand) → AreWorded (setting x names width) (setting x names width') hidden os
     → OptionWorded x (arguments_of (setting x names width) w old os) (arguments_of (setting x names width') w new os)
 arguments_worded x names width width' w is_world hidden old new agree sized [] worded = tt
@@ -198,7 +198,7 @@ results_worded x names width width' (Virtual r ∷ ps) (v ∷ vs) worded words =
 results_worded x names width width' (Physical n ∷ ps) (v ∷ vs) worded words = (refl, results_worded x names width width' ps vs worded words.1)
 
 -- what the new instruction answers, the old may answer so that it stands for that
-abbrev ActsWorded : (x : ℕ) → (names : List (List ℕ)) → (width width' : ℕ → ℕ) → World → Meaning → Option MemOp → List Place → (old : List Argument) → Outside → Answer → Type 0
+abbrev pub ActsWorded : (x : ℕ) → (names : List (List ℕ)) → (width width' : ℕ → ℕ) → World → Meaning → Option MemOp → List Place → (old : List Argument) → Outside → Answer → Type 0
 ActsWorded x names width width' w m mem ps olds outside answer' =
     (answer : Answer) × Act x w m mem (map (width_of_place (setting x names width)) ps) olds outside answer
     × AnswerStands (setting x names width) (setting x names width') ps answer answer'
@@ -309,7 +309,7 @@ place_whole : (x : ℕ) (names : List (List ℕ)) (width width' : ℕ → ℕ) (
 place_whole x names width width' (Virtual r) worded = worded.1
 place_whole x names width width' (Physical n) worded = refl
 
-place_stands : (x : ℕ) (names : List (List ℕ)) (width width' : ℕ → ℕ) (p : Place) → PlacesWorded (setting x names width) (setting x names width') (p ∷ []) → (v u : ℕ)
+pub place_stands : (x : ℕ) (names : List (List ℕ)) (width width' : ℕ → ℕ) (p : Place) → PlacesWorded (setting x names width) (setting x names width') (p ∷ []) → (v u : ℕ)
     → StandsFor x (width_of_place (setting x names width) p) x v u → PlaceStands (setting x names width) (setting x names width') p v u
 place_stands x names width width' (Virtual r) worded v u stands = subst (λ n. StandsFor x (width r) n v u) (sym worded.1) stands
 place_stands x names width width' (Physical n) worded v u stands = stands_alike x x v u stands
@@ -440,7 +440,7 @@ plain_worded x names width width' w Returning plain values bounded mem ps worded
 plain_worded x names width width' w Nothing plain values bounded mem ps worded olds news args small outside bytes answer' act = absurd values
 plain_worded x names width width' w Joining plain values bounded mem ps worded olds news args small outside bytes answer' act = absurd plain
 
-acts_worded : (x : ℕ) → 32 ≤ x → (names : List (List ℕ)) (width width' : ℕ → ℕ) (w : World) (i : InstrData) → is_worded i ≡ true → HasValues (meaning_of i.flags i.op) → (mem : Option MemOp) (ps : List Place)
+pub acts_worded : (x : ℕ) → 32 ≤ x → (names : List (List ℕ)) (width width' : ℕ → ℕ) (w : World) (i : InstrData) → is_worded i ≡ true → HasValues (meaning_of i.flags i.op) → (mem : Option MemOp) (ps : List Place)
     → PlacesWorded (setting x names width) (setting x names width') ps → (olds news : List Argument) → AllArgumentsWorded x olds news → AreSmall x news → (outside : Outside) → AreBytes outside.memory → (answer' : Answer)
     → Act x w (meaning_of i.flags i.op) mem (map (width_of_place (setting x names width')) ps) news outside answer' → ActsWorded x names width width' w (meaning_of i.flags i.op) mem ps olds outside answer'
 acts_worded x wide names width width' w i is_word values mem ps worded olds news args small outside bytes answer' act = ⊎_elim

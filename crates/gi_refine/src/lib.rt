@@ -4,6 +4,7 @@
 mod examples;
 mod laws;
 mod rewriting;
+mod words;
 
 pub use examples::examples_come_to;
 pub use laws::{
@@ -11,3 +12,4 @@ pub use laws::{
     same_instruction_follows, whole_runs_follow,
 };
 pub use rewriting::{one_place_follows, replacement_follows, rewriting_follows};
+pub use words::{classed_function_refines, words_follow};
