@@ -9,6 +9,7 @@ pub mod OnePlaceFollows
 pub mod Reaching
 pub mod Refining
 pub mod RewritingFollows
+pub mod SameBlocks
 pub mod Simulating
 pub mod Sized
 pub mod Staying

@@ -11,5 +11,7 @@ pub use laws::{
     may_fail_is_failing, pieces_follow, refinement_is_reflexive, refinement_is_transitive,
     same_instruction_follows, whole_runs_follow,
 };
-pub use rewriting::{one_place_follows, replacement_follows, rewriting_follows};
+pub use rewriting::{
+    one_place_follows, replacement_follows, rewriting_follows, same_blocks_follow,
+};
 pub use words::{classed_function_refines, words_follow};

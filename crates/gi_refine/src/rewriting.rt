@@ -4,7 +4,7 @@ ghost use Rattle.std.specs.Prelude.{ℕ, List};
 ghost use Rattle.gi_mir.specs.Data.{FunctionData};
 ghost use Rattle.gi_refine.specs.OnePlace.{OnePlace, RewritesOnePlace};
 ghost use Rattle.gi_refine.specs.Refinement.{IsRefinement};
-ghost use Rattle.gi_refine.specs.Replacing.{IsReplaced, Replacement};
+ghost use Rattle.gi_refine.specs.Replacing.{AreSameBlocks, IsReplaced, Replacement};
 ghost use Rattle.gi_refine.specs.Rewriting.{IsRewritten};
 
 /// A function with one place rewritten refines the old one: where the place follows from the states that runs of the
@@ -24,4 +24,9 @@ pub fn replacement_follows()
 /// function reach there, refines the old one. What is hidden may differ from point to point.
 pub fn rewriting_follows()
     ensures { (x : ℕ) (names : List (List ℕ)) (f g : FunctionData) → IsRewritten x names f g → IsRefinement x names f g }
+{}
+
+/// The ids of instructions, the keys and the next numbers of a function change no run.
+pub fn same_blocks_follow()
+    ensures { (x : ℕ) (names : List (List ℕ)) (f g : FunctionData) → AreSameBlocks f g → IsRefinement x names f g }
 {}
