@@ -2,6 +2,7 @@ pub mod Agreeing
 pub mod CallRuns
 pub mod Classed
 pub mod Doing
+pub mod Evaluating
 pub mod ExampleRuns
 pub mod Failing
 pub mod Keeping

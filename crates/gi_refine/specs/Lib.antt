@@ -1,4 +1,5 @@
 pub mod Agreement
+pub mod Evaluation
 pub mod Examples
 pub mod Kept
 pub mod OnePlace
