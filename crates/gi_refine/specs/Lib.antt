@@ -1,6 +1,7 @@
 pub mod Agreement
 pub mod Evaluation
 pub mod Examples
+pub mod Idle
 pub mod Kept
 pub mod OnePlace
 pub mod Outcomes

@@ -2,11 +2,13 @@
 #![tactic(auto)]
 
 mod examples;
+mod idle;
 mod laws;
 mod rewriting;
 mod words;
 
 pub use examples::examples_come_to;
+pub use idle::no_premise_is_idle;
 pub use laws::{
     may_fail_is_failing, pieces_follow, refinement_is_reflexive, refinement_is_transitive,
     same_instruction_follows, whole_runs_follow,
