@@ -5,6 +5,7 @@ pub mod Doing
 pub mod Evaluating
 pub mod ExampleRuns
 pub mod Failing
+pub mod IdlePieces
 pub mod IdlePlaces
 pub mod Keeping
 pub mod OnePlaceFollows
