@@ -10,6 +10,7 @@ pub mod IdlePlaces
 pub mod Keeping
 pub mod OnePlaceFollows
 pub mod Reaching
+pub mod ReachNeeded
 pub mod Refining
 pub mod RewritingFollows
 pub mod SameBlocks

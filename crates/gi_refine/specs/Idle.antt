@@ -2,18 +2,21 @@
 -- others hold and the new function isn't a refinement.
 use Rattle.std.specs.Prelude.{◌≡◌, ℕ, ◌+◌, Bool, true, false, cond, ◌==◌, List, [], ◌∷◌, ◌++◌, Option, Some, None, slice_get}
 use Rattle.gi_mir.specs.Data.{InstrData, BlockData, FunctionData}
+use Rattle.gi_mir.specs.Stated.{reg_of}
+use Rattle.gi_mir.specs.declared.opcode.Opcode.TheVariants as op
 use Rattle.gi_mir.specs.declared.operand.Operand.{Operand}
 use Rattle.gi_mir.specs.declared.operand.Operand.TheVariants as operand
 use Rattle.gi_meaning.specs.State.{World, IsWorld, State, Place}
 use Rattle.gi_meaning.specs.Meaning.{meaning_of}
 use Rattle.gi_meaning.specs.Runs.{setting_of, written_places, phis_of, after_phis, is_among}
 use Rattle.gi_refine.specs.Agreement.{Agree, AgreeAt, all_shown}
-use Rattle.gi_refine.specs.Examples.{names}
+use Rattle.gi_refine.specs.Examples.{made, block_of, function_of, s32, use_of, copy_in, copy_out, return_of, names, world_of}
 use Rattle.gi_refine.specs.Kept.{IsKept, AreKept, AreSeenAs, AllSeenAs, UsesHold, PhisHold, BodyHolds}
 use Rattle.gi_refine.specs.OnePlace.{OnePlace, only_virtual, StaysAt}
 use Rattle.gi_refine.specs.Reached.{IsReached, WhereReached}
 use Rattle.gi_refine.specs.Refinement.{IsRefinement}
 use Rattle.gi_refine.specs.Rewriting.{Piece, Kept, Changed, old_of, all_old, all_new, Covers, is_target, PieceFollows, hidden_after, PhisFollow}
+use Rattle.gi_refine.specs.Replacing.{Replacement, IsReplaced}
 use Rattle.gi_refine.specs.Simulation.{IsFollowed}
 
 pub data Premise : Type 0 where
@@ -185,3 +188,35 @@ pub record IsPieceNotIdle (dropped : PiecePremise) : Type 0 where
   pub new : FunctionData
   pub owes : IsRewrittenBut (Some dropped) 32 old new
   pub refuted : IsRefinement 32 names old new → ⊥
+
+-- ══ A case that holds by reach alone ══
+
+-- `%d:s32 = COPY %r`
+abbrev pub copied : (d r : ℕ) → ℕ × InstrData
+copied d r = made op.Copy (operand.Def (reg_of d) s32 ∷ use_of r ∷ []) None
+
+-- a copy of a copy, and the copy of the value itself
+abbrev pub copies_copy : FunctionData
+copies_copy = function_of (block_of [] (copy_in 0 10 s32 ∷ copied 1 0 ∷ copied 2 1 ∷ copy_out 10 2 ∷ return_of 10 ∷ []) ∷ [])
+
+abbrev pub copies_value : FunctionData
+copies_value = function_of (block_of [] (copy_in 0 10 s32 ∷ copied 1 0 ∷ copied 2 0 ∷ copy_out 10 2 ∷ return_of 10 ∷ []) ∷ [])
+
+abbrev pub copy_replaced : Replacement
+copy_replaced = record {
+  block = 0;
+  before = copy_in 0 10 s32 ∷ copied 1 0 ∷ [];
+  old = copied 2 1 ∷ [];
+  new = copied 2 0 ∷ [];
+  after = copy_out 10 2 ∷ return_of 10 ∷ [];
+  hidden = λ r. false;
+}
+
+-- the replacement follows from the states that are reached, and in this world not from all states that agree
+pub record IsByReach : Type 0 where
+  pub replaced : IsReplaced 32 names copies_copy copies_value copy_replaced
+  pub world : IsWorld 32 (world_of 1 2 0 [])
+  pub not_everywhere : IsFollowed (setting_of 32 names copies_copy) (setting_of 32 names copies_value) (world_of 1 2 0 [])
+      (Agree (setting_of 32 names copies_copy) (setting_of 32 names copies_value) (only_virtual (λ r. false)))
+      (Agree (setting_of 32 names copies_copy) (setting_of 32 names copies_value) (only_virtual (λ r. false)))
+      (AgreeAt (setting_of 32 names copies_copy) (setting_of 32 names copies_value) (λ b. only_virtual (λ r. false))) (copied 2 1 ∷ []) (copied 2 0 ∷ []) → ⊥

@@ -3,7 +3,7 @@
 ghost use Rattle.std.specs.Prelude.{ℕ, None};
 ghost use Rattle.gi_mir.specs.Data.{FunctionData};
 ghost use Rattle.gi_refine.specs.Examples.{names};
-ghost use Rattle.gi_refine.specs.Idle.{IsNotIdle, IsPieceNotIdle, IsRewrittenBut, OwesAllBut, PiecePremise, Premise};
+ghost use Rattle.gi_refine.specs.Idle.{IsByReach, IsNotIdle, IsPieceNotIdle, IsRewrittenBut, OwesAllBut, PiecePremise, Premise};
 ghost use Rattle.gi_refine.specs.OnePlace.{OnePlace, RewritesOnePlace};
 ghost use Rattle.gi_refine.specs.Rewriting.{IsRewritten};
 
@@ -14,4 +14,6 @@ pub fn no_premise_is_idle()
     ensures of_place { (dropped : Premise) → IsNotIdle dropped }
     ensures pieces { (x : ℕ) (f g : FunctionData) → IsRewrittenBut None x f g → IsRewritten x names f g }
     ensures of_pieces { (dropped : PiecePremise) → IsPieceNotIdle dropped }
+    // A copy of a copy is replaced by one of the value itself: it holds by the states that runs reach alone.
+    ensures reach { IsByReach }
 {}
