@@ -1,5 +1,7 @@
 pub mod Agreement
+pub mod Evaluation
 pub mod Examples
+pub mod Idle
 pub mod Kept
 pub mod Lifting
 pub mod OnePlace
@@ -7,8 +9,10 @@ pub mod Outcomes
 pub mod Reached
 pub mod Refinement
 pub mod Replacing
+pub mod Rewriting
 pub mod RuleUse
 pub mod Simulation
 pub mod TargetExamples
 pub mod TrialRules
 pub mod Values
+pub mod Worded
