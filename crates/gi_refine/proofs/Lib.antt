@@ -1,5 +1,6 @@
 pub mod Agreeing
 pub mod CallRuns
+pub mod Covering
 pub mod Doing
 pub mod ExampleRuns
 pub mod Failing

@@ -103,6 +103,21 @@ hidden_after hidden rule placing (Virtual r) =
     then not (is_kept (all_grown placing.inputs placing.old) (all_grown placing.inputs placing.new) rule.kept r) else hidden (Virtual r)
 hidden_after hidden rule placing (Physical n) = hidden (Physical n)
 
+-- each of these results is kept or hidden after
+abbrev pub are_covered : (after : Place → Bool) → (kept : ℕ → Bool) → List ℕ → Bool
+are_covered after kept [] = true
+are_covered after kept (r ∷ rs) = (kept r || after (Virtual r)) && are_covered after kept rs
+
+abbrev pub all_covered : (after : Place → Bool) → (kept : ℕ → Bool) → List (List ℕ) → Bool
+all_covered after kept [] = true
+all_covered after kept (rs ∷ rss) = are_covered after kept rs && all_covered after kept rss
+
+-- each result of the rule is kept or hidden after
+abbrev pub covers : (after : Place → Bool) → Rule → Placing → Bool
+covers after rule placing =
+    all_covered after (is_kept (all_grown placing.inputs placing.old) (all_grown placing.inputs placing.new) rule.kept) placing.old
+    && all_covered after (is_kept (all_grown placing.inputs placing.old) (all_grown placing.inputs placing.new) rule.kept) placing.new
+
 -- Instructions that are the operations of a rule on registers: nothing hidden is read, no result is another register
 -- of the rule, and what is hidden after covers what the two sides don't share.
 pub record IsPlaced (x : ℕ) (names : List (List ℕ)) (width width' : ℕ → ℕ) (w : World) (rule : Rule) (placing : Placing) (before after : Place → Bool) (old new : List (ℕ × InstrData)) : Type 0 where
