@@ -1,9 +1,9 @@
 -- Tests and values that show what a use of a rule owes.
-use Rattle.std.proofs.Common.{◌≡◌, ℕ, suc, Bool, true, false, cond, ◌==◌, not, ◌&&◌, ◌||◌, List, [], ◌∷◌, Option, Some, None, ◌⊎◌, inl, inr, ⊎_elim, refl, sym, ap, ◌∙◌, subst, eqb-true}
+use Rattle.std.proofs.Common.{◌≡◌, ℕ, suc, Bool, true, false, cond, ◌==◌, not, ◌||◌, List, [], ◌∷◌, Option, Some, ◌⊎◌, inl, inr, ⊎_elim, refl, sym, ap, ◌∙◌, subst, eqb-true}
 use Rattle.gi_meaning.specs.State.{World, State, outside_of, Place, Virtual, Physical}
 use Rattle.gi_meaning.specs.Runs.{Setting, is_among}
 use Rattle.gi_refine.specs.Values.{Environment, Slot, AllHold, Rule}
-use Rattle.gi_refine.specs.Lifting.{all_grown, is_result, Placing, is_kept, hidden_after, are_covered, all_covered, covers, Reads, AreSized, takes, first_slots, HasValue, AreThere, IsKnown}
+use Rattle.gi_refine.specs.Lifting.{all_grown, is_result, Placing, is_kept, hidden_after, are_covered, all_covered, covers, Reads, AreSized, first_slots, HasValue, AreThere, IsKnown}
 use Rattle.gi_refine.proofs.ValuesPlaced.{and_left, and_right}
 
 -- ══ What is hidden after ══

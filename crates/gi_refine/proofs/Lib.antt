@@ -13,6 +13,7 @@ pub mod RuleSteps
 pub mod RulesUsed
 pub mod Simulating
 pub mod TrialRules
+pub mod TrialUses
 pub mod ValuesFollowed
 pub mod ValuesPlaced
 pub mod ValuesThere

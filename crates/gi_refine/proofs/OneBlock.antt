@@ -1,14 +1,13 @@
 -- A function of one block that goes nowhere: a run enters it once, at the start.
-use Rattle.std.proofs.Common.{◌≡◌, ℕ, zero, suc, ◌+◌, Bool, true, false, cond, ◌&&◌, List, [], ◌∷◌, Option, Some, None, slice_get, refl, sym, ap, ◌∙◌, subst}
+use Rattle.std.proofs.Common.{◌≡◌, ℕ, zero, suc, Bool, true, false, ◌&&◌, List, [], ◌∷◌, Option, Some, None, slice_get, sym, ap, ◌∙◌, subst}
 use Rattle.gi_mir.specs.Data.{InstrData, BlockData}
 use Rattle.gi_mir.specs.declared.operand.MemOp.{MemOp}
 use Rattle.gi_meaning.specs.Argument.{Argument}
 use Rattle.gi_meaning.specs.State.{World, State, Outside, outside_of, start, Place}
 use Rattle.gi_meaning.specs.Meaning.{Meaning, Copying, Generic, Machine, Loading, Returning, meaning_of}
-use Rattle.gi_meaning.specs.Act.{Answer, Results, Leaves, Returns, Asks, Breaks, Act, generic_load, returned, copy}
-use Rattle.gi_meaning.specs.Runs.{Setting, arguments_of, written_places, put_all, Progress, On, Left, Over, going_on, progress_of, StepsFrom, Steps, After, Executes, phis_of, after_phis, joined}
-use Rattle.gi_refine.specs.Reached.{GoesTo, AfterPhis, Passes, Arrives, IsEntered, Reaches, IsReached}
-use Rattle.gi_refine.specs.Values.{is_pure}
+use Rattle.gi_meaning.specs.Act.{Answer, Results, Leaves, Returns, Asks, Breaks, Act, generic_load, copy}
+use Rattle.gi_meaning.specs.Runs.{Setting, arguments_of, written_places, put_all, Progress, On, Left, Over, going_on, progress_of, StepsFrom, After, Executes, phis_of, after_phis, joined}
+use Rattle.gi_refine.specs.Reached.{GoesTo, Passes, Arrives, IsReached}
 use Rattle.gi_refine.proofs.ValuesPlaced.{IsPlain, answers_plain, words_plain, and_left, and_right}
 
 -- ══ Instructions that leave no block ══
@@ -116,6 +115,6 @@ pub reached_from_start : (s : Setting) (w : World) (block : BlockData) → IsLas
 reached_from_start s w block last before state reached =
     let same : block ≡ reached.block = the_block block reached.block 0 reached.enters.joins.here in
     let phis : joined reached.enters.entered reached.enters.from (phis_of reached.block.instrs) ≡ Some reached.enters.entered =
-        ap (joined reached.enters.entered reached.enters.from) (subst (λ k. phis_of k.instrs ≡ []) same last.phis) in
+    ap (joined reached.enters.entered reached.enters.from) (subst (λ k. phis_of k.instrs ≡ []) same last.phis) in
     let middle : reached.enters.entered ≡ reached.middle = unwrapped reached.enters.entered reached.middle (sym phis ∙ reached.enters.joins.phis) in
     subst (λ st. Executes s w before st (On state)) (sym middle ∙ arrives_once s w block last reached.enters.entries reached.enters.from 0 reached.enters.entered reached.enters.arrives) reached.ran

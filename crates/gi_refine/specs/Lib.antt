@@ -9,5 +9,6 @@ pub mod Refinement
 pub mod Replacing
 pub mod RuleUse
 pub mod Simulation
+pub mod TrialFunctions
 pub mod TrialRules
 pub mod Values

@@ -1,0 +1,45 @@
+-- Small functions and what rules make of them.
+use Rattle.std.specs.Prelude.{ℕ, List, [], ◌∷◌, None, false}
+use Rattle.gi_mir.specs.Data.{InstrData, FunctionData}
+use Rattle.gi_mir.specs.Stated.{reg_of}
+use Rattle.gi_mir.specs.declared.opcode.Opcode.{Opcode}
+use Rattle.gi_mir.specs.declared.opcode.Opcode.TheVariants as op
+use Rattle.gi_mir.specs.declared.operand.Kind.{Kind}
+use Rattle.gi_mir.specs.declared.operand.Operand.TheVariants.{Def, Constant}
+use Rattle.gi_refine.specs.Examples.{made, block_of, function_of, s32, use_of, copy_in, copy_out, return_of}
+use Rattle.gi_refine.specs.Lifting.{Placing}
+use Rattle.gi_refine.specs.Replacing.{Replacement}
+
+-- `%d = OP %a, %b`, `%d = G_CONSTANT i32 VALUE`
+abbrev pub of_two : Opcode → (d : ℕ) → Kind → (a b : ℕ) → ℕ × InstrData
+of_two op d kind a b = made op (Def (reg_of d) kind ∷ use_of a ∷ use_of b ∷ []) None
+
+abbrev pub constant_in : (d n value : ℕ) → Kind → ℕ × InstrData
+constant_in d n value kind = made op.GenericConstant (Def (reg_of d) kind ∷ Constant n value ∷ []) None
+
+-- a function of one block
+abbrev pub straight : List (ℕ × InstrData) → FunctionData
+straight is = function_of (block_of [] is ∷ [])
+
+-- ══ x - x ══
+
+-- `%0 = COPY $x10`, `%1 = G_SUB %0, %0`, `$x10 = COPY %1`
+abbrev pub subtracts_itself : FunctionData
+subtracts_itself = straight (copy_in 0 10 s32 ∷ of_two op.GenericSubtract 1 s32 0 0 ∷ copy_out 10 1 ∷ return_of 10 ∷ [])
+
+-- `%1 = G_CONSTANT i32 0` in its place
+abbrev pub gives_zero : FunctionData
+gives_zero = straight (copy_in 0 10 s32 ∷ constant_in 1 32 0 s32 ∷ copy_out 10 1 ∷ return_of 10 ∷ [])
+
+abbrev pub subtraction_folded : Replacement
+subtraction_folded = record {
+  block = 0;
+  before = copy_in 0 10 s32 ∷ [];
+  old = of_two op.GenericSubtract 1 s32 0 0 ∷ [];
+  new = constant_in 1 32 0 s32 ∷ [];
+  after = copy_out 10 1 ∷ return_of 10 ∷ [];
+  hidden = λ r. false;
+}
+
+abbrev pub subtraction_placed : Placing
+subtraction_placed = record { inputs = 0 ∷ []; old = (1 ∷ []) ∷ []; new = (1 ∷ []) ∷ [] }
