@@ -14,6 +14,7 @@ pub mod RulesUsed
 pub mod Simulating
 pub mod TrialRules
 pub mod TrialUses
+pub mod ValuesCertain
 pub mod ValuesFollowed
 pub mod ValuesPlaced
 pub mod ValuesThere

@@ -15,7 +15,7 @@ use Rattle.gi_refine.proofs.ValuesPlaced.{BothRead, both_read, Became, Settled, 
 -- ══ The inputs ══
 
 -- a claim for all values of these widths, at the values of registers
-for_all_at : (width : ℕ → ℕ) (values : ℕ → Option ℕ) (rs : List ℕ) (env : Environment) (claim : Environment → Type 0) → Reads width values rs env → AreSized env → ForAllOf (map width rs) claim → claim env
+pub for_all_at : (width : ℕ → ℕ) (values : ℕ → Option ℕ) (rs : List ℕ) (env : Environment) (claim : Environment → Type 0) → Reads width values rs env → AreSized env → ForAllOf (map width rs) claim → claim env
 for_all_at width values [] [] claim reads sized all = all
 for_all_at width values [] (entry ∷ env) claim reads sized all = absurd reads
 for_all_at width values (r ∷ rs) [] claim reads sized all = absurd reads

@@ -7,6 +7,7 @@ use Rattle.gi_meaning.specs.Argument.{Argument, Value, Number, Bits, Symbol, To,
 use Rattle.gi_meaning.specs.State.{World, State, outside_of, Place, Virtual, Physical}
 use Rattle.gi_meaning.specs.Runs.{Setting, name_at, is_among}
 use Rattle.gi_refine.specs.Agreement.{Agree, setting}
+use Rattle.gi_refine.specs.Kept.{HasSameValue}
 use Rattle.gi_refine.specs.Values.{Environment, Slot, At, Fixed, Operation, are_pure, AllHold, Rule}
 
 -- ══ Instructions that show operations ══
@@ -190,3 +191,14 @@ pub record IsKnown (s : Setting) (w : World) (rule : Rule) (registers : List ℕ
 pub record AgreeKnown (s t : Setting) (w : World) (rule : Rule) (registers : List ℕ) (hidden : Place → Bool) (old new : State) : Type 0 where
   pub agree : Agree s t hidden old new
   pub known : IsKnown s w rule registers old
+
+-- ══ Registers with one value ══
+
+abbrev pub SameAt : (values : ℕ → Option ℕ) → Option ℕ → Option ℕ → Type 0
+SameAt values (Some r) (Some q) = HasSameValue (values r) (values q)
+SameAt values _ _ = Unit {0}
+
+-- at each two places the second register has the value of the first
+abbrev pub AllSame : (values : ℕ → Option ℕ) → (registers : List ℕ) → List (ℕ × ℕ) → Type 0
+AllSame values registers [] = Unit {0}
+AllSame values registers (pair ∷ pairs) = SameAt values (slice_get registers pair.0) (slice_get registers pair.1) × AllSame values registers pairs

@@ -139,3 +139,9 @@ ForAllOf (n ∷ ns) claim = (value : ℕ) → value < 2 ^ n → ForAllOf ns (λ 
 pub record IsSound (x : ℕ) (w : World) (rule : Rule) : Type 0 where
   pub by : (outside : Outside) → ForAllOf rule.inputs (λ env.
       AllHold x w outside env rule.facts → (made : Option Environment) → Makes x w outside rule.new env made → MayMake x w outside rule env made)
+
+-- Whatever the old operations make, the values at the places that are kept are equal in it: uses of the one may be
+-- replaced by uses of the other.
+pub record IsCertain (x : ℕ) (w : World) (rule : Rule) : Type 0 where
+  pub by : (outside : Outside) → ForAllOf rule.inputs (λ env.
+      AllHold x w outside env rule.facts → (old : Environment) → Makes x w outside rule.old env (Some old) → Correspond rule.kept old old)
