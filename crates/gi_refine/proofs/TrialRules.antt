@@ -80,7 +80,7 @@ add_zero_certain x w n = record {
   by = λ outside a a_fits b b_fits facts old makes.
       let b_is : b ≡ 0 = entry_value n b n 0 (constant_known x w outside ((n, a) ∷ (n, b) ∷ []) n 0 1 facts.0) in
       let is : Some old ≡ Some ((n, a) ∷ (n, b) ∷ (n, wrapped n (a + b)) ∷ []) =
-          exactly (wrapped n (a + b) ∷ []) outside makes.0 ((n, a) ∷ (n, b) ∷ []) (n ∷ []) (Makes x w outside []) (Some old) makes.1 makes.2 in
+      exactly (wrapped n (a + b) ∷ []) outside makes.0 ((n, a) ∷ (n, b) ∷ []) (n ∷ []) (Makes x w outside []) (Some old) makes.1 makes.2 in
       let sum_is : entry n a ≡ entry n (wrapped n (a + b)) = ap (entry n) (sym (sum_with_zero n a b a_fits b_is)) in
       subst (λ env. Correspond ((2, 0) ∷ []) env env) (unwrapped _ old (sym is)) (sum_is, tt);
 }

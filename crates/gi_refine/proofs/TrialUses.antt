@@ -26,7 +26,7 @@ use Rattle.gi_refine.proofs.TrialRules.{subtract_self_sound}
 -- ══ Functions of one block ══
 
 -- where a run has one way to go, the state that it comes to
-state_is : (s : Setting) (w : World) (is : List (ℕ × InstrData)) (state final other : State) → DoesAll s w is state (On final) → Executes s w is state (On other) → other ≡ final
+pub state_is : (s : Setting) (w : World) (is : List (ℕ × InstrData)) (state final other : State) → DoesAll s w is state (On final) → Executes s w is state (On other) → other ≡ final
 state_is s w is state final other does run = on_same other final (does.only (On other) run)
   where
     on_same : (a b : State) → On a ≡ On b → a ≡ b

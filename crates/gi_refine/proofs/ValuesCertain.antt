@@ -21,11 +21,10 @@ entries_same width values (Some r) (Some q) (Some entry) other both both' same =
 
 all_same : (width : ℕ → ℕ) (values : ℕ → Option ℕ) (rs : List ℕ) (env : Environment) → Reads width values rs env → (pairs : List (ℕ × ℕ)) → Correspond pairs env env → AllSame values rs pairs
 all_same width values rs env reads [] same = tt
-all_same width values rs env reads (pair ∷ pairs) same =
-    (
-      entries_same width values (slice_get rs pair.0) (slice_get rs pair.1) (slice_get env pair.0) (slice_get env pair.1) (both_read width values rs env pair.0 reads) (both_read width values rs env pair.1 reads) same.0,
-      all_same width values rs env reads pairs same.1,
-    )
+all_same width values rs env reads (pair ∷ pairs) same = (
+  entries_same width values (slice_get rs pair.0) (slice_get rs pair.1) (slice_get env pair.0) (slice_get env pair.1) (both_read width values rs env pair.0 reads) (both_read width values rs env pair.1 reads) same.0,
+  all_same width values rs env reads pairs same.1,
+)
 
 on_not_over : (state : State) → On state ≡ Over Fails → ⊥
 on_not_over state h = cc
@@ -48,7 +47,7 @@ certain_same s w rule placing is state final certain pure shown fresh widths kno
     (λ read.
     let env : Environment = read.0 in
     let made : Forward s.width (Makes s.x w (outside_of state) rule.old env) state (λ r. is_result r placing.old) (all_grown placing.inputs placing.old) (On final) =
-        forward s w (outside_of state) placing.old rule.old is placing.inputs env state (On final) shown pure fresh refl read.1 run in
+    forward s w (outside_of state) placing.old rule.old is placing.inputs env state (On final) shown pure fresh refl read.1 run in
     made_same s.width state final (λ r. is_result r placing.old) (all_grown placing.inputs placing.old) rule.kept made.made made.settled
     (λ old is_made. for_all_at s.width state.values placing.inputs env
     (λ e. AllHold s.x w (outside_of state) e rule.facts → (m : Environment) → Makes s.x w (outside_of state) rule.old e (Some m) → Correspond rule.kept m m)

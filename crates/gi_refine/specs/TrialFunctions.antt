@@ -1,5 +1,5 @@
 -- Small functions and what rules make of them.
-use Rattle.std.specs.Prelude.{ℕ, List, [], ◌∷◌, None, false}
+use Rattle.std.specs.Prelude.{ℕ, ◌==◌, if◌then◌else◌, List, [], ◌∷◌, None, false}
 use Rattle.gi_mir.specs.Data.{InstrData, FunctionData}
 use Rattle.gi_mir.specs.Stated.{reg_of}
 use Rattle.gi_mir.specs.declared.opcode.Opcode.{Opcode}
@@ -8,6 +8,7 @@ use Rattle.gi_mir.specs.declared.operand.Kind.{Kind}
 use Rattle.gi_mir.specs.declared.operand.Operand.TheVariants.{Def, Constant}
 use Rattle.gi_refine.specs.Examples.{made, block_of, function_of, s32, use_of, copy_in, copy_out, return_of}
 use Rattle.gi_refine.specs.Lifting.{Placing}
+use Rattle.gi_refine.specs.OnePlace.{OnePlace}
 use Rattle.gi_refine.specs.Replacing.{Replacement}
 
 -- `%d = OP %a, %b`, `%d = G_CONSTANT i32 VALUE`
@@ -43,3 +44,33 @@ subtraction_folded = record {
 
 abbrev pub subtraction_placed : Placing
 subtraction_placed = record { inputs = 0 ∷ []; old = (1 ∷ []) ∷ []; new = (1 ∷ []) ∷ [] }
+
+-- ══ x + 0 ══
+
+-- `%0 = COPY $x10`, `%1 = G_CONSTANT i32 0`
+abbrev pub word_and_zero : List (ℕ × InstrData)
+word_and_zero = copy_in 0 10 s32 ∷ constant_in 1 32 0 s32 ∷ []
+
+-- `%2 = G_ADD %0, %1`, `$x10 = COPY %2`
+abbrev pub adds_zero : FunctionData
+adds_zero = straight (copy_in 0 10 s32 ∷ constant_in 1 32 0 s32 ∷ of_two op.GenericAdd 2 s32 0 1 ∷ copy_out 10 2 ∷ return_of 10 ∷ [])
+
+-- `$x10 = COPY %0` without the sum
+abbrev pub gives_summand : FunctionData
+gives_summand = straight (copy_in 0 10 s32 ∷ constant_in 1 32 0 s32 ∷ copy_out 10 0 ∷ return_of 10 ∷ [])
+
+abbrev pub sum_replaced : OnePlace
+sum_replaced = record {
+  block = 0;
+  before = word_and_zero;
+  old = of_two op.GenericAdd 2 s32 0 1 ∷ [];
+  after = copy_out 10 2 ∷ return_of 10 ∷ [];
+  new_before = word_and_zero;
+  new = [];
+  new_after = copy_out 10 0 ∷ return_of 10 ∷ [];
+  hidden = λ r. r == 2;
+  rename = λ r. if r == 2 then 0 else r;
+}
+
+abbrev pub sum_placed : Placing
+sum_placed = record { inputs = 0 ∷ 1 ∷ []; old = (2 ∷ []) ∷ []; new = [] }
