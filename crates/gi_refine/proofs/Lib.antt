@@ -12,8 +12,10 @@ pub mod Refining
 pub mod RuleSteps
 pub mod RulesUsed
 pub mod Simulating
+pub mod TrialArithmetic
 pub mod TrialReplaced
 pub mod TrialRules
+pub mod TrialRulesMore
 pub mod TrialUses
 pub mod ValuesCertain
 pub mod ValuesFollowed

@@ -1,21 +1,21 @@
 -- A trial rule that replaces the uses of a register, in a whole function.
-use Rattle.std.proofs.Common.{◌≡◌, ℕ, zero, suc, ◌^◌, ◌<◌, ◌==◌, Bool, true, false, cond, List, [], ◌∷◌, ◌++◌, Option, Some, None, slice_get, refl, sym, ap, ◌∙◌, subst}
+use Rattle.std.proofs.Common.{◌≡◌, ℕ, zero, suc, List, [], ◌∷◌, ◌++◌, slice_get, refl, sym, subst}
 use Rattle.std.proofs.lemmas.Nat.{pow_pos}
-use Rattle.gi_mir.specs.Data.{InstrData, BlockData, FunctionData}
+use Rattle.gi_mir.specs.Data.{InstrData}
 use Rattle.gi_mir.specs.Stated.{no_flags}
 use Rattle.gi_meaning.specs.Argument.{Value, Bits}
-use Rattle.gi_meaning.specs.State.{World, IsWorld, State, outside_of, start, Place, Virtual, put}
+use Rattle.gi_meaning.specs.State.{World, IsWorld, State, outside_of, start, Virtual, put}
 use Rattle.gi_meaning.specs.Act.{Results}
-use Rattle.gi_meaning.specs.Runs.{Setting, setting_of, On, Executes}
+use Rattle.gi_meaning.specs.Runs.{Setting, setting_of, On}
 use Rattle.gi_refine.specs.Agreement.{AgreeAt}
-use Rattle.gi_refine.specs.Examples.{names, block_of, s32, copy_in, copy_out, return_of}
-use Rattle.gi_refine.specs.Kept.{HasSameValue, UsesHold, PhisHold, BodyHolds}
-use Rattle.gi_refine.specs.Lifting.{AllShow, IsKnown, AllSame}
-use Rattle.gi_refine.specs.OnePlace.{only_virtual, StaysAt, RewritesOnePlace}
+use Rattle.gi_refine.specs.Examples.{names, block_of}
+use Rattle.gi_refine.specs.Kept.{HasSameValue, UsesHold}
+use Rattle.gi_refine.specs.Lifting.{IsKnown, AllSame}
+use Rattle.gi_refine.specs.OnePlace.{only_virtual, StaysAt}
 use Rattle.gi_refine.specs.Reached.{IsReached}
 use Rattle.gi_refine.specs.Refinement.{IsRefinement}
 use Rattle.gi_refine.specs.RuleUse.{IsRuleUse}
-use Rattle.gi_refine.specs.TrialFunctions.{constant_in, word_and_zero, adds_zero, gives_summand, sum_replaced, sum_placed}
+use Rattle.gi_refine.specs.TrialFunctions.{word_and_zero, adds_zero, gives_summand, sum_replaced, sum_placed}
 use Rattle.gi_refine.specs.TrialRules.{add_zero}
 use Rattle.gi_refine.proofs.Covering.{covered_by, known_at}
 use Rattle.gi_refine.proofs.Doing.{gives_one, does_from, does_next, does_none, DoesAll}

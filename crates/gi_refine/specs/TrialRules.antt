@@ -1,5 +1,5 @@
 -- Rules of several kinds, as values: folds, a use replaced, cheaper operations, widening, narrowing and selection.
-use Rattle.std.specs.Prelude.{ℕ, ◌+◌, [], ◌∷◌}
+use Rattle.std.specs.Prelude.{ℕ, ◌+◌, ◌-◌, ◌^◌, [], ◌∷◌}
 use Rattle.gi_llt.specs.Bits.{wrapped}
 use Rattle.gi_mir.specs.Stated.{no_flags}
 use Rattle.gi_mir.specs.declared.opcode.Opcode.{Opcode}
@@ -73,4 +73,56 @@ select_add_word flags = record {
   old = on_two op.GenericAdd flags 32 0 1 ∷ [];
   new = on_two op.AddWord no_flags 32 0 1 ∷ [];
   kept = (2, 2) ∷ [];
+}
+
+-- ══ Cheaper operations ══
+
+-- a product with a power of two that has no sign is a shift
+abbrev pub multiply_to_shift : Flags → (n k : ℕ) → Rule
+multiply_to_shift flags n k = record {
+  inputs = n ∷ n ∷ [];
+  facts = Defines (constant n (2 ^ k)) (1 ∷ []) ∷ [];
+  old = on_two op.GenericMultiply flags n 0 1 ∷ [];
+  new = constant n k ∷ on_two op.GenericShiftLeft flags n 0 2 ∷ [];
+  kept = (2, 3) ∷ [];
+}
+
+-- a remainder by a power of two is a mask
+abbrev pub remainder_to_mask : (n k : ℕ) → Rule
+remainder_to_mask n k = record {
+  inputs = n ∷ n ∷ [];
+  facts = Defines (constant n (2 ^ k)) (1 ∷ []) ∷ [];
+  old = on_two op.GenericUnsignedRemainder no_flags n 0 1 ∷ [];
+  new = constant n (2 ^ k - 1) ∷ on_two op.GenericAnd no_flags n 0 2 ∷ [];
+  kept = (2, 3) ∷ [];
+}
+
+-- ══ Widening and narrowing ══
+
+-- a sum of n bits by one of y + n bits
+abbrev pub widen_add : Flags → (n y : ℕ) → Rule
+widen_add flags n y = record {
+  inputs = n ∷ n ∷ [];
+  facts = [];
+  old = on_two op.GenericAdd flags n 0 1 ∷ [];
+  new = on_one op.GenericAnyExtend (y + n) 0 ∷ on_one op.GenericAnyExtend (y + n) 1
+      ∷ on_two op.GenericAdd no_flags (y + n) 2 3 ∷ on_one op.GenericTruncate n 4 ∷ [];
+  kept = (2, 5) ∷ [];
+}
+
+-- the two halves of the value at a place
+abbrev pub halves : (n a : ℕ) → Operation
+halves n a = record { op = op.GenericUnmergeValues; flags = no_flags; slots = At a ∷ []; widths = n ∷ n ∷ [] }
+
+-- a sum of 2n bits by sums of halves with a carry
+abbrev pub narrow_add : Flags → (n : ℕ) → Rule
+narrow_add flags n = record {
+  inputs = (n + n) ∷ (n + n) ∷ [];
+  facts = [];
+  old = on_two op.GenericAdd flags (n + n) 0 1 ∷ [];
+  new = halves n 0 ∷ halves n 1
+      ∷ record { op = op.GenericUnsignedAddOverflow; flags = no_flags; slots = At 2 ∷ At 4 ∷ []; widths = n ∷ 1 ∷ [] }
+      ∷ record { op = op.GenericUnsignedAddCarry; flags = no_flags; slots = At 3 ∷ At 5 ∷ At 7 ∷ []; widths = n ∷ 1 ∷ [] }
+      ∷ on_two op.GenericMergeValues no_flags (n + n) 6 8 ∷ [];
+  kept = (2, 10) ∷ [];
 }
