@@ -1,11 +1,12 @@
 -- Numbers under the trial rules.
-use Rattle.std.proofs.Common.{◌≡◌, ℕ, ◌+◌, ◌-◌, ◌*◌, ◌/◌, ◌%◌, ◌^◌, ◌<◌, ◌≤◌, Bool, true, false, refl, sym, ap, ap₂, ◌∙◌, subst, arith}
-use Rattle.std.specs.Prelude.{nat_le}
+use Rattle.gi_meaning.proofs.Numbers.{signed-low, signed-high, unsigned-neg}
+use Rattle.std.proofs.Common.{◌≡◌, ℕ, ◌+◌, ◌-◌, ◌*◌, ◌/◌, ◌%◌, ◌^◌, ◌<◌, ◌≤◌, Bool, true, false, refl, sym, ap, ap₂, ◌∙◌, subst, arith, ⊎_elim}
+use Rattle.std.specs.Prelude.{nat_le, neg_ℤ, pos}
 use Rattle.std.proofs.Math.Nat.{mod-eq_of_lt, mod-add-mod, add-mod-mod, add-mul-mod_self_right, mod-add-div, mul_comm, add-mod_right, mul-one, mul-zero, mul-add, add-zero}
-use Rattle.std.proofs.lemmas.Bool.{leb-true, leb-false}
+use Rattle.std.proofs.lemmas.Bool.{leb-true, leb-false, cases_lt}
 use Rattle.std.proofs.Math.Pow.{mod-mod-pow}
 use Rattle.std.proofs.lemmas.Nat.{pow_pos, pow-add, mod_below, mul-add-lt, div_below}
-use Rattle.gi_llt.specs.Bits.{wrapped}
+use Rattle.gi_llt.specs.Bits.{wrapped, signed, unsigned, sign_extended}
 use Rattle.gi_meaning.specs.Generic.{bit_of}
 
 -- the low bits of a sum are those of the sum of low bits
@@ -43,7 +44,7 @@ sum_of_halves p al ah bl bh c q lo hi low high =
 halves_merge : (p a b c q lo hi : ℕ) → lo < p → hi < p → lo + p * c ≡ a % p + b % p → hi + p * q ≡ a / p + b / p + c → (a + b) % (p * p) ≡ lo + p * hi
 halves_merge p a b c q lo hi low_fits high_fits low high =
     let whole : a + b ≡ (lo + p * hi) + q * (p * p) =
-        ap₂ (λ u v. u + v) (sym (mod-add-div a p)) (sym (mod-add-div b p)) ∙ sum_of_halves p (a % p) (a / p) (b % p) (b / p) c q lo hi low high in
+    ap₂ (λ u v. u + v) (sym (mod-add-div a p)) (sym (mod-add-div b p)) ∙ sum_of_halves p (a % p) (a / p) (b % p) (b / p) c q lo hi low high in
     let fits : lo + p * hi < p * p = omega (arith, mul-add-lt hi p lo p high_fits low_fits, mul_comm p hi) in
     ap (λ t. t % (p * p)) whole ∙ add-mul-mod_self_right (lo + p * hi) q (p * p) ∙ mod-eq_of_lt fits
 
@@ -65,3 +66,21 @@ sum_by_halves n a b a_fits b_fits =
     let high : t % p + p * (t / p) ≡ a / p + b / p + c = mod-add-div t p ∙ ap₂ (λ u v. u + v + c) a_high b_high in
     let merge : (a + b) % (p * p) ≡ s % p + p * (t % p) = halves_merge p a b c (t / p) (s % p) (t % p) (mod_below s p positive) (mod_below t p positive) low high in
     ap (λ u. s % p + p * (t % p + u)) (mul-zero p) ∙ ap (λ u. s % p + p * u) (add-zero (t % p)) ∙ sym merge ∙ ap (λ k. (a + b) % k) (sym square)
+
+-- ══ Words ══
+
+extended_low_below : (v : ℕ) → v < 2 ^ 31 → wrapped 32 (sign_extended 32 64 v) ≡ v
+extended_low_below v low =
+    let whole : wrapped 32 v ≡ v = mod-eq_of_lt (omega (arith, low)) in
+    ap (λ u. wrapped 32 (unsigned 64 (signed 32 u))) whole ∙ ap (λ z. wrapped 32 (unsigned 64 z)) (signed-low 32 v low) ∙ omega (arith, low)
+
+extended_low_above : (v : ℕ) → v < 2 ^ 32 → 2 ^ 31 ≤ v → wrapped 32 (sign_extended 32 64 v) ≡ v
+extended_low_above v fits high =
+    let whole : wrapped 32 v ≡ v = mod-eq_of_lt fits in
+    let size : ℕ = 2 ^ 32 - v in
+    let bits : unsigned 64 (neg_ℤ (pos size)) ≡ 2 ^ 64 - 1 - (size % 2 ^ 64 - 1) = unsigned-neg 64 size (omega (arith, fits, high)) in
+    ap (λ u. wrapped 32 (unsigned 64 (signed 32 u))) whole ∙ ap (λ z. wrapped 32 (unsigned 64 z)) (signed-high 32 v high) ∙ ap (wrapped 32) bits ∙ omega (arith, fits, high)
+
+-- the low 32 bits of a word that they were extended to with their sign
+pub extended_low : (v : ℕ) → v < 2 ^ 32 → wrapped 32 (sign_extended 32 64 v) ≡ v
+extended_low v fits = ⊎_elim (λ low. extended_low_below v low) (λ high. extended_low_above v fits high) (cases_lt v (2 ^ 31))

@@ -13,5 +13,5 @@ pub use laws::{
     same_instruction_follows, whole_runs_follow,
 };
 pub use rewriting::{one_place_follows, replacement_follows};
-pub use trials::trial_rules_hold;
+pub use trials::{trial_rules_hold, trial_uses_refine};
 pub use values::{known_values_follow, rule_use_follows, values_follow};

@@ -1,15 +1,30 @@
-//! Rules of several kinds, sound on values for all widths.
+//! Rules of several kinds, sound on values for all widths, and used in whole functions.
 
-ghost use Rattle.std.specs.Prelude.{ℕ};
+ghost use Rattle.std.specs.Prelude.{ℕ, ◌+◌, ◌<◌};
 ghost use Rattle.gi_mir.specs.declared.operand.Flags.{Flags};
 ghost use Rattle.gi_meaning.specs.State.{World};
-ghost use Rattle.gi_refine.specs.TrialRules.{add_constants, add_zero, select_add, subtract_self};
+ghost use Rattle.gi_refine.specs.Examples.{names};
+ghost use Rattle.gi_refine.specs.Refinement.{IsRefinement};
+ghost use Rattle.gi_refine.specs.TrialFunctions.{adds_zero, gives_summand, gives_zero, subtracts_itself};
+ghost use Rattle.gi_refine.specs.TrialRules.{add_constants, add_zero, multiply_to_shift, narrow_add, remainder_to_mask, select_add, select_add_word, subtract_self, widen_add};
 ghost use Rattle.gi_refine.specs.Values.{IsSound};
 
-/// Each of these rules is sound, at every width and with all flags.
+/// Each of these rules is sound, at every width and with all flags (a product by the power of two that is the sign
+/// aside, whose flags mean another thing as a shift).
 pub fn trial_rules_hold()
     ensures subtract_self { (x : ℕ) (w : World) (flags : Flags) (n : ℕ) → IsSound x w (subtract_self flags n) }
     ensures add_constants { (x : ℕ) (w : World) (flags : Flags) (n a b : ℕ) → IsSound x w (add_constants flags n a b) }
     ensures add_zero { (x : ℕ) (w : World) (flags : Flags) (n : ℕ) → IsSound x w (add_zero flags n) }
+    ensures multiply_to_shift { (x : ℕ) (w : World) (flags : Flags) (n k : ℕ) → k + 1 < n → IsSound x w (multiply_to_shift flags n k) }
+    ensures remainder_to_mask { (x : ℕ) (w : World) (n k : ℕ) → IsSound x w (remainder_to_mask n k) }
+    ensures widen_add { (x : ℕ) (w : World) (flags : Flags) (n y : ℕ) → IsSound x w (widen_add flags n y) }
+    ensures narrow_add { (x : ℕ) (w : World) (flags : Flags) (n : ℕ) → IsSound x w (narrow_add flags n) }
     ensures select_add { (x : ℕ) (w : World) (flags : Flags) → IsSound x w (select_add x flags) }
+    ensures select_add_word { (w : World) (flags : Flags) → IsSound 64 w (select_add_word flags) }
+{}
+
+/// Some of them used in whole functions.
+pub fn trial_uses_refine()
+    ensures folded { IsRefinement 32 names subtracts_itself gives_zero }
+    ensures replaced { IsRefinement 32 names adds_zero gives_summand }
 {}
