@@ -12,6 +12,7 @@ pub mod Refining
 pub mod RuleSteps
 pub mod RulesUsed
 pub mod Simulating
+pub mod StraightUses
 pub mod TrialArithmetic
 pub mod TrialReplaced
 pub mod TrialRules

@@ -23,7 +23,7 @@ use Rattle.gi_refine.proofs.OneBlock.{reached_from_start}
 use Rattle.gi_refine.proofs.OnePlaceFollows.{one_place_refines}
 use Rattle.gi_refine.proofs.RulesUsed.{use_followed}
 use Rattle.gi_refine.proofs.TrialRules.{add_zero_sound, add_zero_certain}
-use Rattle.gi_refine.proofs.TrialUses.{state_is}
+use Rattle.gi_refine.proofs.StraightUses.{state_is}
 use Rattle.gi_refine.proofs.ValuesCertain.{certain_where_reached}
 
 abbrev s : Setting

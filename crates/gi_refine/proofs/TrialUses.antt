@@ -21,20 +21,8 @@ use Rattle.gi_refine.proofs.Doing.{gives_one, does_from, does_next, does_none, D
 use Rattle.gi_refine.proofs.OneBlock.{reached_from_start}
 use Rattle.gi_refine.proofs.RulesUsed.{use_followed}
 use Rattle.gi_refine.proofs.Staying.{replacement_refines}
+use Rattle.gi_refine.proofs.StraightUses.{state_is, straight_refines}
 use Rattle.gi_refine.proofs.TrialRules.{subtract_self_sound}
-
--- ══ Functions of one block ══
-
--- where a run has one way to go, the state that it comes to
-pub state_is : (s : Setting) (w : World) (is : List (ℕ × InstrData)) (state final other : State) → DoesAll s w is state (On final) → Executes s w is state (On other) → other ≡ final
-state_is s w is state final other does run = on_same other final (does.only (On other) run)
-  where
-    on_same : (a b : State) → On a ≡ On b → a ≡ b
-    on_same a b h = cc
-
-no_other_block : (block other : BlockData) (b : ℕ) → (b ≡ 0 → ⊥) → slice_get (block ∷ []) b ≡ Some other → any_touches (λ r. false) (λ q. q) other.instrs ≡ false
-no_other_block block other zero apart h = absurd (apart refl)
-no_other_block block other (suc b) apart h = cc
 
 -- ══ x - x ══
 
@@ -68,17 +56,6 @@ subtraction_used = record {
 }
 
 pub subtraction_refines : IsRefinement 32 names subtracts_itself gives_zero
-subtraction_refines = replacement_refines 32 names subtracts_itself gives_zero subtraction_folded (record {
-  block = block_of [] (copy_in 0 10 s32 ∷ of_two op.GenericSubtract 1 s32 0 0 ∷ copy_out 10 1 ∷ return_of 10 ∷ []);
-  here = refl;
-  instrs = refl;
-  blocks = refl;
-  no_phi = refl;
-  no_new_phi = refl;
-  before_clear = refl;
-  after_clear = refl;
-  others_clear = λ b apart other here. no_other_block _ other b apart here;
-  widths = λ q shown. refl;
-  follows = λ w is_world. use_followed 32 names subtracts_itself gives_zero (λ r. false) (λ w. subtract_self no_flags 32) subtraction_placed 0 (copy_in 0 10 s32 ∷ []) subtraction_folded.old subtraction_folded.new
-      (AgreeAt (setting_of 32 names subtracts_itself) (setting_of 32 names gives_zero) (λ b. only_virtual (λ r. false))) subtraction_used w is_world;
-})
+subtraction_refines =
+    straight_refines 32 names subtraction_folded.before subtraction_folded.old subtraction_folded.new subtraction_folded.after subtraction_folded.hidden (λ w. subtract_self no_flags 32) subtraction_placed
+    (record { used = subtraction_used; no_phi = refl; no_new_phi = refl; before_clear = refl; after_clear = refl; kinds = λ q shown. refl })
