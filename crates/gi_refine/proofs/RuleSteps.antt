@@ -54,7 +54,7 @@ entry_value n a m b h = ap value_of h
 
 -- ══ Words ══
 
-not_below_itself : (x : ℕ) → nat_lt x x ≡ false
+pub not_below_itself : (x : ℕ) → nat_lt x x ≡ false
 not_below_itself x = grind arith
 
 -- a register of a word's width is read as it is

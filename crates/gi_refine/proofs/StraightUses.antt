@@ -1,18 +1,18 @@
 -- A rule used in a function of one block.
-use Rattle.std.proofs.Common.{◌≡◌, ℕ, zero, suc, Bool, true, false, cond, List, [], ◌∷◌, ◌++◌, Option, Some, None, slice_get, refl, sym, ap, ◌∙◌, subst, unwrap_or}
+use Rattle.std.proofs.Common.{◌≡◌, ℕ, zero, suc, Bool, true, false, cond, List, [], ◌∷◌, ◌++◌, Option, Some, None, slice_get, refl, ap, unwrap_or}
 use Rattle.gi_mir.specs.Data.{InstrData, BlockData, FunctionData}
 use Rattle.gi_mir.specs.Registers.{first_there, kind_in_instrs}
 use Rattle.gi_mir.specs.declared.operand.Kind.{Kind}
 use Rattle.gi_mir.specs.declared.operand.Kind.TheVariants.{Class}
-use Rattle.gi_meaning.specs.State.{World, IsWorld, State}
+use Rattle.gi_meaning.specs.State.{World, State}
 use Rattle.gi_meaning.specs.Runs.{Setting, setting_of, width_of_kind, On, Executes, phis_of, after_phis}
 use Rattle.gi_refine.specs.Agreement.{AgreeAt}
 use Rattle.gi_refine.specs.Examples.{block_of}
 use Rattle.gi_refine.specs.Lifting.{Placing}
 use Rattle.gi_refine.specs.OnePlace.{only_virtual}
 use Rattle.gi_refine.specs.Refinement.{IsRefinement}
-use Rattle.gi_refine.specs.Replacing.{Replacement, IsReplaced, any_touches}
-use Rattle.gi_refine.specs.RuleUse.{width_in, IsRuleUse}
+use Rattle.gi_refine.specs.Replacing.{any_touches}
+use Rattle.gi_refine.specs.RuleUse.{IsRuleUse}
 use Rattle.gi_refine.specs.TrialFunctions.{straight}
 use Rattle.gi_refine.specs.Values.{Rule}
 use Rattle.gi_refine.proofs.Doing.{DoesAll}

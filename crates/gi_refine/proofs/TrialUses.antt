@@ -1,26 +1,20 @@
 -- Trial rules used in whole functions.
-use Rattle.std.proofs.Common.{◌≡◌, ℕ, zero, suc, false, List, [], ◌∷◌, Some, slice_get, refl, sym, subst}
-use Rattle.gi_mir.specs.Data.{InstrData, BlockData}
+use Rattle.std.proofs.Common.{◌≡◌, false, [], ◌∷◌, refl, sym, subst}
 use Rattle.gi_mir.specs.Stated.{no_flags}
 use Rattle.gi_meaning.specs.Argument.{Value}
-use Rattle.gi_meaning.specs.State.{World, State, outside_of, start, Virtual, put}
+use Rattle.gi_meaning.specs.State.{State, outside_of, start, Virtual, put}
 use Rattle.gi_meaning.specs.Act.{Results}
-use Rattle.gi_meaning.specs.Runs.{Setting, setting_of, On, Executes}
-use Rattle.gi_refine.specs.Agreement.{AgreeAt}
-use Rattle.gi_refine.specs.Examples.{names, block_of, s32, copy_in, copy_out, return_of}
+use Rattle.gi_meaning.specs.Runs.{Setting, setting_of, On}
+use Rattle.gi_refine.specs.Examples.{names, s32, copy_in}
 use Rattle.gi_refine.specs.Lifting.{IsKnown}
 use Rattle.gi_refine.specs.OnePlace.{only_virtual}
 use Rattle.gi_refine.specs.Refinement.{IsRefinement}
-use Rattle.gi_refine.specs.Replacing.{any_touches}
 use Rattle.gi_refine.specs.RuleUse.{IsRuleUse}
-use Rattle.gi_mir.specs.declared.opcode.Opcode.TheVariants as op
-use Rattle.gi_refine.specs.TrialFunctions.{of_two, subtracts_itself, gives_zero, subtraction_folded, subtraction_placed}
+use Rattle.gi_refine.specs.TrialFunctions.{subtracts_itself, gives_zero, subtraction_folded, subtraction_placed}
 use Rattle.gi_refine.specs.TrialRules.{subtract_self}
 use Rattle.gi_refine.proofs.Covering.{covered_by, known_at}
-use Rattle.gi_refine.proofs.Doing.{gives_one, does_from, does_next, does_none, DoesAll}
+use Rattle.gi_refine.proofs.Doing.{gives_one, does_from, does_next, does_none}
 use Rattle.gi_refine.proofs.OneBlock.{reached_from_start}
-use Rattle.gi_refine.proofs.RulesUsed.{use_followed}
-use Rattle.gi_refine.proofs.Staying.{replacement_refines}
 use Rattle.gi_refine.proofs.StraightUses.{state_is, straight_refines}
 use Rattle.gi_refine.proofs.TrialRules.{subtract_self_sound}
 

@@ -1,5 +1,7 @@
 -- Small functions and what rules make of them.
-use Rattle.std.specs.Prelude.{ℕ, ◌==◌, if◌then◌else◌, List, [], ◌∷◌, None, false}
+use Rattle.gi_llt.specs.declared.Llt.TheVariants.{Scalar}
+use Rattle.gi_mir.specs.declared.operand.Kind.TheVariants.{Generic}
+use Rattle.std.specs.Prelude.{ℕ, ◌==◌, if◌then◌else◌, List, [], ◌∷◌, None, false, ◌++◌, ◌||◌, Bool}
 use Rattle.gi_mir.specs.Data.{InstrData, FunctionData}
 use Rattle.gi_mir.specs.Stated.{reg_of}
 use Rattle.gi_mir.specs.declared.opcode.Opcode.{Opcode}
@@ -74,3 +76,48 @@ sum_replaced = record {
 
 abbrev pub sum_placed : Placing
 sum_placed = record { inputs = 0 ∷ 1 ∷ []; old = (2 ∷ []) ∷ []; new = [] }
+
+-- ══ A sum of parts of words ══
+
+-- `%d = OP %a`
+abbrev pub of_one : Opcode → (d : ℕ) → Kind → (a : ℕ) → ℕ × InstrData
+of_one op d kind a = made op (Def (reg_of d) kind ∷ use_of a ∷ []) None
+
+abbrev pub bits : ℕ → Kind
+bits n = Generic (Scalar n)
+
+-- the low n bits of the words in x10 and x11, in %2 and %3
+abbrev pub two_parts : (x n : ℕ) → List (ℕ × InstrData)
+two_parts x n =
+    copy_in 0 10 (bits x) ∷ copy_in 1 11 (bits x) ∷ of_one op.GenericTruncate 2 (bits n) 0 ∷ of_one op.GenericTruncate 3 (bits n) 1 ∷ []
+
+-- `%5 = G_ANYEXT %4`, `$x10 = COPY %5`
+abbrev pub part_returned : (x : ℕ) → List (ℕ × InstrData)
+part_returned x = of_one op.GenericAnyExtend 5 (bits x) 4 ∷ copy_out 10 5 ∷ return_of 10 ∷ []
+
+-- `%4 = G_ADD %2, %3`
+abbrev pub sum_of_parts : (n : ℕ) → List (ℕ × InstrData)
+sum_of_parts n = of_two op.GenericAdd 4 (bits n) 2 3 ∷ []
+
+-- the sum of the parts extended to words, truncated
+abbrev pub wide_sum : (x n : ℕ) → List (ℕ × InstrData)
+wide_sum x n =
+    of_one op.GenericAnyExtend 6 (bits x) 2 ∷ of_one op.GenericAnyExtend 7 (bits x) 3
+    ∷ of_two op.GenericAdd 8 (bits x) 6 7 ∷ of_one op.GenericTruncate 4 (bits n) 8 ∷ []
+
+-- `%4 = ADDW %2, %3`
+abbrev pub word_sum : List (ℕ × InstrData)
+word_sum = of_two op.AddWord 4 (bits 32) 2 3 ∷ []
+
+-- between the parts and what is returned
+abbrev pub on_parts : (x n : ℕ) → List (ℕ × InstrData) → FunctionData
+on_parts x n is = straight (two_parts x n ++ (is ++ part_returned x))
+
+abbrev pub wide_hidden : ℕ → Bool
+wide_hidden r = (6 == r) || (7 == r) || (8 == r)
+
+abbrev pub wide_placed : Placing
+wide_placed = record { inputs = 2 ∷ 3 ∷ []; old = (4 ∷ []) ∷ []; new = (6 ∷ []) ∷ (7 ∷ []) ∷ (8 ∷ []) ∷ (4 ∷ []) ∷ [] }
+
+abbrev pub word_placed : Placing
+word_placed = record { inputs = 2 ∷ 3 ∷ []; old = (4 ∷ []) ∷ []; new = (4 ∷ []) ∷ [] }
