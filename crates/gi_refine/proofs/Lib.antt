@@ -14,6 +14,7 @@ pub mod RulesUsed
 pub mod Simulating
 pub mod StraightUses
 pub mod TrialArithmetic
+pub mod TrialDoubles
 pub mod TrialParts
 pub mod TrialReplaced
 pub mod TrialRules

@@ -37,7 +37,7 @@ equal_to_itself x = eq-eqb x x refl
 copied_whole : (x v : ℕ) → copied x x v ≡ one v
 copied_whole x v = ap (λ b. cond b (LowBits x x v) (cond (x == x) (one v) (one (wrapped x v)))) (not_below_itself x) ∙ ap (λ b. cond b (one v) (one (wrapped x v))) (equal_to_itself x)
 
-copies_so : (x : ℕ) (w : World) (v : ℕ) (outside : Outside) → ActsSo x w Copying None (x ∷ []) (Value x v ∷ []) outside (Results (v ∷ []) outside)
+pub copies_so : (x : ℕ) (w : World) (v : ℕ) (outside : Outside) → ActsSo x w Copying None (x ∷ []) (Value x v ∷ []) outside (Results (v ∷ []) outside)
 copies_so x w v outside = record {
   can = subst (λ g. Answers g outside (Results (v ∷ []) outside)) (sym (copied_whole x v)) (v ∷ [], refl, refl);
   only = λ other act. gives_one v outside other (subst (λ g. Answers g outside other) (copied_whole x v) act);

@@ -1,13 +1,14 @@
 -- Small functions and what rules make of them.
+use Rattle.gi_mir.specs.declared.operand.Operand.{Operand}
 use Rattle.gi_llt.specs.declared.Llt.TheVariants.{Scalar}
 use Rattle.gi_mir.specs.declared.operand.Kind.TheVariants.{Generic}
-use Rattle.std.specs.Prelude.{ℕ, ◌==◌, if◌then◌else◌, List, [], ◌∷◌, None, false, ◌++◌, ◌||◌, Bool}
+use Rattle.std.specs.Prelude.{ℕ, ◌==◌, if◌then◌else◌, List, [], ◌∷◌, None, false, ◌++◌, ◌||◌, Bool, ◌+◌}
 use Rattle.gi_mir.specs.Data.{InstrData, FunctionData}
 use Rattle.gi_mir.specs.Stated.{reg_of}
 use Rattle.gi_mir.specs.declared.opcode.Opcode.{Opcode}
 use Rattle.gi_mir.specs.declared.opcode.Opcode.TheVariants as op
 use Rattle.gi_mir.specs.declared.operand.Kind.{Kind}
-use Rattle.gi_mir.specs.declared.operand.Operand.TheVariants.{Def, Constant}
+use Rattle.gi_mir.specs.declared.operand.Operand.TheVariants.{Def, Constant, ImplicitUse}
 use Rattle.gi_refine.specs.Examples.{made, block_of, function_of, s32, use_of, copy_in, copy_out, return_of}
 use Rattle.gi_refine.specs.Lifting.{Placing}
 use Rattle.gi_refine.specs.OnePlace.{OnePlace}
@@ -121,3 +122,51 @@ wide_placed = record { inputs = 2 ∷ 3 ∷ []; old = (4 ∷ []) ∷ []; new = (
 
 abbrev pub word_placed : Placing
 word_placed = record { inputs = 2 ∷ 3 ∷ []; old = (4 ∷ []) ∷ []; new = (4 ∷ []) ∷ [] }
+
+-- ══ A sum of two words each ══
+
+-- `%d, %e = OP ..`
+abbrev pub of_pair : Opcode → (d e : ℕ) → Kind → Kind → List Operand → ℕ × InstrData
+of_pair op d e kind other uses = made op (Def (reg_of d) kind ∷ Def (reg_of e) other ∷ uses) None
+
+-- the words in x10 to x13, merged two by two in %4 and %5
+abbrev pub two_doubles : (x : ℕ) → List (ℕ × InstrData)
+two_doubles x =
+    copy_in 0 10 (bits x) ∷ copy_in 1 11 (bits x) ∷ copy_in 2 12 (bits x) ∷ copy_in 3 13 (bits x)
+    ∷ of_two op.GenericMergeValues 4 (bits (x + x)) 0 1 ∷ of_two op.GenericMergeValues 5 (bits (x + x)) 2 3 ∷ []
+
+-- the halves of %6 in x10 and x11
+abbrev pub double_returned : (x : ℕ) → List (ℕ × InstrData)
+double_returned x =
+    of_pair op.GenericUnmergeValues 7 8 (bits x) (bits x) (use_of 6 ∷ [])
+    ∷ copy_out 10 7 ∷ copy_out 11 8 ∷ made op.PseudoReturn (ImplicitUse 10 ∷ ImplicitUse 11 ∷ []) None ∷ []
+
+-- `%6 = G_ADD %4, %5`
+abbrev pub sum_of_doubles : (x : ℕ) → List (ℕ × InstrData)
+sum_of_doubles x = of_two op.GenericAdd 6 (bits (x + x)) 4 5 ∷ []
+
+-- the sum by halves, with a carry
+abbrev pub sum_by_words : (x : ℕ) → List (ℕ × InstrData)
+sum_by_words x =
+    of_pair op.GenericUnmergeValues 9 10 (bits x) (bits x) (use_of 4 ∷ [])
+    ∷ of_pair op.GenericUnmergeValues 11 12 (bits x) (bits x) (use_of 5 ∷ [])
+    ∷ of_pair op.GenericUnsignedAddOverflow 13 14 (bits x) (bits 1) (use_of 9 ∷ use_of 11 ∷ [])
+    ∷ of_pair op.GenericUnsignedAddCarry 15 16 (bits x) (bits 1) (use_of 10 ∷ use_of 12 ∷ use_of 14 ∷ [])
+    ∷ of_two op.GenericMergeValues 6 (bits (x + x)) 13 15 ∷ []
+
+abbrev pub on_doubles : (x : ℕ) → List (ℕ × InstrData) → FunctionData
+on_doubles x is = straight (two_doubles x ++ (is ++ double_returned x))
+
+abbrev pub is_one_of : List ℕ → ℕ → Bool
+is_one_of [] q = false
+is_one_of (r ∷ rs) q = (r == q) || is_one_of rs q
+
+abbrev pub word_registers : List ℕ
+word_registers = 9 ∷ 10 ∷ 11 ∷ 12 ∷ 13 ∷ 14 ∷ 15 ∷ 16 ∷ []
+
+abbrev pub double_placed : Placing
+double_placed = record {
+  inputs = 4 ∷ 5 ∷ [];
+  old = (6 ∷ []) ∷ [];
+  new = (9 ∷ 10 ∷ []) ∷ (11 ∷ 12 ∷ []) ∷ (13 ∷ 14 ∷ []) ∷ (15 ∷ 16 ∷ []) ∷ (6 ∷ []) ∷ [];
+}

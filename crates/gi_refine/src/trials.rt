@@ -5,7 +5,7 @@ ghost use Rattle.gi_mir.specs.declared.operand.Flags.{Flags};
 ghost use Rattle.gi_meaning.specs.State.{World};
 ghost use Rattle.gi_refine.specs.Examples.{names};
 ghost use Rattle.gi_refine.specs.Refinement.{IsRefinement};
-ghost use Rattle.gi_refine.specs.TrialFunctions.{adds_zero, gives_summand, gives_zero, subtracts_itself};
+ghost use Rattle.gi_refine.specs.TrialFunctions.{adds_zero, gives_summand, gives_zero, on_doubles, on_parts, subtracts_itself, sum_by_words, sum_of_doubles, sum_of_parts, wide_sum, word_sum};
 ghost use Rattle.gi_refine.specs.TrialRules.{add_constants, add_zero, multiply_to_shift, narrow_add, remainder_to_mask, select_add, select_add_word, subtract_self, widen_add};
 ghost use Rattle.gi_refine.specs.Values.{IsSound};
 
@@ -27,4 +27,9 @@ pub fn trial_rules_hold()
 pub fn trial_uses_refine()
     ensures folded { IsRefinement 32 names subtracts_itself gives_zero }
     ensures replaced { IsRefinement 32 names adds_zero gives_summand }
+    // A sum of n bits by one of words of y + n bits, and one of twice a word's bits by sums of words.
+    ensures widened { (n y : ℕ) → IsRefinement (y + n) names (on_parts (y + n) n (sum_of_parts n)) (on_parts (y + n) n (wide_sum (y + n) n)) }
+    ensures narrowed { (x : ℕ) → IsRefinement x names (on_doubles x (sum_of_doubles x)) (on_doubles x (sum_by_words x)) }
+    // A sum of 32 bits on RV64 by ADDW.
+    ensures selected { IsRefinement 64 names (on_parts 64 32 (sum_of_parts 32)) (on_parts 64 32 word_sum) }
 {}
