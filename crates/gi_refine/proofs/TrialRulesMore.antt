@@ -95,8 +95,8 @@ pub narrow_add_sound : (x : ℕ) (w : World) (flags : Flags) (n : ℕ) → IsSou
 narrow_add_sound x w flags n = record {
   by = λ outside a a_fits b b_fits facts made makes.
       let m : ℕ = n + n in
-      let add_high : Operation = record { op = op.GenericUnsignedAddCarry; flags = no_flags; slots = At 3 ∷ At 5 ∷ At 7 ∷ []; widths = n ∷ 1 ∷ [] } in
-      let add_low : Operation = record { op = op.GenericUnsignedAddOverflow; flags = no_flags; slots = At 2 ∷ At 4 ∷ []; widths = n ∷ 1 ∷ [] } in
+      let add_high : Operation = record { op = op.GenericUnsignedAddCarry; flags = no_flags; slots = At 3 ∷ At 5 ∷ At 7 ∷ []; mem = None; widths = n ∷ 1 ∷ [] } in
+      let add_low : Operation = record { op = op.GenericUnsignedAddOverflow; flags = no_flags; slots = At 2 ∷ At 4 ∷ []; mem = None; widths = n ∷ 1 ∷ [] } in
       let merge : Operation = on_two op.GenericMergeValues no_flags m 6 8 in
       let al : ℕ = a % 2 ^ n in
       let ah : ℕ = a / 2 ^ n % 2 ^ n in

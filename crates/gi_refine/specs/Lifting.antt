@@ -44,7 +44,7 @@ ShowsOperands s w registers (r ∷ rs) slots _ = ⊥
 pub record Shows (s : Setting) (w : World) (registers results : List ℕ) (o : Operation) (i : InstrData) : Type 0 where
   pub op : i.op ≡ o.op
   pub flags : i.flags ≡ o.flags
-  pub mem : i.mem ≡ None
+  pub mem : i.mem ≡ o.mem
   pub operands : ShowsOperands s w registers results o.slots i.operands
   pub widths : map s.width results ≡ o.widths
 

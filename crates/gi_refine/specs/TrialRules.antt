@@ -1,5 +1,5 @@
 -- Rules of several kinds, as values: folds, a use replaced, cheaper operations, widening, narrowing and selection.
-use Rattle.std.specs.Prelude.{ℕ, ◌+◌, ◌-◌, ◌^◌, [], ◌∷◌}
+use Rattle.std.specs.Prelude.{ℕ, ◌+◌, ◌-◌, ◌^◌, [], ◌∷◌, None}
 use Rattle.gi_llt.specs.Bits.{wrapped}
 use Rattle.gi_mir.specs.Stated.{no_flags}
 use Rattle.gi_mir.specs.declared.opcode.Opcode.{Opcode}
@@ -11,14 +11,14 @@ use Rattle.gi_refine.specs.Values.{At, Fixed, Operation, Defines, Rule}
 -- ══ Operations ══
 
 abbrev pub constant : (n value : ℕ) → Operation
-constant n value = record { op = op.GenericConstant; flags = no_flags; slots = Fixed (Bits n value) ∷ []; widths = n ∷ [] }
+constant n value = record { op = op.GenericConstant; flags = no_flags; slots = Fixed (Bits n value) ∷ []; mem = None; widths = n ∷ [] }
 
 -- on the values at one place, and at two
 abbrev pub on_one : Opcode → (n a : ℕ) → Operation
-on_one op n a = record { op = op; flags = no_flags; slots = At a ∷ []; widths = n ∷ [] }
+on_one op n a = record { op = op; flags = no_flags; slots = At a ∷ []; mem = None; widths = n ∷ [] }
 
 abbrev pub on_two : Opcode → Flags → (n a b : ℕ) → Operation
-on_two op flags n a b = record { op = op; flags = flags; slots = At a ∷ At b ∷ []; widths = n ∷ [] }
+on_two op flags n a b = record { op = op; flags = flags; slots = At a ∷ At b ∷ []; mem = None; widths = n ∷ [] }
 
 -- ══ Folds, and a use replaced ══
 
@@ -112,7 +112,7 @@ widen_add flags n y = record {
 
 -- the two halves of the value at a place
 abbrev pub halves : (n a : ℕ) → Operation
-halves n a = record { op = op.GenericUnmergeValues; flags = no_flags; slots = At a ∷ []; widths = n ∷ n ∷ [] }
+halves n a = record { op = op.GenericUnmergeValues; flags = no_flags; slots = At a ∷ []; mem = None; widths = n ∷ n ∷ [] }
 
 -- a sum of 2n bits by sums of halves with a carry
 abbrev pub narrow_add : Flags → (n : ℕ) → Rule
@@ -121,8 +121,8 @@ narrow_add flags n = record {
   facts = [];
   old = on_two op.GenericAdd flags (n + n) 0 1 ∷ [];
   new = halves n 0 ∷ halves n 1
-      ∷ record { op = op.GenericUnsignedAddOverflow; flags = no_flags; slots = At 2 ∷ At 4 ∷ []; widths = n ∷ 1 ∷ [] }
-      ∷ record { op = op.GenericUnsignedAddCarry; flags = no_flags; slots = At 3 ∷ At 5 ∷ At 7 ∷ []; widths = n ∷ 1 ∷ [] }
+      ∷ record { op = op.GenericUnsignedAddOverflow; flags = no_flags; slots = At 2 ∷ At 4 ∷ []; mem = None; widths = n ∷ 1 ∷ [] }
+      ∷ record { op = op.GenericUnsignedAddCarry; flags = no_flags; slots = At 3 ∷ At 5 ∷ At 7 ∷ []; mem = None; widths = n ∷ 1 ∷ [] }
       ∷ on_two op.GenericMergeValues no_flags (n + n) 6 8 ∷ [];
   kept = (2, 10) ∷ [];
 }
