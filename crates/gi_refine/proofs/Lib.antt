@@ -15,6 +15,7 @@ pub mod Simulating
 pub mod StraightUses
 pub mod TrialArithmetic
 pub mod TrialDoubles
+pub mod TrialLoads
 pub mod TrialParts
 pub mod TrialReplaced
 pub mod TrialRules

@@ -1,12 +1,13 @@
 -- Rules of several kinds, as values: folds, a use replaced, cheaper operations, widening, narrowing and selection.
-use Rattle.std.specs.Prelude.{ℕ, ◌+◌, ◌-◌, ◌^◌, [], ◌∷◌, None}
+use Rattle.gi_llt.specs.declared.Llt.TheVariants.{Scalar}
+use Rattle.std.specs.Prelude.{ℕ, ◌+◌, ◌-◌, ◌^◌, [], ◌∷◌, None, Some, true}
 use Rattle.gi_llt.specs.Bits.{wrapped}
 use Rattle.gi_mir.specs.Stated.{no_flags}
 use Rattle.gi_mir.specs.declared.opcode.Opcode.{Opcode}
 use Rattle.gi_mir.specs.declared.opcode.Opcode.TheVariants as op
 use Rattle.gi_mir.specs.declared.operand.Flags.{Flags}
 use Rattle.gi_meaning.specs.Argument.{Bits}
-use Rattle.gi_refine.specs.Values.{At, Fixed, Operation, Defines, Rule}
+use Rattle.gi_refine.specs.Values.{At, Fixed, Operation, Defines, Rule, HoldsBytes}
 
 -- ══ Operations ══
 
@@ -125,4 +126,28 @@ narrow_add flags n = record {
       ∷ record { op = op.GenericUnsignedAddCarry; flags = no_flags; slots = At 3 ∷ At 5 ∷ At 7 ∷ []; mem = None; widths = n ∷ 1 ∷ [] }
       ∷ on_two op.GenericMergeValues no_flags (n + n) 6 8 ∷ [];
   kept = (2, 10) ∷ [];
+}
+
+-- ══ A load by bytes ══
+
+-- a load of so many bits, from any address, into n bits
+abbrev pub load_of : Opcode → (n size a : ℕ) → Operation
+load_of op n size a = record {
+  op = op;
+  flags = no_flags;
+  slots = At a ∷ [];
+  mem = Some (record { load = true; ty = Scalar size; align = 1 });
+  widths = n ∷ [];
+}
+
+-- a load of 16 bits from any address is two of 8 bits, a shift and an or
+abbrev pub split_load : (x : ℕ) → Rule
+split_load x = record {
+  inputs = x ∷ [];
+  facts = HoldsBytes ∷ [];
+  old = load_of op.GenericLoad 32 16 0 ∷ [];
+  new = load_of op.GenericZeroExtendLoad 32 8 0
+      ∷ constant x 1 ∷ on_two op.GenericPointerAdd no_flags x 0 2 ∷ load_of op.GenericLoad 32 8 3
+      ∷ constant 32 8 ∷ on_two op.GenericShiftLeft no_flags 32 4 5 ∷ on_two op.GenericOr no_flags 32 6 1 ∷ [];
+  kept = (1, 7) ∷ [];
 }
