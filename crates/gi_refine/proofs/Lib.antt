@@ -14,6 +14,7 @@ pub mod RulesUsed
 pub mod Simulating
 pub mod StraightUses
 pub mod TrialArithmetic
+pub mod TrialBytes
 pub mod TrialDoubles
 pub mod TrialLoads
 pub mod TrialParts

@@ -114,7 +114,7 @@ double_used x = record {
   known = doubles_known x;
 }
 
-not_one_of : (rs : List ℕ) (q k r : ℕ) → is_one_of rs q ≡ false → slice_get rs k ≡ Some r → (r == q) ≡ false
+pub not_one_of : (rs : List ℕ) (q k r : ℕ) → is_one_of rs q ≡ false → slice_get rs k ≡ Some r → (r == q) ≡ false
 not_one_of [] q k r none here = cc
 not_one_of (p ∷ rs) q zero r none here = subst (λ t. (t == q) ≡ false) (unwrapped p r here) (or_left (p == q) (is_one_of rs q) none)
   where

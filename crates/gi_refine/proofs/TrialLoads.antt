@@ -78,7 +78,7 @@ both_bytes x w outside a low high made is_low is_high fits makes =
     let env_3 : Environment = (x, a) ∷ (32, l) ∷ (x, 1) ∷ (x, next) ∷ [] in
     let next_byte : memory (wrapped x next) ≡ Some high = ap memory (mod-mod (a + 1) (2 ^ x)) ∙ is_high in
     let second : OneOf 8 (high + 256 * 0) outside more_3.0 =
-        from_low_bits 8 32 (high + 256 * 0) outside more_3.0 (subst (λ g. Answers g outside more_3.0) (one_byte x 32 Anything memory next (Some high) next_byte) more_3.1) in
+    from_low_bits 8 32 (high + 256 * 0) outside more_3.0 (subst (λ g. Answers g outside more_3.0) (one_byte x 32 Anything memory next (Some high) next_byte) more_3.1) in
     let f : ℕ = second.result in
     let more_4 : Makes x w outside rest_4 (env_3 ++ (32, f) ∷ []) made = after_one f 32 outside more_3.0 env_3 (Makes x w outside rest_4) made second.is more_3.2 in
     let env_4 : Environment = (x, a) ∷ (32, l) ∷ (x, 1) ∷ (x, next) ∷ (32, f) ∷ [] in

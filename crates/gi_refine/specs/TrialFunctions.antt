@@ -1,8 +1,8 @@
 -- Small functions and what rules make of them.
 use Rattle.gi_mir.specs.declared.operand.Operand.{Operand}
-use Rattle.gi_llt.specs.declared.Llt.TheVariants.{Scalar}
+use Rattle.gi_llt.specs.declared.Llt.TheVariants.{Scalar, Pointer}
 use Rattle.gi_mir.specs.declared.operand.Kind.TheVariants.{Generic}
-use Rattle.std.specs.Prelude.{ℕ, ◌==◌, if◌then◌else◌, List, [], ◌∷◌, None, false, ◌++◌, ◌||◌, Bool, ◌+◌}
+use Rattle.std.specs.Prelude.{ℕ, ◌==◌, if◌then◌else◌, List, [], ◌∷◌, None, false, ◌++◌, ◌||◌, Bool, ◌+◌, Some, true}
 use Rattle.gi_mir.specs.Data.{InstrData, FunctionData}
 use Rattle.gi_mir.specs.Stated.{reg_of}
 use Rattle.gi_mir.specs.declared.opcode.Opcode.{Opcode}
@@ -169,4 +169,38 @@ double_placed = record {
   inputs = 4 ∷ 5 ∷ [];
   old = (6 ∷ []) ∷ [];
   new = (9 ∷ 10 ∷ []) ∷ (11 ∷ 12 ∷ []) ∷ (13 ∷ 14 ∷ []) ∷ (15 ∷ 16 ∷ []) ∷ (6 ∷ []) ∷ [];
+}
+
+-- ══ A load by bytes ══
+
+-- `%d = OP %a :: (load (sSIZE), align 1)`
+abbrev pub load_in : Opcode → (d n size a : ℕ) → ℕ × InstrData
+load_in op d n size a = made op (Def (reg_of d) (bits n) ∷ use_of a ∷ []) (Some (record { load = true; ty = Scalar size; align = 1 }))
+
+-- the address in x10, in %0
+abbrev pub address_in : List (ℕ × InstrData)
+address_in = copy_in 0 10 (Generic Pointer) ∷ []
+
+-- a load of 16 bits from any address
+abbrev pub half_loaded : List (ℕ × InstrData)
+half_loaded = load_in op.GenericLoad 1 32 16 0 ∷ []
+
+-- two loads of 8 bits, a shift and an or
+abbrev pub bytes_loaded : (x : ℕ) → List (ℕ × InstrData)
+bytes_loaded x =
+    load_in op.GenericZeroExtendLoad 2 32 8 0
+    ∷ constant_in 3 x 1 (bits x) ∷ of_two op.GenericPointerAdd 4 (Generic Pointer) 0 3 ∷ load_in op.GenericLoad 5 32 8 4
+    ∷ constant_in 6 32 8 s32 ∷ of_two op.GenericShiftLeft 7 s32 5 6 ∷ of_two op.GenericOr 1 s32 7 2 ∷ []
+
+abbrev pub on_address : List (ℕ × InstrData) → FunctionData
+on_address is = straight (address_in ++ (is ++ (copy_out 10 1 ∷ return_of 10 ∷ [])))
+
+abbrev pub byte_registers : List ℕ
+byte_registers = 2 ∷ 3 ∷ 4 ∷ 5 ∷ 6 ∷ 7 ∷ []
+
+abbrev pub bytes_placed : Placing
+bytes_placed = record {
+  inputs = 0 ∷ [];
+  old = (1 ∷ []) ∷ [];
+  new = (2 ∷ []) ∷ (3 ∷ []) ∷ (4 ∷ []) ∷ (5 ∷ []) ∷ (6 ∷ []) ∷ (7 ∷ []) ∷ (1 ∷ []) ∷ [];
 }

@@ -5,8 +5,8 @@ ghost use Rattle.gi_mir.specs.declared.operand.Flags.{Flags};
 ghost use Rattle.gi_meaning.specs.State.{World};
 ghost use Rattle.gi_refine.specs.Examples.{names};
 ghost use Rattle.gi_refine.specs.Refinement.{IsRefinement};
-ghost use Rattle.gi_refine.specs.TrialFunctions.{adds_zero, gives_summand, gives_zero, on_doubles, on_parts, subtracts_itself, sum_by_words, sum_of_doubles, sum_of_parts, wide_sum, word_sum};
-ghost use Rattle.gi_refine.specs.TrialRules.{add_constants, add_zero, multiply_to_shift, narrow_add, remainder_to_mask, select_add, select_add_word, subtract_self, widen_add};
+ghost use Rattle.gi_refine.specs.TrialFunctions.{adds_zero, bytes_loaded, gives_summand, gives_zero, half_loaded, on_address, on_doubles, on_parts, subtracts_itself, sum_by_words, sum_of_doubles, sum_of_parts, wide_sum, word_sum};
+ghost use Rattle.gi_refine.specs.TrialRules.{add_constants, add_zero, multiply_to_shift, narrow_add, remainder_to_mask, select_add, select_add_word, split_load, subtract_self, widen_add};
 ghost use Rattle.gi_refine.specs.Values.{IsSound};
 
 /// Each of these rules is sound, at every width and with all flags (a product by the power of two that is the sign
@@ -19,6 +19,7 @@ pub fn trial_rules_hold()
     ensures remainder_to_mask { (x : ℕ) (w : World) (n k : ℕ) → IsSound x w (remainder_to_mask n k) }
     ensures widen_add { (x : ℕ) (w : World) (flags : Flags) (n y : ℕ) → IsSound x w (widen_add flags n y) }
     ensures narrow_add { (x : ℕ) (w : World) (flags : Flags) (n : ℕ) → IsSound x w (narrow_add flags n) }
+    ensures split_load { (x : ℕ) (w : World) → IsSound x w (split_load x) }
     ensures select_add { (x : ℕ) (w : World) (flags : Flags) → IsSound x w (select_add x flags) }
     ensures select_add_word { (w : World) (flags : Flags) → IsSound 64 w (select_add_word flags) }
 {}
@@ -32,4 +33,6 @@ pub fn trial_uses_refine()
     ensures narrowed { (x : ℕ) → IsRefinement x names (on_doubles x (sum_of_doubles x)) (on_doubles x (sum_by_words x)) }
     // A sum of 32 bits on RV64 by ADDW.
     ensures selected { IsRefinement 64 names (on_parts 64 32 (sum_of_parts 32)) (on_parts 64 32 word_sum) }
+    // A load of 16 bits from any address by two loads of bytes.
+    ensures split { (x : ℕ) → IsRefinement x names (on_address half_loaded) (on_address (bytes_loaded x)) }
 {}

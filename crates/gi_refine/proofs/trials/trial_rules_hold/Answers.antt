@@ -1,3 +1,4 @@
+use Rattle.gi_refine.proofs.TrialLoads.{split_load_sound}
 use Rattle.gi_refine.proofs.TrialRules.{subtract_self_sound, add_constants_sound, add_zero_sound, select_add_sound}
 use Rattle.gi_refine.proofs.TrialRulesMore.{multiply_to_shift_sound, remainder_to_mask_sound, widen_add_sound, narrow_add_sound, select_add_word_sound}
 use Rattle.gi_refine.proofs.trials.trial_rules_hold.Goals as goal
@@ -11,6 +12,7 @@ returns c = record {
   remainder_to_mask = remainder_to_mask_sound;
   widen_add = widen_add_sound;
   narrow_add = narrow_add_sound;
+  split_load = split_load_sound;
   select_add = select_add_sound;
   select_add_word = select_add_word_sound;
 }

@@ -1,3 +1,4 @@
+use Rattle.gi_refine.proofs.TrialBytes.{bytes_refine}
 use Rattle.gi_refine.proofs.TrialDoubles.{narrowing_refines}
 use Rattle.gi_refine.proofs.TrialParts.{widening_refines, selection_refines}
 use Rattle.gi_refine.proofs.TrialReplaced.{sum_refines}
@@ -11,4 +12,5 @@ returns c = record {
   widened = widening_refines;
   narrowed = narrowing_refines;
   selected = selection_refines;
+  split = bytes_refine;
 }
