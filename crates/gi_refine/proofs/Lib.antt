@@ -1,6 +1,7 @@
 pub mod Agreeing
 pub mod CallRuns
 pub mod Covering
+pub mod Classed
 pub mod Doing
 pub mod ExampleRuns
 pub mod Failing
@@ -26,4 +27,10 @@ pub mod ValuesCertain
 pub mod ValuesFollowed
 pub mod ValuesPlaced
 pub mod ValuesThere
+pub mod RewritingFollows
+pub mod SameBlocks
+pub mod Simulating
+pub mod Sized
 pub mod Staying
+pub mod Targets
+pub mod Wording

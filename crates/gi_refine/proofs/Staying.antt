@@ -15,7 +15,7 @@ use Rattle.gi_refine.proofs.OnePlaceFollows.{one_place_refines}
 
 -- ══ Nothing renamed ══
 
-same_uses : (os : List Operand) → map (reused_operand (λ r. r)) os ≡ os
+pub same_uses : (os : List Operand) → map (reused_operand (λ r. r)) os ≡ os
 same_uses [] = refl
 same_uses (operand.Use r ∷ os) = ap (λ ps. operand.Use r ∷ ps) (same_uses os)
 same_uses (operand.Def r k ∷ os) = ap (λ ps. operand.Def r k ∷ ps) (same_uses os)

@@ -12,3 +12,6 @@ pub mod Simulation
 pub mod TrialFunctions
 pub mod TrialRules
 pub mod Values
+pub mod Rewriting
+pub mod Simulation
+pub mod Worded

@@ -6,12 +6,16 @@ mod laws;
 mod rewriting;
 mod trials;
 mod values;
+mod words;
 
 pub use examples::examples_come_to;
 pub use laws::{
     may_fail_is_failing, pieces_follow, refinement_is_reflexive, refinement_is_transitive,
     same_instruction_follows, whole_runs_follow,
 };
-pub use rewriting::{one_place_follows, replacement_follows};
+pub use rewriting::{
+    one_place_follows, replacement_follows, rewriting_follows, same_blocks_follow,
+};
 pub use trials::{trial_rules_hold, trial_uses_refine};
 pub use values::{known_values_follow, rule_use_follows, values_follow};
+pub use words::{classed_function_refines, words_follow};
