@@ -1,7 +1,7 @@
 pub mod Agreeing
 pub mod CallRuns
-pub mod Covering
 pub mod Classed
+pub mod Covering
 pub mod Doing
 pub mod ExampleRuns
 pub mod Failing
@@ -10,10 +10,15 @@ pub mod OneBlock
 pub mod OnePlaceFollows
 pub mod Reaching
 pub mod Refining
+pub mod RewritingFollows
 pub mod RuleSteps
 pub mod RulesUsed
+pub mod SameBlocks
 pub mod Simulating
+pub mod Sized
+pub mod Staying
 pub mod StraightUses
+pub mod Targets
 pub mod TrialArithmetic
 pub mod TrialBytes
 pub mod TrialDoubles
@@ -27,10 +32,4 @@ pub mod ValuesCertain
 pub mod ValuesFollowed
 pub mod ValuesPlaced
 pub mod ValuesThere
-pub mod RewritingFollows
-pub mod SameBlocks
-pub mod Simulating
-pub mod Sized
-pub mod Staying
-pub mod Targets
 pub mod Wording
