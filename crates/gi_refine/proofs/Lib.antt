@@ -5,6 +5,7 @@ pub mod Covering
 pub mod Doing
 pub mod ExampleRuns
 pub mod Failing
+pub mod IdleValues
 pub mod Keeping
 pub mod OneBlock
 pub mod OnePlaceFollows

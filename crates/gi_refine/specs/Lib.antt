@@ -1,5 +1,6 @@
 pub mod Agreement
 pub mod Examples
+pub mod IdleValues
 pub mod Kept
 pub mod Lifting
 pub mod OnePlace

@@ -1,0 +1,105 @@
+-- Small uses of rules, each of which breaks one premise of the lifting law and no other.
+use Rattle.std.specs.Prelude.{◌≡◌, ℕ, ◌==◌, ◌^◌, ◌+◌, if◌then◌else◌, List, [], ◌∷◌, Option, Some, None, Bool, true, false}
+use Rattle.gi_mir.specs.Data.{InstrData}
+use Rattle.gi_mir.specs.Stated.{no_flags}
+use Rattle.gi_mir.specs.declared.opcode.Opcode.TheVariants as op
+use Rattle.gi_meaning.specs.State.{World, State, Place}
+use Rattle.gi_meaning.specs.Runs.{Setting}
+use Rattle.gi_refine.specs.Agreement.{Agree, AgreeAt, setting}
+use Rattle.gi_refine.specs.Examples.{counting, names, s32, world_of}
+use Rattle.gi_refine.specs.Lifting.{Placing, AgreeReady, Reads}
+use Rattle.gi_refine.specs.OnePlace.{only_virtual}
+use Rattle.gi_refine.specs.Simulation.{IsFollowed}
+use Rattle.gi_refine.specs.TrialFunctions.{bits, of_one, of_two, constant_in}
+use Rattle.gi_refine.specs.TrialRules.{constant, on_one, on_two}
+use Rattle.gi_refine.specs.Values.{Operation, Defines, Rule}
+
+-- ══ States ══
+
+abbrev pub quiet : World
+quiet = world_of 0 0 0 []
+
+-- no register hidden, and one
+abbrev pub nothing : ℕ → Bool
+nothing r = false
+
+abbrev pub only : ℕ → ℕ → Bool
+only q r = r == q
+
+-- each register is of 32 bits
+abbrev pub all_32 : ℕ → ℕ
+all_32 r = 32
+
+abbrev pub words_32 : Setting
+words_32 = setting 32 names all_32
+
+-- %0 and %1 have these values
+abbrev pub holding : (a b : Option ℕ) → State
+holding a b = record { values = λ r. if r == 0 then a else if r == 1 then b else None; words = λ n. 0; memory = counting; taken = 0 }
+
+-- what the law concludes, from states that agree and of which the rule's premises hold
+abbrev pub Followed : (s t : Setting) → Rule → Placing → (before after : ℕ → Bool) → (old new : List (ℕ × InstrData)) → Type 0
+Followed s t rule placing before after =
+    IsFollowed s t quiet (AgreeReady s t quiet rule placing.inputs (only_virtual before)) (Agree s t (only_virtual after)) (AgreeAt s t (λ b. only_virtual after))
+
+-- ══ Uses ══
+
+-- `%2 = COPY %0`, and the same behind a constant that nothing needs
+abbrev pub copied : Operation
+copied = on_one op.Copy 32 0
+
+abbrev pub copy_late : Rule
+copy_late = record { inputs = 32 ∷ []; facts = []; old = copied ∷ []; new = constant 32 0 ∷ copied ∷ []; kept = (1, 2) ∷ [] }
+
+-- the constant goes to the register that is read behind it
+abbrev pub clobbering : Placing
+clobbering = record { inputs = 0 ∷ []; old = (2 ∷ []) ∷ []; new = (0 ∷ []) ∷ (2 ∷ []) ∷ [] }
+
+abbrev pub copy_of : ℕ → ℕ × InstrData
+copy_of r = of_one op.Copy 2 s32 r
+
+-- a free value used twice, and two free values
+abbrev pub free_value : Operation
+free_value = record { op = op.GenericImplicitDef; flags = no_flags; slots = []; mem = None; widths = 32 ∷ [] }
+
+abbrev pub chosen_twice : Rule
+chosen_twice = record {
+  inputs = [];
+  facts = [];
+  old = free_value ∷ on_two op.GenericSubtract no_flags 32 0 0 ∷ [];
+  new = free_value ∷ free_value ∷ on_two op.GenericSubtract no_flags 32 0 1 ∷ [];
+  kept = (1, 2) ∷ [];
+}
+
+-- x + 0 is a copy of x, where 0 is a constant that is available, and without that fact
+abbrev pub copy_summand : Rule
+copy_summand = record {
+  inputs = 32 ∷ 32 ∷ [];
+  facts = Defines (constant 32 0) (1 ∷ []) ∷ [];
+  old = on_two op.GenericAdd no_flags 32 0 1 ∷ [];
+  new = copied ∷ [];
+  kept = (2, 2) ∷ [];
+}
+
+abbrev pub summand_alone : Rule
+summand_alone = record copy_summand { facts = [] }
+
+abbrev pub summand_placed : Placing
+summand_placed = record { inputs = 0 ∷ 1 ∷ []; old = (2 ∷ []) ∷ []; new = (2 ∷ []) ∷ [] }
+
+abbrev pub sum_of : ℕ × InstrData
+sum_of = of_two op.GenericAdd 2 s32 0 1
+
+-- a copy for itself
+abbrev pub copy_same : Rule
+copy_same = record { inputs = 32 ∷ []; facts = []; old = copied ∷ []; new = copied ∷ []; kept = (1, 1) ∷ [] }
+
+abbrev pub copy_placed : Placing
+copy_placed = record { inputs = 0 ∷ []; old = (2 ∷ []) ∷ []; new = (2 ∷ []) ∷ [] }
+
+-- a constant for nothing
+abbrev pub constant_made : Rule
+constant_made = record { inputs = []; facts = []; old = []; new = constant 32 0 ∷ []; kept = [] }
+
+abbrev pub constant_placed : Placing
+constant_placed = record { inputs = []; old = []; new = (0 ∷ []) ∷ [] }
