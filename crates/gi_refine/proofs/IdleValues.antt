@@ -1,23 +1,27 @@
 -- Each use breaks one premise, and what the law concludes fails.
+use Rattle.gi_refine.proofs.Covering.{covered_by}
+use Rattle.gi_refine.proofs.TrialRules.{sum_with_zero}
+use Rattle.gi_refine.proofs.RuleSteps.{exactly, constant_known, entry_value}
+use Rattle.gi_refine.specs.Kept.{HasSameValue}
 use Rattle.gi_refine.proofs.Staying.{has_same_value}
 use Rattle.gi_refine.proofs.Agreeing.{same_value_stands}
 use Rattle.gi_llt.specs.Bits.{wrapped}
-use Rattle.std.proofs.Common.{◌≡◌, ℕ, ◌==◌, ◌^◌, ◌<◌, Bool, true, false, List, [], ◌∷◌, Option, Some, None, inl, inr, ⊎_elim, refl, sym, ap, ◌∙◌, subst, arith, option_map, ◌+◌}
+use Rattle.std.proofs.Common.{◌≡◌, ℕ, ◌==◌, ◌^◌, ◌<◌, Bool, true, false, List, [], ◌∷◌, Option, Some, None, inl, inr, ⊎_elim, refl, sym, ap, ◌∙◌, subst, arith, option_map, ◌+◌, cond}
 use Rattle.gi_mir.specs.Data.{InstrData}
 use Rattle.gi_mir.specs.Stated.{no_flags}
 use Rattle.gi_mir.specs.declared.opcode.Opcode.TheVariants as op
 use Rattle.gi_meaning.specs.Argument.{Argument, Value, Bits}
-use Rattle.gi_meaning.specs.State.{World, State, Outside, outside_of, Fails, Place, Virtual, put}
+use Rattle.gi_meaning.specs.State.{World, State, Outside, outside_of, Fails, Place, Virtual, put, Physical}
 use Rattle.gi_meaning.specs.Act.{Results}
 use Rattle.gi_meaning.specs.Runs.{Setting, On, Over, Progress, Executes, joined_lists}
-use Rattle.gi_refine.specs.Agreement.{Agree, ValueStands, setting}
+use Rattle.gi_refine.specs.Agreement.{Agree, ValueStands, setting, AgreeAt}
 use Rattle.gi_refine.specs.Examples.{names, s32}
-use Rattle.gi_refine.specs.IdleValues.{quiet, nothing, only, words_32, holding, Followed, copied, copy_late, clobbering, copy_of, copy_summand, summand_alone, summand_placed, sum_of, copy_same, copy_placed, constant_made, constant_placed}
+use Rattle.gi_refine.specs.IdleValues.{quiet, nothing, only, words_32, holding, Followed, copied, copy_late, clobbering, copy_of, copy_summand, summand_alone, summand_placed, sum_of, copy_same, copy_placed, constant_made, constant_placed, AllButFresh, IsGoodUse, AgreeOfAnySize, all_32, extend_same, extension_of, first_of_8, bytes_32}
 use Rattle.gi_refine.specs.Lifting.{Placing, AgreeReady}
 use Rattle.gi_refine.specs.OnePlace.{only_virtual}
 use Rattle.gi_refine.specs.Simulation.{Stands, IsFollowed}
 use Rattle.gi_refine.specs.TrialFunctions.{constant_in}
-use Rattle.gi_refine.specs.Values.{Rule, IsSound}
+use Rattle.gi_refine.specs.Values.{Rule, IsSound, Makes, MayMake}
 use Rattle.gi_refine.proofs.Doing.{gives_one, does_from, does_next, does_none, DoesAll}
 
 -- two runs that each have one way to go, to states that aren't related
@@ -66,6 +70,15 @@ agree_itself hidden state = record {
   taken = refl;
 }
 
+-- what is hidden nowhere is shown
+not_nothing : (p : Place) → only_virtual (only 0) p ≡ false → only_virtual nothing p ≡ false
+not_nothing (Virtual r) h = refl
+not_nothing (Physical n) h = refl
+
+apart_values : (b : Bool) (a c : ℕ) (rest : Option ℕ) → b ≡ false → HasSameValue rest rest → ValueStands 32 32 32 (cond b (Some a) rest) (cond b (Some c) rest)
+apart_values true a c rest h same = cc
+apart_values false a c rest h same = same_value_stands 32 32 rest rest same
+
 -- ══ Clobbering ══
 
 pub clobbering_fails : Followed words_32 words_32 copy_late clobbering nothing (only 0) (copy_of 0 ∷ []) (constant_in 0 32 0 s32 ∷ copy_of 0 ∷ []) → ⊥
@@ -76,3 +89,170 @@ clobbering_fails =
     (copy_does state 0 3 refl)
     (constant_does state 0 (copy_of 0 ∷ []) (put (put state (Virtual 0) 0) (Virtual 2) 0) (copy_does (put state (Virtual 0) 0) 0 0 refl))
     (two_values (only 0) 2 3 0 (put state (Virtual 2) 3) (put (put state (Virtual 0) 0) (Virtual 2) 0) refl refl refl (λ no. absurd (omega (arith, no))))
+
+-- ══ Sound rules and their uses ══
+
+copy_same_sound : IsSound 32 quiet copy_same
+copy_same_sound = record {
+  by = λ outside v fits facts made makes.
+      let is : made ≡ Some ((32, v) ∷ (32, v) ∷ []) = exactly (v ∷ []) outside makes.0 ((32, v) ∷ []) (32 ∷ []) (Makes 32 quiet outside []) made makes.1 makes.2 in
+      subst (MayMake 32 quiet outside copy_same ((32, v) ∷ [])) (sym is) (inl ((32, v) ∷ (32, v) ∷ [], (Results (v ∷ []) outside, (v ∷ [], refl, refl), refl), (refl, tt)));
+}
+
+copy_late_sound : IsSound 32 quiet copy_late
+copy_late_sound = record {
+  by = λ outside v fits facts made makes.
+      let more : Makes 32 quiet outside (copied ∷ []) ((32, v) ∷ (32, 0) ∷ []) made =
+          exactly (0 ∷ []) outside makes.0 ((32, v) ∷ []) (32 ∷ []) (Makes 32 quiet outside (copied ∷ [])) made makes.1 makes.2 in
+      let is : made ≡ Some ((32, v) ∷ (32, 0) ∷ (32, v) ∷ []) =
+          exactly (v ∷ []) outside more.0 ((32, v) ∷ (32, 0) ∷ []) (32 ∷ []) (Makes 32 quiet outside []) made more.1 more.2 in
+      subst (MayMake 32 quiet outside copy_late ((32, v) ∷ [])) (sym is) (inl ((32, v) ∷ (32, v) ∷ [], (Results (v ∷ []) outside, (v ∷ [], refl, refl), refl), (refl, tt)));
+}
+
+copy_summand_sound : IsSound 32 quiet copy_summand
+copy_summand_sound = record {
+  by = λ outside a a_fits b b_fits facts made makes.
+      let b_is : b ≡ 0 = entry_value 32 b 32 0 (constant_known 32 quiet outside ((32, a) ∷ (32, b) ∷ []) 32 0 1 facts.0) in
+      let is : made ≡ Some ((32, a) ∷ (32, b) ∷ (32, a) ∷ []) =
+          exactly (a ∷ []) outside makes.0 ((32, a) ∷ (32, b) ∷ []) (32 ∷ []) (Makes 32 quiet outside []) made makes.1 makes.2 in
+      subst (MayMake 32 quiet outside copy_summand ((32, a) ∷ (32, b) ∷ [])) (sym is)
+      (inl ((32, a) ∷ (32, b) ∷ (32, a) ∷ [], (Results (a ∷ []) outside, (a ∷ [], ap (λ v. v ∷ []) (sym (sum_with_zero 32 a b a_fits b_is)), refl), refl), (refl, tt)));
+}
+
+constant_made_sound : IsSound 32 quiet constant_made
+constant_made_sound = record {
+  by = λ outside facts made makes.
+      let is : made ≡ Some ((32, 0) ∷ []) = exactly (0 ∷ []) outside makes.0 [] (32 ∷ []) (Makes 32 quiet outside []) made makes.1 makes.2 in
+      subst (MayMake 32 quiet outside constant_made []) (sym is) (inl ([], refl, tt));
+}
+
+extend_same_sound : IsSound 32 quiet extend_same
+extend_same_sound = record {
+  by = λ outside v fits facts made makes.
+      let is : made ≡ Some ((8, v) ∷ (32, v) ∷ []) = exactly (v ∷ []) outside makes.0 ((8, v) ∷ []) (32 ∷ []) (Makes 32 quiet outside []) made makes.1 makes.2 in
+      subst (MayMake 32 quiet outside extend_same ((8, v) ∷ [])) (sym is) (inl ((8, v) ∷ (32, v) ∷ [], (Results (v ∷ []) outside, (v ∷ [], refl, refl), refl), (refl, tt)));
+}
+
+pub clobbering_rest : AllButFresh copy_late clobbering nothing (only 0) (copy_of 0 ∷ []) (constant_in 0 32 0 s32 ∷ copy_of 0 ∷ [])
+clobbering_rest = record {
+  sound = copy_late_sound;
+  old_pure = refl;
+  new_pure = refl;
+  old_shown = (record { op = refl; flags = refl; mem = refl; operands = (refl, (refl, tt)); widths = refl }, tt);
+  new_shown =
+      (record { op = refl; flags = refl; mem = refl; operands = (refl, (refl, tt)); widths = refl },
+      (record { op = refl; flags = refl; mem = refl; operands = (refl, (refl, tt)); widths = refl }, tt));
+  old_fresh = refl;
+  widths = refl;
+  seen = refl;
+  covered = covered_by (only_virtual nothing) (only_virtual (only 0)) copy_late clobbering refl not_nothing;
+}
+
+-- ══ A fact that doesn't hold ══
+
+pub summand_use : IsGoodUse all_32 all_32 copy_summand summand_placed nothing nothing (sum_of ∷ []) (copy_of 0 ∷ [])
+summand_use = record {
+  sound = copy_summand_sound;
+  placed = record {
+    old_pure = refl;
+    new_pure = refl;
+    old_shown = (record { op = refl; flags = refl; mem = refl; operands = (refl, (refl, (refl, tt))); widths = refl }, tt);
+    new_shown = (record { op = refl; flags = refl; mem = refl; operands = (refl, (refl, tt)); widths = refl }, tt);
+    old_fresh = refl;
+    new_fresh = refl;
+    old_widths = refl;
+    new_widths = refl;
+    seen = refl;
+    covered = covered_by (only_virtual nothing) (only_virtual nothing) copy_summand summand_placed refl (λ p h. h);
+  };
+}
+
+pub unavailable_fails : Followed words_32 words_32 summand_alone summand_placed nothing nothing (sum_of ∷ []) (copy_of 0 ∷ []) → ⊥
+unavailable_fails =
+    let state : State = holding (Some 3) (Some 4) in
+    refuted words_32 words_32 quiet _ _ _ (sum_of ∷ []) (copy_of 0 ∷ []) state state (put state (Virtual 2) 7) (put state (Virtual 2) 3)
+    (record {
+      agree = agree_itself (only_virtual nothing) state;
+      ready = record { env = (32, 3) ∷ (32, 4) ∷ []; read = (refl, refl, (refl, refl, tt)); sized = (omega arith, (omega arith, tt)); facts = tt };
+    })
+    (sum_does 3 4) (copy_does state 0 3 refl)
+    (two_values nothing 2 7 3 (put state (Virtual 2) 7) (put state (Virtual 2) 3) refl refl refl (λ no. absurd (omega (arith, no))))
+
+-- ══ A value of too many bits ══
+
+pub too_great_fails : IsFollowed words_32 words_32 quiet (AgreeOfAnySize words_32 words_32 copy_summand (0 ∷ 1 ∷ []) nothing) (Agree words_32 words_32 (only_virtual nothing))
+    (AgreeAt words_32 words_32 (λ b. only_virtual nothing)) (sum_of ∷ []) (copy_of 0 ∷ []) → ⊥
+too_great_fails =
+    let state : State = holding (Some 4294967301) (Some 0) in
+    refuted words_32 words_32 quiet _ _ _ (sum_of ∷ []) (copy_of 0 ∷ []) state state (put state (Virtual 2) 5) (put state (Virtual 2) 4294967301)
+    (record {
+      agree = agree_itself (only_virtual nothing) state;
+      env = (32, 4294967301) ∷ (32, 0) ∷ [];
+      read = (refl, refl, (refl, refl, tt));
+      facts = ((0 ∷ [], (0 ∷ [], refl, refl), (refl, tt)), tt);
+    })
+    (sum_does 4294967301 0) (copy_does state 0 4294967301 refl)
+    (two_values nothing 2 5 4294967301 (put state (Virtual 2) 5) (put state (Virtual 2) 4294967301) refl refl refl (λ no. absurd (omega (arith, no))))
+
+-- ══ A hidden input ══
+
+pub copy_use : IsGoodUse all_32 all_32 copy_same copy_placed nothing (only 0) (copy_of 0 ∷ []) (copy_of 0 ∷ [])
+copy_use = record {
+  sound = copy_same_sound;
+  placed = record {
+    old_pure = refl;
+    new_pure = refl;
+    old_shown = (record { op = refl; flags = refl; mem = refl; operands = (refl, (refl, tt)); widths = refl }, tt);
+    new_shown = (record { op = refl; flags = refl; mem = refl; operands = (refl, (refl, tt)); widths = refl }, tt);
+    old_fresh = refl;
+    new_fresh = refl;
+    old_widths = refl;
+    new_widths = refl;
+    seen = refl;
+    covered = covered_by (only_virtual nothing) (only_virtual (only 0)) copy_same copy_placed refl not_nothing;
+  };
+}
+
+first_apart : (a b : ℕ) → Agree words_32 words_32 (only_virtual (only 0)) (holding (Some a) None) (holding (Some b) None)
+first_apart a b = record {
+  values = λ r shown. apart_values (r == 0) a b (cond (r == 1) None None) shown (has_same_value (cond (r == 1) None None));
+  words = λ n shown. refl;
+  memory = refl;
+  taken = refl;
+}
+
+pub hidden_input_fails : Followed words_32 words_32 copy_same copy_placed (only 0) (only 0) (copy_of 0 ∷ []) (copy_of 0 ∷ []) → ⊥
+hidden_input_fails =
+    let state : State = holding (Some 3) None in
+    let state' : State = holding (Some 4) None in
+    refuted words_32 words_32 quiet _ _ _ (copy_of 0 ∷ []) (copy_of 0 ∷ []) state state' (put state (Virtual 2) 3) (put state' (Virtual 2) 4)
+    (record { agree = first_apart 3 4; ready = record { env = (32, 3) ∷ []; read = (refl, refl, tt); sized = (omega arith, tt); facts = tt } })
+    (copy_does state 0 3 refl) (copy_does state' 0 4 refl)
+    (two_values (only 0) 2 3 4 (put state (Virtual 2) 3) (put state' (Virtual 2) 4) refl refl refl (λ no. absurd (omega (arith, no))))
+
+-- ══ A result that isn't covered ══
+
+pub constant_use : IsGoodUse all_32 all_32 constant_made constant_placed nothing (only 0) [] (constant_in 0 32 0 s32 ∷ [])
+constant_use = record {
+  sound = constant_made_sound;
+  placed = record {
+    old_pure = refl;
+    new_pure = refl;
+    old_shown = tt;
+    new_shown = (record { op = refl; flags = refl; mem = refl; operands = (refl, (refl, tt)); widths = refl }, tt);
+    old_fresh = refl;
+    new_fresh = refl;
+    old_widths = refl;
+    new_widths = refl;
+    seen = refl;
+    covered = covered_by (only_virtual nothing) (only_virtual (only 0)) constant_made constant_placed refl not_nothing;
+  };
+}
+
+pub uncovered_fails : Followed words_32 words_32 constant_made constant_placed nothing nothing [] (constant_in 0 32 0 s32 ∷ []) → ⊥
+uncovered_fails =
+    let state : State = holding (Some 3) None in
+    refuted words_32 words_32 quiet _ _ _ [] (constant_in 0 32 0 s32 ∷ []) state state state (put state (Virtual 0) 0)
+    (record { agree = agree_itself (only_virtual nothing) state; ready = record { env = []; read = tt; sized = tt; facts = tt } })
+    (does_none words_32 quiet state) (constant_does state 0 [] (put state (Virtual 0) 0) (does_none words_32 quiet (put state (Virtual 0) 0)))
+    (two_values nothing 0 3 0 state (put state (Virtual 0) 0) refl refl refl (λ no. absurd (omega (arith, no))))

@@ -52,7 +52,7 @@ add_constants_sound x w flags n a b = record {
       ));
 }
 
-sum_with_zero : (n a b : ℕ) → a < 2 ^ n → b ≡ 0 → wrapped n (a + b) ≡ a
+pub sum_with_zero : (n a b : ℕ) → a < 2 ^ n → b ≡ 0 → wrapped n (a + b) ≡ a
 sum_with_zero n a b fits zero = ap (wrapped n) (omega (arith, zero)) ∙ mod-eq_of_lt fits
 
 pub add_zero_sound : (x : ℕ) (w : World) (flags : Flags) (n : ℕ) → IsSound x w (add_zero flags n)
