@@ -17,7 +17,7 @@ use Rattle.gi_refine.proofs.RuleSteps.{answers_given, unless_given, exactly, con
 
 -- ══ Folds, and a use replaced ══
 
-difference_self : (n a : ℕ) → difference_of n a a ≡ 0
+pub difference_self : (n a : ℕ) → difference_of n a a ≡ 0
 difference_self n a = grind arith
 
 pub subtract_self_sound : (x : ℕ) (w : World) (flags : Flags) (n : ℕ) → IsSound x w (subtract_self flags n)

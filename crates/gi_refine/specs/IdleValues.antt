@@ -1,6 +1,6 @@
 -- Small uses of rules, each of which breaks one premise of the lifting law and no other.
 use Rattle.gi_mir.specs.declared.operand.Operand.TheVariants.{Def}
-use Rattle.std.specs.Prelude.{◌≡◌, ℕ, ◌==◌, ◌^◌, ◌+◌, if◌then◌else◌, List, [], ◌∷◌, Option, Some, None, Bool, true, false, map, ◌||◌}
+use Rattle.std.specs.Prelude.{◌≡◌, ℕ, ◌==◌, if◌then◌else◌, List, [], ◌∷◌, Option, None, Bool, true, false, map, ◌||◌}
 use Rattle.gi_mir.specs.Data.{InstrData}
 use Rattle.gi_mir.specs.Stated.{no_flags, reg_of}
 use Rattle.gi_mir.specs.declared.opcode.Opcode.TheVariants as op
@@ -11,7 +11,7 @@ use Rattle.gi_refine.specs.Examples.{counting, names, s32, world_of, made}
 use Rattle.gi_refine.specs.Lifting.{Placing, AgreeReady, Reads, AllShow, are_all_fresh, none_hidden, hidden_after, IsPlaced}
 use Rattle.gi_refine.specs.OnePlace.{only_virtual}
 use Rattle.gi_refine.specs.Simulation.{IsFollowed}
-use Rattle.gi_refine.specs.TrialFunctions.{bits, of_one, of_two, constant_in}
+use Rattle.gi_refine.specs.TrialFunctions.{of_one, of_two}
 use Rattle.gi_refine.specs.TrialRules.{constant, on_one, on_two}
 use Rattle.gi_refine.specs.Values.{Operation, Defines, Rule, Environment, AllHold, IsSound, are_pure}
 
