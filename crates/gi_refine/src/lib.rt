@@ -19,5 +19,5 @@ pub use rewriting::{
     one_place_follows, replacement_follows, rewriting_follows, same_blocks_follow,
 };
 pub use trials::{trial_rules_hold, trial_uses_refine};
-pub use values::{known_values_follow, rule_use_follows, values_follow};
+pub use values::{known_values_follow, replaced_uses_hold, rule_use_follows, values_follow};
 pub use words::{classed_function_refines, words_follow};
