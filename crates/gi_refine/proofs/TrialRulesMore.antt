@@ -1,4 +1,6 @@
 -- More trial rules are sound: several operations, and free bits.
+use Rattle.gi_meaning.specs.Meaning.{Generic, meaning_of}
+use Rattle.gi_mir.specs.declared.opcode.Opcode.{Opcode}
 use Rattle.gi_meaning.specs.Machine.{on_rv64, on_words, on_low_half, sum_word}
 use Rattle.gi_meaning.specs.Argument.{Argument, Value}
 use Rattle.std.proofs.Common.{◌≡◌, ℕ, ◌+◌, ◌-◌, ◌%◌, ◌^◌, ◌<◌, ◌==◌, Bool, true, false, cond, List, [], ◌∷◌, Some, inl, refl, sym, ap, ◌∙◌, subst, arith, ◌++◌, ◌&&◌, ◌||◌, ◌*◌, ◌/◌, Option, None, ap₂}
@@ -8,13 +10,13 @@ use Rattle.gi_llt.specs.Bits.{wrapped, signed, sign_extended}
 use Rattle.gi_mir.specs.Stated.{no_flags}
 use Rattle.gi_mir.specs.declared.opcode.Opcode.TheVariants as op
 use Rattle.gi_mir.specs.declared.operand.Flags.{Flags}
-use Rattle.gi_meaning.specs.Given.{Undefined, one, free, unless_broken, Given}
+use Rattle.gi_meaning.specs.Given.{Undefined, one, free, unless_broken, Given, IsGiven}
 use Rattle.gi_meaning.specs.Generic.{sum, unsigned_remainder, product, shifted_left, leaves_signed, bit_of}
 use Rattle.gi_meaning.specs.State.{World, Outside}
-use Rattle.gi_meaning.specs.Act.{Results, Answers, AnswersWords}
+use Rattle.gi_meaning.specs.Act.{Results, Answers, AnswersWords, Act}
 use Rattle.gi_meaning.proofs.Numbers.{signed-low}
 use Rattle.gi_refine.specs.Values.{Environment, Operation, Makes, MayMake, IsSound, At, Then}
-use Rattle.gi_refine.specs.TrialRules.{on_one, on_two, remainder_to_mask, widen_add, halves, multiply_to_shift, narrow_add, select_add_word}
+use Rattle.gi_refine.specs.TrialRules.{on_one, on_two, remainder_to_mask, widen_add, halves, multiply_to_shift, narrow_add, select_add_word, fold_constants}
 use Rattle.gi_refine.proofs.RuleSteps.{answers_given, unless_given, exactly, constant_known, entry_value, OneOf, from_low_bits, after_one, SameGiven, Gives, GivesNone, same_given, ReadTwo, read_two, words_exactly}
 use Rattle.gi_refine.proofs.TrialArithmetic.{sum_of_extended, sum_by_halves, extended_low}
 
@@ -201,6 +203,32 @@ select_add_word_sound w flags = record {
           Results (wrapped 32 (a + b) ∷ []) outside,
           answers_given (sum flags 32 a b) outside (wrapped 32 (a + b) ∷ [])
               (unless_given _ 32 (wrapped 32 (a + b)) (wrapped 32 (a + b)) (mod_below (a + b) (2 ^ 32) (pow_pos 32)) refl),
+          refl,
+        ),
+        (refl, tt),
+      ));
+}
+
+-- ══ Any fold ══
+
+pub fold_constants_sound : (x : ℕ) (w : World) (o : Opcode) (flags : Flags) (gives : List ℕ → List Argument → Given) (l a m b n value : ℕ) → meaning_of flags o ≡ Generic gives
+    → IsGiven (gives (n ∷ []) (Value l a ∷ Value m b ∷ [])) (value ∷ []) → IsSound x w (fold_constants o flags l a m b n value)
+fold_constants_sound x w o flags gives l a m b n value means given = record {
+  by = λ outside u u_fits v v_fits facts made makes.
+      let env : Environment = (l, u) ∷ (m, v) ∷ [] in
+      let u_is : u ≡ a = entry_value l u l a (constant_known x w outside env l a 0 facts.0) in
+      let v_is : v ≡ b = entry_value m v m b (constant_known x w outside env m b 1 facts.1.0) in
+      let is : made ≡ Some ((l, u) ∷ (m, v) ∷ (n, value) ∷ []) = exactly (value ∷ []) outside makes.0 env (n ∷ []) (Makes x w outside []) made makes.1 makes.2 in
+      let given_here : IsGiven (gives (n ∷ []) (Value l u ∷ Value m v ∷ [])) (value ∷ []) =
+          subst (λ p. IsGiven (gives (n ∷ []) (Value l p ∷ Value m v ∷ [])) (value ∷ [])) (sym u_is)
+          (subst (λ q. IsGiven (gives (n ∷ []) (Value l a ∷ Value m q ∷ [])) (value ∷ [])) (sym v_is) given) in
+      subst (MayMake x w outside (fold_constants o flags l a m b n value) env) (sym is)
+      (inl (
+        (l, u) ∷ (m, v) ∷ (n, value) ∷ [],
+        (
+          Results (value ∷ []) outside,
+          subst (λ meaning. Act x w meaning None (n ∷ []) (Value l u ∷ Value m v ∷ []) outside (Results (value ∷ []) outside)) (sym means)
+              (answers_given (gives (n ∷ []) (Value l u ∷ Value m v ∷ [])) outside (value ∷ []) given_here),
           refl,
         ),
         (refl, tt),

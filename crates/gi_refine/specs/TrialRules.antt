@@ -43,6 +43,16 @@ add_constants flags n a b = record {
   kept = (2, 2) ∷ [];
 }
 
+-- any operation on two constants is the constant that it may give
+abbrev pub fold_constants : Opcode → Flags → (l a m b n value : ℕ) → Rule
+fold_constants op flags l a m b n value = record {
+  inputs = l ∷ m ∷ [];
+  facts = Defines (constant l a) (0 ∷ []) ∷ Defines (constant m b) (1 ∷ []) ∷ [];
+  old = on_two op flags n 0 1 ∷ [];
+  new = constant n value ∷ [];
+  kept = (2, 2) ∷ [];
+}
+
 -- x + 0 is x: the uses of the sum are replaced
 abbrev pub add_zero : Flags → (n : ℕ) → Rule
 add_zero flags n = record {

@@ -1,12 +1,16 @@
 //! Rules of several kinds, sound on values for all widths, and used in whole functions.
 
-ghost use Rattle.std.specs.Prelude.{ℕ, ◌+◌, ◌<◌};
+ghost use Rattle.std.specs.Prelude.{◌≡◌, ℕ, ◌+◌, ◌<◌, List, [], ◌∷◌};
 ghost use Rattle.gi_mir.specs.declared.operand.Flags.{Flags};
+ghost use Rattle.gi_mir.specs.declared.opcode.Opcode.{Opcode};
+ghost use Rattle.gi_meaning.specs.Argument.{Argument, Value};
+ghost use Rattle.gi_meaning.specs.Given.{Given, IsGiven};
+ghost use Rattle.gi_meaning.specs.Meaning.{Generic, meaning_of};
 ghost use Rattle.gi_meaning.specs.State.{World};
 ghost use Rattle.gi_refine.specs.Examples.{names};
 ghost use Rattle.gi_refine.specs.Refinement.{IsRefinement};
 ghost use Rattle.gi_refine.specs.TrialFunctions.{adds_zero, bytes_loaded, gives_summand, gives_zero, half_loaded, on_address, on_doubles, on_parts, subtracts_itself, sum_by_words, sum_of_doubles, sum_of_parts, wide_sum, word_sum};
-ghost use Rattle.gi_refine.specs.TrialRules.{add_constants, add_zero, multiply_to_shift, narrow_add, remainder_to_mask, select_add, select_add_word, split_load, subtract_self, widen_add};
+ghost use Rattle.gi_refine.specs.TrialRules.{add_constants, add_zero, fold_constants, multiply_to_shift, narrow_add, remainder_to_mask, select_add, select_add_word, split_load, subtract_self, widen_add};
 ghost use Rattle.gi_refine.specs.Values.{IsSound};
 
 /// Each of these rules is sound, at every width and with all flags (a product by the power of two that is the sign
@@ -14,6 +18,10 @@ ghost use Rattle.gi_refine.specs.Values.{IsSound};
 pub fn trial_rules_hold()
     ensures subtract_self { (x : ℕ) (w : World) (flags : Flags) (n : ℕ) → IsSound x w (subtract_self flags n) }
     ensures add_constants { (x : ℕ) (w : World) (flags : Flags) (n a b : ℕ) → IsSound x w (add_constants flags n a b) }
+    ensures fold_constants {
+        (x : ℕ) (w : World) (op : Opcode) (flags : Flags) (gives : List ℕ → List Argument → Given) (l a m b n value : ℕ) → meaning_of flags op ≡ Generic gives
+        → IsGiven (gives (n ∷ []) (Value l a ∷ Value m b ∷ [])) (value ∷ []) → IsSound x w (fold_constants op flags l a m b n value)
+    }
     ensures add_zero { (x : ℕ) (w : World) (flags : Flags) (n : ℕ) → IsSound x w (add_zero flags n) }
     ensures multiply_to_shift { (x : ℕ) (w : World) (flags : Flags) (n k : ℕ) → k + 1 < n → IsSound x w (multiply_to_shift flags n k) }
     ensures remainder_to_mask { (x : ℕ) (w : World) (n k : ℕ) → IsSound x w (remainder_to_mask n k) }
