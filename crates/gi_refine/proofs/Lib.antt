@@ -6,6 +6,7 @@ pub mod Doing
 pub mod ExampleRuns
 pub mod Failing
 pub mod IdleValues
+pub mod Invariants
 pub mod Keeping
 pub mod OneBlock
 pub mod OnePlaceFollows

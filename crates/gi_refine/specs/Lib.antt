@@ -1,6 +1,7 @@
 pub mod Agreement
 pub mod Examples
 pub mod IdleValues
+pub mod Invariant
 pub mod Kept
 pub mod Lifting
 pub mod OnePlace
