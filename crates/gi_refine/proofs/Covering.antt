@@ -3,7 +3,7 @@ use Rattle.std.proofs.Common.{◌≡◌, ℕ, suc, Bool, true, false, cond, ◌=
 use Rattle.gi_meaning.specs.State.{World, State, outside_of, Place, Virtual, Physical}
 use Rattle.gi_meaning.specs.Runs.{Setting, is_among}
 use Rattle.gi_refine.specs.Values.{Environment, Slot, AllHold, Rule}
-use Rattle.gi_refine.specs.Lifting.{all_grown, is_result, Placing, is_kept, hidden_after, are_covered, all_covered, covers, Reads, AreSized, first_slots, HasValue, AreThere, IsKnown}
+use Rattle.gi_refine.specs.Lifting.{all_grown, is_result, Placing, is_kept, left_hidden, are_covered, all_covered, covers, Reads, AreSized, first_slots, HasValue, AreThere, IsKnown}
 use Rattle.gi_refine.proofs.ValuesPlaced.{and_left, and_right}
 
 -- ══ What is hidden after ══
@@ -39,7 +39,7 @@ not_hidden false kept hidden result other = other
 
 -- where each result is kept or hidden after, and nothing else is shown after that was hidden before
 pub covered_by : (before after : Place → Bool) (rule : Rule) (placing : Placing) → covers after rule placing ≡ true → ((p : Place) → after p ≡ false → before p ≡ false)
-    → (p : Place) → after p ≡ false → hidden_after before rule placing p ≡ false
+    → (p : Place) → after p ≡ false → left_hidden before rule placing p ≡ false
 covered_by before after rule placing covers others (Virtual r) shown =
     let kept : ℕ → Bool = is_kept (all_grown placing.inputs placing.old) (all_grown placing.inputs placing.new) rule.kept in
     not_hidden (is_result r placing.old || is_result r placing.new) (kept r) (before (Virtual r))

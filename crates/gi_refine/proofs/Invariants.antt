@@ -1,10 +1,10 @@
 -- An invariant holds in every state that runs reach.
-use Rattle.std.proofs.Common.{◌≡◌, ℕ, zero, suc, ◌+◌, List, [], ◌∷◌, ◌++◌, Option, Some, None, slice_get, refl, sym, ap, ◌∙◌, subst}
+use Rattle.std.proofs.Common.{◌≡◌, ℕ, zero, suc, List, [], ◌∷◌, ◌++◌, Option, Some, slice_get, sym, ap, ◌∙◌, subst}
 use Rattle.gi_mir.specs.Data.{InstrData, BlockData}
-use Rattle.gi_meaning.specs.State.{World, State, start}
+use Rattle.gi_meaning.specs.State.{World, State}
 use Rattle.gi_meaning.specs.Runs.{Setting, Progress, On, Left, Over, After, Executes, after_phis}
 use Rattle.gi_refine.specs.Invariant.{GoesOnWith, AllKeep, BlockKeeps, IsInvariant}
-use Rattle.gi_refine.specs.Reached.{GoesTo, Passes, Arrives, IsEntered, IsReached}
+use Rattle.gi_refine.specs.Reached.{GoesTo, Passes, Arrives, IsReached}
 
 kept_after : (s : Setting) (w : World) (claim : State → Type 0) (is : List (ℕ × InstrData)) (next p : Progress) → GoesOnWith claim next
     → ((state : State) → claim state → Executes s w is state p → GoesOnWith claim p) → After next (Executes s w is) p → GoesOnWith claim p
@@ -48,7 +48,7 @@ invariant_holds s w blocks claim invariant b block before back here splits state
     let keeps : BlockKeeps s w claim reached.block = invariant.keeps b reached.block reached.enters.joins.here in
     let same : block ≡ reached.block = one_block block reached.block (slice_get blocks b) here reached.enters.joins.here in
     let front : AllKeep s w claim before =
-        front_keeps s w claim before back (subst (AllKeep s w claim) (ap (λ (k : BlockData). after_phis k.instrs) (sym same) ∙ splits) keeps.body) in
+    front_keeps s w claim before back (subst (AllKeep s w claim) (ap (λ (k : BlockData). after_phis k.instrs) (sym same) ∙ splits) keeps.body) in
     kept_through s w claim before front reached.middle
     (keeps.phis reached.enters.from reached.enters.entered reached.middle
     (kept_arriving s w blocks claim invariant reached.enters.entries reached.enters.from b reached.enters.entered reached.enters.arrives) reached.enters.joins.phis)

@@ -37,7 +37,7 @@ another_kind false k rest h = refl
 
 -- with the old instructions and with the new ones
 pub record StraightUse (x : ℕ) (names : List (List ℕ)) (before old new after : List (ℕ × InstrData)) (hidden : ℕ → Bool) (rule : World → Rule) (placing : Placing) : Type 0 where
-  pub used : IsRuleUse x names (straight (before ++ (old ++ after))) (straight (before ++ (new ++ after))) hidden rule placing 0 (after_phis before) old new
+  pub used : IsRuleUse x names (straight (before ++ (old ++ after))) (straight (before ++ (new ++ after))) (only_virtual hidden) (only_virtual hidden) rule placing 0 (after_phis before) old new
   pub no_phi : phis_of (old ++ after) ≡ []
   pub no_new_phi : phis_of (new ++ after) ≡ []
   pub before_clear : any_touches hidden (λ q. q) before ≡ false
@@ -61,6 +61,6 @@ straight_refines x names before old new after hidden rule placing use_here =
       after_clear = use_here.after_clear;
       others_clear = λ b apart other here. no_other_block hidden (block_of [] (before ++ (old ++ after))) other b apart here;
       widths = λ q shown. ap (λ o. width_of_kind x (unwrap_or (first_there o None) Class)) (kind_replaced q before old new after (use_here.kinds q shown));
-      follows = λ w is_world. use_followed x names f g hidden rule placing 0 (after_phis before) old new
+      follows = λ w is_world. use_followed x names f g (only_virtual hidden) (only_virtual hidden) rule placing 0 (after_phis before) old new
           (AgreeAt (setting_of x names f) (setting_of x names g) (λ b. only_virtual hidden)) use_here.used w is_world;
     })

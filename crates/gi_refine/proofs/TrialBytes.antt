@@ -37,7 +37,7 @@ address_known x w is_world state reached =
     subst (λ st. IsKnown s w (split_load x) (0 ∷ []) st) (sym is)
     (known_at s w (split_load x) (0 ∷ []) (w.words 10 ∷ []) copied (refl, tt) (is_world.words 10, tt) (is_world.memory, tt))
 
-bytes_used : (x : ℕ) → IsRuleUse x names (on_address half_loaded) (on_address (bytes_loaded x)) (is_one_of byte_registers) (λ w. split_load x) bytes_placed 0 address_in half_loaded (bytes_loaded x)
+bytes_used : (x : ℕ) → IsRuleUse x names (on_address half_loaded) (on_address (bytes_loaded x)) (only_virtual (is_one_of byte_registers)) (only_virtual (is_one_of byte_registers)) (λ w. split_load x) bytes_placed 0 address_in half_loaded (bytes_loaded x)
 bytes_used x = record {
   sound = λ w is_world. split_load_sound x w;
   placed = λ w is_world. record {

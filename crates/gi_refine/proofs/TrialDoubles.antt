@@ -84,7 +84,7 @@ doubles_known x w is_world state reached =
     (known_at s w (narrow_add no_flags x) (4 ∷ 5 ∷ []) (double x (w.words 10) (w.words 11) ∷ double x (w.words 12) (w.words 13) ∷ []) (merged_5 x w) (refl, (refl, tt))
     (double_fits x (w.words 10) (w.words 11) (is_world.words 10) (is_world.words 11), (double_fits x (w.words 12) (w.words 13) (is_world.words 12) (is_world.words 13), tt)) tt)
 
-double_used : (x : ℕ) → IsRuleUse x names (on_doubles x (sum_of_doubles x)) (on_doubles x (sum_by_words x)) (is_one_of word_registers) (λ w. narrow_add no_flags x) double_placed 0 (two_doubles x) (sum_of_doubles x) (sum_by_words x)
+double_used : (x : ℕ) → IsRuleUse x names (on_doubles x (sum_of_doubles x)) (on_doubles x (sum_by_words x)) (only_virtual (is_one_of word_registers)) (only_virtual (is_one_of word_registers)) (λ w. narrow_add no_flags x) double_placed 0 (two_doubles x) (sum_of_doubles x) (sum_by_words x)
 double_used x = record {
   sound = λ w is_world. narrow_add_sound x w no_flags x;
   placed = λ w is_world. record {

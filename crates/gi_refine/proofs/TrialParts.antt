@@ -86,7 +86,7 @@ parts_known x n rule w none state reached =
 
 -- ══ Widening ══
 
-wide_used : (n y : ℕ) → IsRuleUse (y + n) names (on_parts (y + n) n (sum_of_parts n)) (on_parts (y + n) n (wide_sum (y + n) n)) wide_hidden (λ w. widen_add no_flags n y) wide_placed 0 (two_parts (y + n) n) (sum_of_parts n) (wide_sum (y + n) n)
+wide_used : (n y : ℕ) → IsRuleUse (y + n) names (on_parts (y + n) n (sum_of_parts n)) (on_parts (y + n) n (wide_sum (y + n) n)) (only_virtual wide_hidden) (only_virtual wide_hidden) (λ w. widen_add no_flags n y) wide_placed 0 (two_parts (y + n) n) (sum_of_parts n) (wide_sum (y + n) n)
 wide_used n y = record {
   sound = λ w is_world. widen_add_sound (y + n) w no_flags n y;
   placed = λ w is_world. record {
@@ -128,7 +128,7 @@ widening_refines n y =
 
 -- ══ Selection ══
 
-word_used : IsRuleUse 64 names (on_parts 64 32 (sum_of_parts 32)) (on_parts 64 32 word_sum) (λ r. false) (λ w. select_add_word no_flags) word_placed 0 (two_parts 64 32) (sum_of_parts 32) word_sum
+word_used : IsRuleUse 64 names (on_parts 64 32 (sum_of_parts 32)) (on_parts 64 32 word_sum) (only_virtual (λ r. false)) (only_virtual (λ r. false)) (λ w. select_add_word no_flags) word_placed 0 (two_parts 64 32) (sum_of_parts 32) word_sum
 word_used = record {
   sound = λ w is_world. select_add_word_sound w no_flags;
   placed = λ w is_world. record {

@@ -54,7 +54,7 @@ known_before w is_world state reached =
     subst (λ st. IsKnown s w (add_zero no_flags 32) (0 ∷ 1 ∷ []) st) (sym is)
     (known_at s w (add_zero no_flags 32) (0 ∷ 1 ∷ []) (w.words 10 ∷ 0 ∷ []) (with_zero w) (refl, (refl, tt)) (is_world.words 10, (pow_pos 32, tt)) ((0 ∷ [], (0 ∷ [], refl, refl), (refl, tt)), tt))
 
-sum_used : IsRuleUse 32 names adds_zero gives_summand sum_replaced.hidden (λ w. add_zero no_flags 32) sum_placed 0 word_and_zero sum_replaced.old []
+sum_used : IsRuleUse 32 names adds_zero gives_summand (only_virtual sum_replaced.hidden) (only_virtual sum_replaced.hidden) (λ w. add_zero no_flags 32) sum_placed 0 word_and_zero sum_replaced.old []
 sum_used = record {
   sound = λ w is_world. add_zero_sound 32 w no_flags 32;
   placed = λ w is_world. record {
@@ -126,6 +126,6 @@ sum_refines = one_place_refines 32 names adds_zero gives_summand sum_replaced (r
   before_holds = record { by = λ w is_world front i back is state reached. no_uses_before front i back state is };
   after_holds = record { by = uses_hold_after };
   others = no_other;
-  follows = λ w is_world. use_followed 32 names adds_zero gives_summand sum_replaced.hidden (λ v. add_zero no_flags 32) sum_placed 0 word_and_zero sum_replaced.old []
+  follows = λ w is_world. use_followed 32 names adds_zero gives_summand (only_virtual sum_replaced.hidden) (only_virtual sum_replaced.hidden) (λ v. add_zero no_flags 32) sum_placed 0 word_and_zero sum_replaced.old []
       (AgreeAt (setting_of 32 names adds_zero) (setting_of 32 names gives_summand) (λ b. only_virtual sum_replaced.hidden)) sum_used w is_world;
 })

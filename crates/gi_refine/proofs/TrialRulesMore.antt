@@ -220,8 +220,8 @@ fold_constants_sound x w o flags gives l a m b n value means given = record {
       let v_is : v ≡ b = entry_value m v m b (constant_known x w outside env m b 1 facts.1.0) in
       let is : made ≡ Some ((l, u) ∷ (m, v) ∷ (n, value) ∷ []) = exactly (value ∷ []) outside makes.0 env (n ∷ []) (Makes x w outside []) made makes.1 makes.2 in
       let given_here : IsGiven (gives (n ∷ []) (Value l u ∷ Value m v ∷ [])) (value ∷ []) =
-          subst (λ p. IsGiven (gives (n ∷ []) (Value l p ∷ Value m v ∷ [])) (value ∷ [])) (sym u_is)
-          (subst (λ q. IsGiven (gives (n ∷ []) (Value l a ∷ Value m q ∷ [])) (value ∷ [])) (sym v_is) given) in
+      subst (λ p. IsGiven (gives (n ∷ []) (Value l p ∷ Value m v ∷ [])) (value ∷ [])) (sym u_is)
+      (subst (λ q. IsGiven (gives (n ∷ []) (Value l a ∷ Value m q ∷ [])) (value ∷ [])) (sym v_is) given) in
       subst (MayMake x w outside (fold_constants o flags l a m b n value) env) (sym is)
       (inl (
         (l, u) ∷ (m, v) ∷ (n, value) ∷ [],

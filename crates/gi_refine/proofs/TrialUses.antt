@@ -20,7 +20,7 @@ use Rattle.gi_refine.proofs.TrialRules.{subtract_self_sound}
 
 -- ══ x - x ══
 
-subtraction_used : IsRuleUse 32 names subtracts_itself gives_zero (λ r. false) (λ w. subtract_self no_flags 32) subtraction_placed 0 (copy_in 0 10 s32 ∷ []) subtraction_folded.old subtraction_folded.new
+subtraction_used : IsRuleUse 32 names subtracts_itself gives_zero (only_virtual (λ r. false)) (only_virtual (λ r. false)) (λ w. subtract_self no_flags 32) subtraction_placed 0 (copy_in 0 10 s32 ∷ []) subtraction_folded.old subtraction_folded.new
 subtraction_used = record {
   sound = λ w is_world. subtract_self_sound 32 w no_flags 32;
   placed = λ w is_world. record {

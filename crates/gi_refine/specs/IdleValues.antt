@@ -8,7 +8,7 @@ use Rattle.gi_meaning.specs.State.{World, State, Place, outside_of}
 use Rattle.gi_meaning.specs.Runs.{Setting}
 use Rattle.gi_refine.specs.Agreement.{Agree, AgreeAt, setting}
 use Rattle.gi_refine.specs.Examples.{counting, names, s32, world_of, made}
-use Rattle.gi_refine.specs.Lifting.{Placing, AgreeReady, Reads, AllShow, are_all_fresh, none_hidden, hidden_after, IsPlaced}
+use Rattle.gi_refine.specs.Lifting.{Placing, AgreeReady, Reads, AllShow, are_all_fresh, none_hidden, left_hidden, IsPlaced}
 use Rattle.gi_refine.specs.OnePlace.{only_virtual}
 use Rattle.gi_refine.specs.Simulation.{IsFollowed}
 use Rattle.gi_refine.specs.TrialFunctions.{of_one, of_two}
@@ -142,7 +142,7 @@ pub record AllButFresh (rule : Rule) (placing : Placing) (before after : ℕ →
   pub old_fresh : are_all_fresh placing.inputs placing.old ≡ true
   pub widths : map all_32 placing.inputs ≡ rule.inputs
   pub seen : none_hidden (only_virtual before) placing.inputs ≡ true
-  pub covered : (p : Place) → only_virtual after p ≡ false → hidden_after (only_virtual before) rule placing p ≡ false
+  pub covered : (p : Place) → only_virtual after p ≡ false → left_hidden (only_virtual before) rule placing p ≡ false
 
 -- a sound rule whose operations these instructions are
 pub record IsGoodUse (width width' : ℕ → ℕ) (rule : Rule) (placing : Placing) (before after : ℕ → Bool) (old new : List (ℕ × InstrData)) : Type 0 where

@@ -98,11 +98,11 @@ is_kept old new [] r = false
 is_kept old new (pair ∷ pairs) r = (is_register r (slice_get old pair.0) && is_register r (slice_get new pair.1)) || is_kept old new pairs r
 
 -- what is hidden after the operations: each result but those that are kept, and what was hidden before
-abbrev pub hidden_after : (hidden : Place → Bool) → Rule → Placing → Place → Bool
-hidden_after hidden rule placing (Virtual r) =
+abbrev pub left_hidden : (hidden : Place → Bool) → Rule → Placing → Place → Bool
+left_hidden hidden rule placing (Virtual r) =
     if is_result r placing.old || is_result r placing.new
     then not (is_kept (all_grown placing.inputs placing.old) (all_grown placing.inputs placing.new) rule.kept r) else hidden (Virtual r)
-hidden_after hidden rule placing (Physical n) = hidden (Physical n)
+left_hidden hidden rule placing (Physical n) = hidden (Physical n)
 
 -- each of these results is kept or hidden after
 abbrev pub are_covered : (after : Place → Bool) → (kept : ℕ → Bool) → List ℕ → Bool
@@ -131,7 +131,7 @@ pub record IsPlaced (x : ℕ) (names : List (List ℕ)) (width width' : ℕ → 
   pub old_widths : map width placing.inputs ≡ rule.inputs
   pub new_widths : map width' placing.inputs ≡ rule.inputs
   pub seen : none_hidden before placing.inputs ≡ true
-  pub covered : (p : Place) → after p ≡ false → hidden_after before rule placing p ≡ false
+  pub covered : (p : Place) → after p ≡ false → left_hidden before rule placing p ≡ false
 
 -- ══ Premises on states ══
 

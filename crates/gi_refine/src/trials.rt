@@ -18,10 +18,8 @@ ghost use Rattle.gi_refine.specs.Values.{IsSound};
 pub fn trial_rules_hold()
     ensures subtract_self { (x : ℕ) (w : World) (flags : Flags) (n : ℕ) → IsSound x w (subtract_self flags n) }
     ensures add_constants { (x : ℕ) (w : World) (flags : Flags) (n a b : ℕ) → IsSound x w (add_constants flags n a b) }
-    ensures fold_constants {
-        (x : ℕ) (w : World) (op : Opcode) (flags : Flags) (gives : List ℕ → List Argument → Given) (l a m b n value : ℕ) → meaning_of flags op ≡ Generic gives
-        → IsGiven (gives (n ∷ []) (Value l a ∷ Value m b ∷ [])) (value ∷ []) → IsSound x w (fold_constants op flags l a m b n value)
-    }
+    ensures fold_constants { (x : ℕ) (w : World) (op : Opcode) (flags : Flags) (gives : List ℕ → List Argument → Given) (l a m b n value : ℕ) → meaning_of flags op ≡ Generic gives
+        → IsGiven (gives (n ∷ []) (Value l a ∷ Value m b ∷ [])) (value ∷ []) → IsSound x w (fold_constants op flags l a m b n value) }
     ensures add_zero { (x : ℕ) (w : World) (flags : Flags) (n : ℕ) → IsSound x w (add_zero flags n) }
     ensures multiply_to_shift { (x : ℕ) (w : World) (flags : Flags) (n k : ℕ) → k + 1 < n → IsSound x w (multiply_to_shift flags n k) }
     ensures remainder_to_mask { (x : ℕ) (w : World) (n k : ℕ) → IsSound x w (remainder_to_mask n k) }
