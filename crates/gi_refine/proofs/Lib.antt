@@ -3,10 +3,12 @@ pub mod CallRuns
 pub mod Classed
 pub mod Covering
 pub mod Doing
+pub mod Evaluating
 pub mod ExampleRuns
 pub mod Failing
 pub mod IdleValues
 pub mod Invariants
+pub mod IdlePlaces
 pub mod Keeping
 pub mod OneBlock
 pub mod OnePlaceFollows

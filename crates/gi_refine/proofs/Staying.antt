@@ -56,7 +56,7 @@ entry_holds_alone : (state : State) (r : Option ℕ) → EntryHolds (λ q. q) st
 entry_holds_alone state None = tt
 entry_holds_alone state (Some r) = has_same_value (state.values r)
 
-entries_hold_alone : (from : Option ℕ) (state : State) (is : List (ℕ × InstrData)) → EntriesHold (λ r. r) from state is
+pub entries_hold_alone : (from : Option ℕ) (state : State) (is : List (ℕ × InstrData)) → EntriesHold (λ r. r) from state is
 entries_hold_alone from state [] = tt
 entries_hold_alone from state (i ∷ is) = (entry_holds_alone state (from_block from i.1.operands), entries_hold_alone from state is)
 
@@ -184,7 +184,7 @@ kind_replaced r before old new after same =
 
 -- ══ A replacement ══
 
-other_stays : (x : ℕ) (names : List (List ℕ)) (f g : FunctionData) (hidden : ℕ → Bool) → KeepsWidths (setting_of x names f) (setting_of x names g) hidden (λ q. q) → (b : ℕ) (o : Option BlockData)
+pub other_stays : (x : ℕ) (names : List (List ℕ)) (f g : FunctionData) (hidden : ℕ → Bool) → KeepsWidths (setting_of x names f) (setting_of x names g) hidden (λ q. q) → (b : ℕ) (o : Option BlockData)
     → ((other : BlockData) → o ≡ Some other → any_touches hidden (λ q. q) other.instrs ≡ false) → StaysAt x names f g hidden (λ q. q) b o o
 other_stays x names f g hidden widths b None clear = tt
 other_stays x names f g hidden widths b (Some block) clear = record {

@@ -1,7 +1,9 @@
 pub mod Agreement
+pub mod Evaluation
 pub mod Examples
 pub mod IdleValues
 pub mod Invariant
+pub mod Idle
 pub mod Kept
 pub mod Lifting
 pub mod OnePlace
