@@ -6,6 +6,7 @@ pub mod Doing
 pub mod Evaluating
 pub mod ExampleRuns
 pub mod Failing
+pub mod Fitted
 pub mod IdleValues
 pub mod Invariants
 pub mod IdlePlaces

@@ -1,6 +1,7 @@
 pub mod Agreement
 pub mod Evaluation
 pub mod Examples
+pub mod Fitting
 pub mod IdleValues
 pub mod Invariant
 pub mod Idle

@@ -2,8 +2,9 @@
 #![tactic(auto)]
 
 mod examples;
-mod idle_values;
+mod fitting;
 mod idle;
+mod idle_values;
 mod laws;
 mod rewriting;
 mod trials;
@@ -11,8 +12,9 @@ mod values;
 mod words;
 
 pub use examples::examples_come_to;
-pub use idle_values::no_premise_of_values_is_idle;
+pub use fitting::values_fit;
 pub use idle::no_premise_is_idle;
+pub use idle_values::no_premise_of_values_is_idle;
 pub use laws::{
     may_fail_is_failing, pieces_follow, refinement_is_reflexive, refinement_is_transitive,
     same_instruction_follows, whole_runs_follow,
