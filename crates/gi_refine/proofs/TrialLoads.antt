@@ -56,14 +56,49 @@ missing_byte : (x : ℕ) (w : World) (outside : Outside) (a : ℕ) (made : Optio
 missing_byte x w outside a made undefined =
     undefined_may x w outside (split_load x) ((x, a) ∷ []) made (Breaks, subst (λ g. Answers g outside Breaks) (sym undefined) refl, refl)
 
+-- the old load may make a value with these low bits
+half_made : (x : ℕ) (w : World) (outside : Outside) (a low high l next f s v : ℕ) → outside.memory (wrapped x a) ≡ Some low → outside.memory (wrapped x (a + 1)) ≡ Some high
+    → v < 2 ^ 32 → v % 2 ^ 16 ≡ (low + 256 * (high + 256 * 0)) % 2 ^ 16
+    → MayMake x w outside (split_load x) ((x, a) ∷ []) (Some ((x, a) ∷ (32, l) ∷ (x, 1) ∷ (x, next) ∷ (32, f) ∷ (32, 8) ∷ (32, s) ∷ (32, v) ∷ []))
+half_made x w outside a low high l next f s v is_low is_high fits same =
+    inl (
+      (x, a) ∷ (32, v) ∷ [],
+      (
+        Results (v ∷ []) outside,
+        subst (λ g. Answers g outside (Results (v ∷ []) outside)) (sym (two_bytes x outside.memory a (Some low) (Some high) is_low is_high))
+            (v ∷ [], (v, fits, same, refl), refl),
+        refl,
+      ),
+      (refl, tt),
+    )
+
+-- the shift and the or of a low byte and what a load of the high one gave
+abbrev last_operations : List Operation
+last_operations = constant 32 8 ∷ on_two op.GenericShiftLeft no_flags 32 4 5 ∷ on_two op.GenericOr no_flags 32 6 1 ∷ []
+
+put_together : (x : ℕ) (w : World) (outside : Outside) (a low high next f : ℕ) (made : Option Environment) → outside.memory (wrapped x a) ≡ Some low → outside.memory (wrapped x (a + 1)) ≡ Some high → low < 256
+    → f % 2 ^ 8 ≡ (high + 256 * 0) % 2 ^ 8
+    → Makes x w outside last_operations ((x, a) ∷ (32, low + 256 * 0) ∷ (x, 1) ∷ (x, next) ∷ (32, f) ∷ []) made → MayMake x w outside (split_load x) ((x, a) ∷ []) made
+put_together x w outside a low high next f made is_low is_high fits same makes =
+    let rest_2 : List Operation = on_two op.GenericOr no_flags 32 6 1 ∷ [] in
+    let rest_1 : List Operation = on_two op.GenericShiftLeft no_flags 32 4 5 ∷ rest_2 in
+    let l : ℕ = low + 256 * 0 in
+    let env : Environment = (x, a) ∷ (32, l) ∷ (x, 1) ∷ (x, next) ∷ (32, f) ∷ [] in
+    let more_1 : Makes x w outside rest_1 (env ++ (32, 8) ∷ []) made = exactly (8 ∷ []) outside makes.0 env (32 ∷ []) (Makes x w outside rest_1) made makes.1 makes.2 in
+    let env_1 : Environment = (x, a) ∷ (32, l) ∷ (x, 1) ∷ (x, next) ∷ (32, f) ∷ (32, 8) ∷ [] in
+    let s : ℕ = wrapped 32 (f * 2 ^ 8) in
+    let more_2 : Makes x w outside rest_2 (env_1 ++ (32, s) ∷ []) made = exactly (s ∷ []) outside more_1.0 env_1 (32 ∷ []) (Makes x w outside rest_2) made more_1.1 more_1.2 in
+    let env_2 : Environment = (x, a) ∷ (32, l) ∷ (x, 1) ∷ (x, next) ∷ (32, f) ∷ (32, 8) ∷ (32, s) ∷ [] in
+    let v : ℕ = bit_or s l in
+    let is : made ≡ Some (env_2 ++ (32, v) ∷ []) = exactly (v ∷ []) outside more_2.0 env_2 (32 ∷ []) (Makes x w outside []) made more_2.1 more_2.2 in
+    subst (MayMake x w outside (split_load x) ((x, a) ∷ [])) (sym is)
+    (half_made x w outside a low high l next f s v is_low is_high (together_fits f low fits) (bytes_together f low high fits same))
+
 both_bytes : (x : ℕ) (w : World) (outside : Outside) (a low high : ℕ) (made : Option Environment) → outside.memory (wrapped x a) ≡ Some low → outside.memory (wrapped x (a + 1)) ≡ Some high → low < 256
     → Makes x w outside (split_load x).new ((x, a) ∷ []) made → MayMake x w outside (split_load x) ((x, a) ∷ []) made
 both_bytes x w outside a low high made is_low is_high fits makes =
     let memory : Memory = outside.memory in
-    let rest_6 : List Operation = on_two op.GenericOr no_flags 32 6 1 ∷ [] in
-    let rest_5 : List Operation = on_two op.GenericShiftLeft no_flags 32 4 5 ∷ rest_6 in
-    let rest_4 : List Operation = constant 32 8 ∷ rest_5 in
-    let rest_3 : List Operation = load_of op.GenericLoad 32 8 3 ∷ rest_4 in
+    let rest_3 : List Operation = load_of op.GenericLoad 32 8 3 ∷ last_operations in
     let rest_2 : List Operation = on_two op.GenericPointerAdd no_flags x 0 2 ∷ rest_3 in
     let rest_1 : List Operation = constant x 1 ∷ rest_2 in
     let next : ℕ = wrapped x (a + 1) in
@@ -79,27 +114,8 @@ both_bytes x w outside a low high made is_low is_high fits makes =
     let next_byte : memory (wrapped x next) ≡ Some high = ap memory (mod-mod (a + 1) (2 ^ x)) ∙ is_high in
     let second : OneOf 8 (high + 256 * 0) outside more_3.0 =
     from_low_bits 8 32 (high + 256 * 0) outside more_3.0 (subst (λ g. Answers g outside more_3.0) (one_byte x 32 Anything memory next (Some high) next_byte) more_3.1) in
-    let f : ℕ = second.result in
-    let more_4 : Makes x w outside rest_4 (env_3 ++ (32, f) ∷ []) made = after_one f 32 outside more_3.0 env_3 (Makes x w outside rest_4) made second.is more_3.2 in
-    let env_4 : Environment = (x, a) ∷ (32, l) ∷ (x, 1) ∷ (x, next) ∷ (32, f) ∷ [] in
-    let more_5 : Makes x w outside rest_5 (env_4 ++ (32, 8) ∷ []) made = exactly (8 ∷ []) outside more_4.0 env_4 (32 ∷ []) (Makes x w outside rest_5) made more_4.1 more_4.2 in
-    let env_5 : Environment = (x, a) ∷ (32, l) ∷ (x, 1) ∷ (x, next) ∷ (32, f) ∷ (32, 8) ∷ [] in
-    let s : ℕ = wrapped 32 (f * 2 ^ 8) in
-    let more_6 : Makes x w outside rest_6 (env_5 ++ (32, s) ∷ []) made = exactly (s ∷ []) outside more_5.0 env_5 (32 ∷ []) (Makes x w outside rest_6) made more_5.1 more_5.2 in
-    let env_6 : Environment = (x, a) ∷ (32, l) ∷ (x, 1) ∷ (x, next) ∷ (32, f) ∷ (32, 8) ∷ (32, s) ∷ [] in
-    let v : ℕ = bit_or s l in
-    let is : made ≡ Some (env_6 ++ (32, v) ∷ []) = exactly (v ∷ []) outside more_6.0 env_6 (32 ∷ []) (Makes x w outside []) made more_6.1 more_6.2 in
-    subst (MayMake x w outside (split_load x) env) (sym is)
-    (inl (
-      (x, a) ∷ (32, v) ∷ [],
-      (
-        Results (v ∷ []) outside,
-        subst (λ g. Answers g outside (Results (v ∷ []) outside)) (sym (two_bytes x memory a (Some low) (Some high) is_low is_high))
-            (v ∷ [], (v, together_fits f low fits, bytes_together f low high fits second.low, refl), refl),
-        refl,
-      ),
-      (refl, tt),
-    ))
+    put_together x w outside a low high next second.result made is_low is_high fits second.low
+    (after_one second.result 32 outside more_3.0 env_3 (Makes x w outside last_operations) made second.is more_3.2)
 
 split_load_by : (x : ℕ) (w : World) (outside : Outside) (a : ℕ) (made : Option Environment) (low high : Option ℕ) → outside.memory (wrapped x a) ≡ low → outside.memory (wrapped x (a + 1)) ≡ high
     → IfSome low (λ byte. byte < 256) → Makes x w outside (split_load x).new ((x, a) ∷ []) made → MayMake x w outside (split_load x) ((x, a) ∷ []) made
