@@ -14,7 +14,7 @@ use Rattle.gi_refine.specs.Refinement.{IsRefinement}
 use Rattle.gi_refine.proofs.Doing.{ActsSo, DoesAll}
 use Rattle.gi_refine.proofs.Failing.{fails_from_may}
 
-none_some : {X : Type 0} (x : X) → None ≡ Some x → ⊥
+pub none_some : {X : Type 0} (x : X) → None ≡ Some x → ⊥
 none_some x h = cc
 
 some_is : {X : Type 0} (x y : X) → Some x ≡ Some y → y ≡ x

@@ -9,11 +9,13 @@ pub mod Failing
 pub mod Fitted
 pub mod IdleValues
 pub mod Invariants
+pub mod IdlePieces
 pub mod IdlePlaces
 pub mod Keeping
 pub mod OneBlock
 pub mod OnePlaceFollows
 pub mod Reaching
+pub mod ReachNeeded
 pub mod Refining
 pub mod RewritingFollows
 pub mod RuleSteps
