@@ -1,14 +1,13 @@
 -- A function of one block that goes nowhere: a run enters it once, at the start.
-use Rattle.std.proofs.Common.{◌≡◌, ℕ, zero, suc, ◌+◌, Bool, true, false, cond, ◌&&◌, List, [], ◌∷◌, Option, Some, None, slice_get, refl, sym, ap, ◌∙◌, subst}
+use Rattle.std.proofs.Common.{◌≡◌, ℕ, zero, suc, Bool, true, false, ◌&&◌, List, [], ◌∷◌, Option, Some, None, slice_get, sym, ap, ◌∙◌, subst}
 use Rattle.gi_mir.specs.Data.{InstrData, BlockData}
 use Rattle.gi_mir.specs.declared.operand.MemOp.{MemOp}
 use Rattle.gi_meaning.specs.Argument.{Argument}
 use Rattle.gi_meaning.specs.State.{World, State, Outside, outside_of, start, Place}
 use Rattle.gi_meaning.specs.Meaning.{Meaning, Copying, Generic, Machine, Loading, Returning, meaning_of}
-use Rattle.gi_meaning.specs.Act.{Answer, Results, Leaves, Returns, Asks, Breaks, Act, generic_load, returned, copy}
-use Rattle.gi_meaning.specs.Runs.{Setting, arguments_of, written_places, put_all, Progress, On, Left, Over, going_on, progress_of, StepsFrom, Steps, After, Executes, phis_of, after_phis, joined}
-use Rattle.gi_refine.specs.Reached.{GoesTo, AfterPhis, Passes, Arrives, IsEntered, Reaches, IsReached}
-use Rattle.gi_refine.specs.Values.{is_pure}
+use Rattle.gi_meaning.specs.Act.{Answer, Results, Leaves, Returns, Asks, Breaks, Act, generic_load, copy}
+use Rattle.gi_meaning.specs.Runs.{Setting, arguments_of, written_places, put_all, Progress, On, Left, Over, going_on, progress_of, StepsFrom, After, Executes, phis_of, after_phis, joined}
+use Rattle.gi_refine.specs.Reached.{GoesTo, Passes, Arrives, IsReached}
 use Rattle.gi_refine.proofs.ValuesPlaced.{IsPlain, answers_plain, words_plain, and_left, and_right}
 
 -- ══ Instructions that leave no block ══

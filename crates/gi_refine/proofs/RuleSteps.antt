@@ -1,12 +1,12 @@
 -- Steps of a proof that a rule on values is sound.
-use Rattle.std.proofs.Common.{◌≡◌, ℕ, ◌^◌, ◌%◌, ◌<◌, Bool, true, false, cond, List, [], ◌∷◌, Option, Some, None, slice_get, refl, sym, ap, ◌∙◌, subst, arith}
+use Rattle.std.proofs.Common.{◌≡◌, ℕ, ◌^◌, ◌%◌, ◌<◌, ◌==◌, Bool, true, false, cond, List, [], ◌∷◌, ◌++◌, Option, Some, None, slice_get, refl, sym, ap, ◌∙◌, subst, arith}
 use Rattle.std.specs.Prelude.{nat_lt}
 use Rattle.std.proofs.Math.Nat.{mod-one}
 use Rattle.gi_meaning.specs.Argument.{Argument, Value}
-use Rattle.gi_meaning.specs.Given.{Given, Exactly, LowBits, Undefined, IsGiven, unless_broken}
+use Rattle.gi_meaning.specs.Given.{Given, Exactly, LowBits, Undefined, IsGiven, one, in_low_bits, unless_broken}
 use Rattle.gi_meaning.specs.State.{World, Outside}
 use Rattle.gi_llt.specs.Bits.{wrapped}
-use Rattle.gi_meaning.specs.Act.{Answer, Results, AllReadAs, Answers, AnswersWords, all_fitted, fitted, IsWordOf}
+use Rattle.gi_meaning.specs.Act.{Answer, Results, Breaks, AllReadAs, Answers, AnswersWords, all_fitted, fitted, IsWordOf}
 use Rattle.gi_refine.specs.Values.{Environment, appended, answered, Then, Holds, Defines, StandAt}
 use Rattle.gi_refine.specs.TrialRules.{constant}
 
@@ -54,7 +54,7 @@ entry_value n a m b h = ap value_of h
 
 -- ══ Words ══
 
-not_below_itself : (x : ℕ) → nat_lt x x ≡ false
+pub not_below_itself : (x : ℕ) → nat_lt x x ≡ false
 not_below_itself x = grind arith
 
 -- a register of a word's width is read as it is
@@ -88,3 +88,44 @@ pub words_exactly : (x : ℕ) (widths words : List ℕ) (outside : Outside) (ans
     → AnswersWords x widths (Exactly words) outside answer → Then (answered env widths answer) rest made → Then (appended env widths (all_fitted x widths words)) rest made
 words_exactly x widths words outside answer env rest made h more =
     subst (λ ws. Then (appended env widths (all_fitted x widths ws)) rest made) h.1 (subst (λ a. Then (answered env widths a) rest made) h.2 more)
+
+-- ══ Free bits ══
+
+-- a value whose low bits are known
+pub record OneOf (known value : ℕ) (outside : Outside) (answer : Answer) : Type 0 where
+  pub result : ℕ
+  pub low : result % 2 ^ known ≡ value % 2 ^ known
+  pub is : answer ≡ Results (result ∷ []) outside
+
+given_low_bits : (b : Bool) (known width value : ℕ) (outside : Outside) (answer : Answer) → Answers (cond b (one value) (LowBits known width value)) outside answer → OneOf known value outside answer
+given_low_bits true known width value outside answer h = record { result = value; low = refl; is = h.2 ∙ ap (λ rs. Results rs outside) h.1 }
+given_low_bits false known width value outside answer h = record { result = h.1.0; low = h.1.2; is = h.2 ∙ ap (λ rs. Results rs outside) h.1.3 }
+
+pub from_low_bits : (known width value : ℕ) (outside : Outside) (answer : Answer) → Answers (in_low_bits known width value) outside answer → OneOf known value outside answer
+from_low_bits known width value outside answer h = given_low_bits (known == width) known width value outside answer h
+
+-- the rest of a run after one result
+pub after_one : (v n : ℕ) (outside : Outside) (answer : Answer) (env : Environment) (rest : Environment → Option Environment → Type 0) (made : Option Environment)
+    → answer ≡ Results (v ∷ []) outside → Then (answered env (n ∷ []) answer) rest made → rest (env ++ (n, v) ∷ []) made
+after_one v n outside answer env rest made is more = subst (λ a. Then (answered env (n ∷ []) a) rest made) is more
+
+-- ══ The same given ══
+
+-- the new operation gives one result, which the old may give as well, or both are undefined
+pub data SameGiven (given : Given) (outside : Outside) (n : ℕ) (env env' : Environment) (made : Option Environment) : Type 0 where
+  Gives : (v : ℕ) → made ≡ Some (env' ++ (n, v) ∷ []) → Answers given outside (Results (v ∷ []) outside) → SameGiven given outside n env env' made
+  GivesNone : made ≡ None → (answer : Answer) → Answers given outside answer → answered env (n ∷ []) answer ≡ None → SameGiven given outside n env env' made
+
+same_results : (given : Given) (outside : Outside) (n : ℕ) (env env' : Environment) (made : Option Environment) (results : List ℕ) → Answers given outside (Results results outside)
+    → Then (appended env' (n ∷ []) results) (λ e m. m ≡ Some e) made → SameGiven given outside n env env' made
+same_results given outside n env env' made [] h more = GivesNone more (Results [] outside) h refl
+same_results given outside n env env' made (v ∷ []) h more = Gives v more h
+same_results given outside n env env' made (v ∷ u ∷ results) h more = GivesNone more (Results (v ∷ u ∷ results) outside) h refl
+
+pub same_given : (given : Given) (outside : Outside) (n : ℕ) (env env' : Environment) (answer : Answer) (made : Option Environment) → Answers given outside answer
+    → Then (answered env' (n ∷ []) answer) (λ e m. m ≡ Some e) made → SameGiven given outside n env env' made
+same_given Undefined outside n env env' answer made h more = GivesNone (subst (λ a. Then (answered env' (n ∷ []) a) (λ e m. m ≡ Some e) made) h more) Breaks refl refl
+same_given (Exactly results) outside n env env' answer made h more =
+    same_results (Exactly results) outside n env env' made h.0 (answers_given (Exactly results) outside h.0 h.1) (subst (λ a. Then (answered env' (n ∷ []) a) (λ e m. m ≡ Some e) made) h.2 more)
+same_given (LowBits known width value) outside n env env' answer made h more =
+    same_results (LowBits known width value) outside n env env' made h.0 (answers_given (LowBits known width value) outside h.0 h.1) (subst (λ a. Then (answered env' (n ∷ []) a) (λ e m. m ≡ Some e) made) h.2 more)

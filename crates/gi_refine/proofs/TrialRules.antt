@@ -3,6 +3,7 @@ use Rattle.std.proofs.Common.{◌≡◌, ℕ, ◌+◌, ◌^◌, ◌<◌, List, [
 use Rattle.std.proofs.Math.Nat.{mod-eq_of_lt}
 use Rattle.std.proofs.lemmas.Nat.{pow_pos, mod_below}
 use Rattle.gi_llt.specs.Bits.{wrapped}
+use Rattle.gi_mir.specs.Stated.{no_flags}
 use Rattle.gi_mir.specs.declared.operand.Flags.{Flags}
 use Rattle.gi_meaning.specs.Generic.{sum, difference, difference_of}
 use Rattle.gi_meaning.specs.State.{World}
@@ -10,13 +11,13 @@ use Rattle.gi_meaning.specs.Argument.{Argument, Value}
 use Rattle.gi_meaning.specs.Given.{Exactly}
 use Rattle.gi_meaning.specs.Machine.{on_words, sum_word}
 use Rattle.gi_meaning.specs.Act.{Results, AnswersWords, fitted}
-use Rattle.gi_refine.specs.Values.{Makes, MayMake, IsSound}
+use Rattle.gi_refine.specs.Values.{Environment, Makes, Correspond, MayMake, IsSound, IsCertain}
 use Rattle.gi_refine.specs.TrialRules.{subtract_self, add_constants, add_zero, select_add}
-use Rattle.gi_refine.proofs.RuleSteps.{answers_given, unless_given, exactly, constant_known, entry_value, ReadTwo, read_two, whole_word, whole_fitted, words_exactly}
+use Rattle.gi_refine.proofs.RuleSteps.{answers_given, unless_given, exactly, constant_known, entry, entry_value, ReadTwo, read_two, whole_word, whole_fitted, words_exactly}
 
 -- ══ Folds, and a use replaced ══
 
-difference_self : (n a : ℕ) → difference_of n a a ≡ 0
+pub difference_self : (n a : ℕ) → difference_of n a a ≡ 0
 difference_self n a = grind arith
 
 pub subtract_self_sound : (x : ℕ) (w : World) (flags : Flags) (n : ℕ) → IsSound x w (subtract_self flags n)
@@ -51,7 +52,7 @@ add_constants_sound x w flags n a b = record {
       ));
 }
 
-sum_with_zero : (n a b : ℕ) → a < 2 ^ n → b ≡ 0 → wrapped n (a + b) ≡ a
+pub sum_with_zero : (n a b : ℕ) → a < 2 ^ n → b ≡ 0 → wrapped n (a + b) ≡ a
 sum_with_zero n a b fits zero = ap (wrapped n) (omega (arith, zero)) ∙ mod-eq_of_lt fits
 
 pub add_zero_sound : (x : ℕ) (w : World) (flags : Flags) (n : ℕ) → IsSound x w (add_zero flags n)
@@ -68,6 +69,20 @@ add_zero_sound x w flags n = record {
         ),
         (refl, tt),
       ));
+}
+
+unwrapped : (a b : Environment) → Some a ≡ Some b → a ≡ b
+unwrapped a b h = cc
+
+-- the summand and the sum have one value
+pub add_zero_certain : (x : ℕ) (w : World) (n : ℕ) → IsCertain x w (add_zero no_flags n)
+add_zero_certain x w n = record {
+  by = λ outside a a_fits b b_fits facts old makes.
+      let b_is : b ≡ 0 = entry_value n b n 0 (constant_known x w outside ((n, a) ∷ (n, b) ∷ []) n 0 1 facts.0) in
+      let is : Some old ≡ Some ((n, a) ∷ (n, b) ∷ (n, wrapped n (a + b)) ∷ []) =
+      exactly (wrapped n (a + b) ∷ []) outside makes.0 ((n, a) ∷ (n, b) ∷ []) (n ∷ []) (Makes x w outside []) (Some old) makes.1 makes.2 in
+      let sum_is : entry n a ≡ entry n (wrapped n (a + b)) = ap (entry n) (sym (sum_with_zero n a b a_fits b_is)) in
+      subst (λ env. Correspond ((2, 0) ∷ []) env env) (unwrapped _ old (sym is)) (sum_is, tt);
 }
 
 -- ══ Selection ══

@@ -8,14 +8,14 @@ use Rattle.gi_refine.specs.Agreement.{Agree, ValueStands, setting}
 use Rattle.gi_refine.specs.Kept.{HasSameValue}
 use Rattle.gi_refine.specs.Simulation.{Stands, IsFollowed}
 use Rattle.gi_refine.specs.Values.{Environment, Makes, AllHold, Rule, Correspond, MayMake, ForAllOf, IsSound}
-use Rattle.gi_refine.specs.Lifting.{all_grown, is_result, none_hidden, is_register, Placing, is_kept, hidden_after, IsPlaced, Reads, AreSized, AgreeReady}
+use Rattle.gi_refine.specs.Lifting.{all_grown, is_result, none_hidden, is_register, Placing, is_kept, left_hidden, IsPlaced, Reads, AreSized, AgreeReady}
 use Rattle.gi_refine.proofs.Agreeing.{same_value, same_value_stands}
 use Rattle.gi_refine.proofs.ValuesPlaced.{BothRead, both_read, Became, Settled, Forward, forward, Backward, backward, or_left, or_right, and_left, and_right, not_true}
 
 -- ══ The inputs ══
 
 -- a claim for all values of these widths, at the values of registers
-for_all_at : (width : ℕ → ℕ) (values : ℕ → Option ℕ) (rs : List ℕ) (env : Environment) (claim : Environment → Type 0) → Reads width values rs env → AreSized env → ForAllOf (map width rs) claim → claim env
+pub for_all_at : (width : ℕ → ℕ) (values : ℕ → Option ℕ) (rs : List ℕ) (env : Environment) (claim : Environment → Type 0) → Reads width values rs env → AreSized env → ForAllOf (map width rs) claim → claim env
 for_all_at width values [] [] claim reads sized all = all
 for_all_at width values [] (entry ∷ env) claim reads sized all = absurd reads
 for_all_at width values (r ∷ rs) [] claim reads sized all = absurd reads
@@ -90,7 +90,7 @@ shown_value true false hidden stands other here h = cc
 shown_value false kept hidden stands other here h = other refl h
 
 agree_after : (x : ℕ) (names : List (List ℕ)) (width width' : ℕ → ℕ) (rule : Rule) (placing : Placing) (before after : Place → Bool) (old new final final' : State) (env env' : Environment) → Agree (setting x names width) (setting x names width') before old new
-    → ((p : Place) → after p ≡ false → hidden_after before rule placing p ≡ false)
+    → ((p : Place) → after p ≡ false → left_hidden before rule placing p ≡ false)
     → Became width old (λ r. is_result r placing.old) (all_grown placing.inputs placing.old) env final → Became width' new (λ r. is_result r placing.new) (all_grown placing.inputs placing.new) env' final'
     → Correspond rule.kept env env' → Agree (setting x names width) (setting x names width') after final final'
 agree_after x names width width' rule placing before after old new final final' env env' agree covered became became' same = record {
@@ -112,7 +112,7 @@ old_fails : (s : Setting) (w : World) (is : List (ℕ × InstrData)) (state : St
 old_fails s w is state is_written rs back = subst (λ p. Executes s w is state p) back.settled back.run
 
 old_goes_on : (x : ℕ) (names : List (List ℕ)) (width width' : ℕ → ℕ) (w : World) (rule : Rule) (placing : Placing) (before after : Place → Bool) (exit : ℕ → State → State → Type 0) (is : List (ℕ × InstrData)) (old new : State)
-    (env env' : Environment) (p' : Progress) → Agree (setting x names width) (setting x names width') before old new → ((p : Place) → after p ≡ false → hidden_after before rule placing p ≡ false) → Correspond rule.kept env env'
+    (env env' : Environment) (p' : Progress) → Agree (setting x names width) (setting x names width') before old new → ((p : Place) → after p ≡ false → left_hidden before rule placing p ≡ false) → Correspond rule.kept env env'
     → Backward (setting x names width) w (Executes (setting x names width) w is old) old (λ r. is_result r placing.old) (all_grown placing.inputs placing.old) (Some env)
     → Settled width' new (λ r. is_result r placing.new) (all_grown placing.inputs placing.new) p' (Some env')
     → (p : Progress) × Executes (setting x names width) w is old p × Stands (Agree (setting x names width) (setting x names width') after) exit p p'
@@ -127,7 +127,7 @@ old_goes_on x names width width' w rule placing before after exit is old new env
     )
 
 follow_made : (x : ℕ) (names : List (List ℕ)) (width width' : ℕ → ℕ) (w : World) (rule : Rule) (placing : Placing) (before after : Place → Bool) (exit : ℕ → State → State → Type 0) (is : List (ℕ × InstrData)) (old new : State)
-    (env : Environment) (p' : Progress) → Agree (setting x names width) (setting x names width') before old new → ((p : Place) → after p ≡ false → hidden_after before rule placing p ≡ false)
+    (env : Environment) (p' : Progress) → Agree (setting x names width) (setting x names width') before old new → ((p : Place) → after p ≡ false → left_hidden before rule placing p ≡ false)
     → ((m : Option Environment) → Makes x w (outside_of old) rule.old env m
     → Backward (setting x names width) w (Executes (setting x names width) w is old) old (λ r. is_result r placing.old) (all_grown placing.inputs placing.old) m)
     → (made : Option Environment) → Settled width' new (λ r. is_result r placing.new) (all_grown placing.inputs placing.new) p' made

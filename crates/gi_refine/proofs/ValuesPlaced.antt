@@ -7,8 +7,8 @@ use Rattle.gi_mir.specs.declared.operand.Operand.TheVariants as operand
 use Rattle.gi_meaning.specs.Argument.{Argument, Value}
 use Rattle.gi_meaning.specs.Given.{Given, Exactly, LowBits, Undefined}
 use Rattle.gi_meaning.specs.State.{World, State, Outside, outside_of, Fails, Place, Virtual, put}
-use Rattle.gi_meaning.specs.Meaning.{Meaning, Copying, Generic, Machine, meaning_of}
-use Rattle.gi_meaning.specs.Act.{Answer, Results, Leaves, Returns, Asks, Breaks, Act, Answers, AnswersWords, copy}
+use Rattle.gi_meaning.specs.Meaning.{Meaning, Copying, Generic, Machine, meaning_of, Loading, MachineLoading}
+use Rattle.gi_meaning.specs.Act.{Answer, Results, Leaves, Returns, Asks, Breaks, Act, Answers, AnswersWords, copy, generic_load, machine_load}
 use Rattle.gi_meaning.specs.Runs.{Setting, argument_of, arguments_of, joined_lists, places_of, written_places, width_of_place, put_all, Progress, On, Over, going_on, progress_of, StepsFrom, Steps, After, Executes, is_among}
 use Rattle.gi_refine.specs.Values.{Environment, Slot, At, Fixed, Operation, is_pure, are_pure, argument_at, arguments_at, ActsFrom, appended, answered, Then, Makes}
 use Rattle.gi_refine.specs.Lifting.{fixed_argument, ShowsSlot, ShowsSlots, ShowsOperands, Shows, grown, all_grown, AllShow, are_fresh, are_all_fresh, is_result, Reads}
@@ -102,6 +102,8 @@ pure_writes : (m : Meaning) (os : List Operand) → is_pure m ≡ true → writt
 pure_writes Copying os h = refl
 pure_writes (Generic gives) os h = refl
 pure_writes (Machine gives) os h = refl
+pure_writes (Loading extension) os h = refl
+pure_writes (MachineLoading exists bytes extension) os h = refl
 pure_writes _ os h = cc
 
 widths_of : (s : Setting) (results : List ℕ) → map (width_of_place s) (map Virtual results) ≡ map s.width results
@@ -131,12 +133,15 @@ pure_plain : (x : ℕ) (w : World) (m : Meaning) (mem : Option MemOp) (widths : 
 pure_plain x w Copying mem widths arguments outside answer h act = answers_plain (copy widths arguments) outside answer act
 pure_plain x w (Generic gives) mem widths arguments outside answer h act = answers_plain (gives widths arguments) outside answer act
 pure_plain x w (Machine gives) mem widths arguments outside answer h act = words_plain x widths (gives x act.0) outside answer act.2
+pure_plain x w (Loading extension) mem widths arguments outside answer h act = answers_plain (generic_load x extension mem widths arguments outside.memory) outside answer act
+pure_plain x w (MachineLoading exists bytes extension) mem widths arguments outside answer h act =
+    words_plain x widths (machine_load x exists bytes extension act.0 outside.memory) outside answer act.2
 pure_plain x w _ mem widths arguments outside answer h act = cc
 
 acts_plain : (x : ℕ) (w : World) (o : Operation) (outside : Outside) (arguments : Option (List Argument)) (answer : Answer) → is_pure (meaning_of o.flags o.op) ≡ true
     → ActsFrom x w o outside arguments answer → IsPlain outside answer
 acts_plain x w o outside None answer h act = subst (IsPlain outside) (sym act) tt
-acts_plain x w o outside (Some arguments) answer h act = pure_plain x w (meaning_of o.flags o.op) None o.widths arguments outside answer h act
+acts_plain x w o outside (Some arguments) answer h act = pure_plain x w (meaning_of o.flags o.op) o.mem o.widths arguments outside answer h act
 
 -- ══ A step ══
 
@@ -148,7 +153,7 @@ Stepped s w m mem widths places state (Some arguments) p =
 
 -- the step of an operation
 abbrev OperationSteps : (s : Setting) (w : World) (o : Operation) (results : List ℕ) (state : State) → Option (List Argument) → Progress → Type 0
-OperationSteps s w o results = Stepped s w (meaning_of o.flags o.op) None o.widths (map Virtual results)
+OperationSteps s w o results = Stepped s w (meaning_of o.flags o.op) o.mem o.widths (map Virtual results)
 
 steps_stepped : (s : Setting) (w : World) (i : InstrData) (state : State) (arguments : Option (List Argument)) (p : Progress) → StepsFrom s w i state arguments p
     → Stepped s w (meaning_of i.flags i.op) i.mem (map (width_of_place s) (written_places (meaning_of i.flags i.op) i.operands)) (written_places (meaning_of i.flags i.op) i.operands) state arguments p
@@ -181,17 +186,17 @@ parts s w rs results env o i state pure shows reads =
       reads = operands_give s w state rs env reads results o.slots i.operands shows.operands;
     }
 
-steps_as_operation : (s : Setting) (w : World) (rs results : List ℕ) (env : Environment) (o : Operation) (i : InstrData) (state : State) → Parts s w rs results env o i state → i.mem ≡ None → (p : Progress)
+steps_as_operation : (s : Setting) (w : World) (rs results : List ℕ) (env : Environment) (o : Operation) (i : InstrData) (state : State) → Parts s w rs results env o i state → i.mem ≡ o.mem → (p : Progress)
     → Steps s w i state p → OperationSteps s w o results state (arguments_at env o.slots) p
 steps_as_operation s w rs results env o i state parts mem p step =
-    subst (λ m. Stepped s w m None o.widths (map Virtual results) state (arguments_at env o.slots) p) parts.means
+    subst (λ m. Stepped s w m o.mem o.widths (map Virtual results) state (arguments_at env o.slots) p) parts.means
     (subst (λ a. Stepped s w (meaning_of i.flags i.op) a o.widths (map Virtual results) state (arguments_at env o.slots) p) mem
     (subst (λ ns. Stepped s w (meaning_of i.flags i.op) i.mem ns (map Virtual results) state (arguments_at env o.slots) p) parts.widths
     (subst (λ ps. Stepped s w (meaning_of i.flags i.op) i.mem (map (width_of_place s) (written_places (meaning_of i.flags i.op) i.operands)) ps state (arguments_at env o.slots) p) parts.writes
     (subst (λ a. Stepped s w (meaning_of i.flags i.op) i.mem (map (width_of_place s) (written_places (meaning_of i.flags i.op) i.operands)) (written_places (meaning_of i.flags i.op) i.operands) state a p) parts.reads
     (steps_stepped s w i state (arguments_of s w state i.operands) p step)))))
 
-operation_steps : (s : Setting) (w : World) (rs results : List ℕ) (env : Environment) (o : Operation) (i : InstrData) (state : State) → Parts s w rs results env o i state → i.mem ≡ None → (p : Progress)
+operation_steps : (s : Setting) (w : World) (rs results : List ℕ) (env : Environment) (o : Operation) (i : InstrData) (state : State) → Parts s w rs results env o i state → i.mem ≡ o.mem → (p : Progress)
     → OperationSteps s w o results state (arguments_at env o.slots) p → Steps s w i state p
 operation_steps s w rs results env o i state parts mem p step =
     stepped_steps s w i state (arguments_of s w state i.operands) p
@@ -199,7 +204,7 @@ operation_steps s w rs results env o i state parts mem p step =
     (subst (λ ps. Stepped s w (meaning_of i.flags i.op) i.mem (map (width_of_place s) (written_places (meaning_of i.flags i.op) i.operands)) ps state (arguments_at env o.slots) p) (sym parts.writes)
     (subst (λ ns. Stepped s w (meaning_of i.flags i.op) i.mem ns (map Virtual results) state (arguments_at env o.slots) p) (sym parts.widths)
     (subst (λ a. Stepped s w (meaning_of i.flags i.op) a o.widths (map Virtual results) state (arguments_at env o.slots) p) (sym mem)
-    (subst (λ m. Stepped s w m None o.widths (map Virtual results) state (arguments_at env o.slots) p) (sym parts.means) step)))))
+    (subst (λ m. Stepped s w m o.mem o.widths (map Virtual results) state (arguments_at env o.slots) p) (sym parts.means) step)))))
 
 -- the answer that a step took
 record Answering (s : Setting) (w : World) (o : Operation) (results : List ℕ) (state : State) (arguments : Option (List Argument)) (p : Progress) : Type 0 where

@@ -5,7 +5,7 @@ use Rattle.gi_mir.specs.declared.operand.Operand.{Operand}
 use Rattle.gi_mir.specs.declared.operand.Operand.TheVariants as operand
 use Rattle.gi_meaning.specs.Argument.{Argument, Value}
 use Rattle.gi_meaning.specs.State.{World, State, Fails, Place}
-use Rattle.gi_meaning.specs.Runs.{Setting, argument_of, arguments_of, joined_lists, StepsFrom, Over, Executes}
+use Rattle.gi_meaning.specs.Runs.{Setting, argument_of, arguments_of, joined_lists, StepsFrom, Progress, Over, After, Executes}
 use Rattle.gi_refine.specs.Agreement.{Agree, setting}
 use Rattle.gi_refine.specs.Simulation.{IsFollowed}
 use Rattle.gi_refine.specs.Values.{Environment, Slot, At, Fixed, Operation, Rule, IsSound}
@@ -45,7 +45,7 @@ value_or_none None = inr refl
 value_or_none (Some value) = inl (value, refl)
 
 -- all registers read, or one is missing
-read_or_missing : (slots : List Slot) (width : ℕ → ℕ) (values : ℕ → Option ℕ) (place : ℕ) (rs : List ℕ) → AreThere slots values place rs
+pub read_or_missing : (slots : List Slot) (width : ℕ → ℕ) (values : ℕ → Option ℕ) (place : ℕ) (rs : List ℕ) → AreThere slots values place rs
     → ((env : Environment) × Reads width values rs env) ⊎ Missing slots values place rs
 read_or_missing slots width values place [] there = inl ([], tt)
 read_or_missing slots width values place (r ∷ rs) there =
@@ -96,6 +96,10 @@ operands_missing s w state rs at r here none (q ∷ results) slots (operand.Def 
     ap (joined_lists (Some [])) (operands_missing s w state rs at r here none results slots os taken shows.1)
 operands_missing s w state rs at r here none (q ∷ results) slots (o ∷ os) taken shows = absurd shows
 
+first_missing : (s : Setting) (w : World) (state : State) (rs results : List ℕ) (o : Operation) (i : InstrData) → Shows s w rs results o i → Missing o.slots state.values 0 rs → arguments_of s w state i.operands ≡ None
+first_missing s w state rs results o i shows m =
+    operands_missing s w state rs m.at m.register m.here m.none results o.slots i.operands (subst (λ k. takes k o.slots ≡ true) (omega arith) m.taken) shows.operands
+
 missing_fails : (s : Setting) (w : World) (state : State) (rss : List (List ℕ)) (os : List Operation) (is : List (ℕ × InstrData)) (rs : List ℕ) → AllShow s w rs rss os is
     → Missing (first_slots os) state.values 0 rs → Executes s w is state (Over Fails)
 missing_fails s w state [] [] is rs shown m = let no : false ≡ true = m.taken in cc
@@ -103,10 +107,18 @@ missing_fails s w state [] (o ∷ os) is rs shown m = absurd shown
 missing_fails s w state (results ∷ rss) [] is rs shown m = absurd shown
 missing_fails s w state (results ∷ rss) (o ∷ os) [] rs shown m = absurd shown
 missing_fails s w state (results ∷ rss) (o ∷ os) (i ∷ is) rs shown m =
-    let shows : Shows s w rs results o i.1 = shown.0 in
-    let none : arguments_of s w state i.1.operands ≡ None =
-    operands_missing s w state rs m.at m.register m.here m.none results o.slots i.1.operands (subst (λ k. takes k o.slots ≡ true) (omega arith) m.taken) shows.operands in
-    (Over Fails, subst (λ a. StepsFrom s w i.1 state a (Over Fails)) (sym none) refl, refl)
+    (Over Fails, subst (λ a. StepsFrom s w i.1 state a (Over Fails)) (sym (first_missing s w state rs results o i.1 shown.0 m)) refl, refl)
+
+-- and does nothing else
+pub missing_over : (s : Setting) (w : World) (state : State) (rss : List (List ℕ)) (os : List Operation) (is : List (ℕ × InstrData)) (rs : List ℕ) → AllShow s w rs rss os is
+    → Missing (first_slots os) state.values 0 rs → (p : Progress) → Executes s w is state p → p ≡ Over Fails
+missing_over s w state [] [] is rs shown m p run = let no : false ≡ true = m.taken in cc
+missing_over s w state [] (o ∷ os) is rs shown m p run = absurd shown
+missing_over s w state (results ∷ rss) [] is rs shown m p run = absurd shown
+missing_over s w state (results ∷ rss) (o ∷ os) [] rs shown m p run = absurd shown
+missing_over s w state (results ∷ rss) (o ∷ os) (i ∷ is) rs shown m p run =
+    let over : run.0 ≡ Over Fails = subst (λ a. StepsFrom s w i.1 state a run.0) (first_missing s w state rs results o i.1 shown.0 m) run.1 in
+    subst (λ q. After q (Executes s w is) p) over run.2
 
 -- ══ The law ══
 

@@ -1,7 +1,10 @@
 pub mod Agreement
 pub mod Evaluation
 pub mod Examples
+pub mod Fitting
 pub mod Idle
+pub mod IdleValues
+pub mod Invariant
 pub mod Kept
 pub mod Lifting
 pub mod OnePlace
@@ -13,6 +16,7 @@ pub mod Rewriting
 pub mod RuleUse
 pub mod Simulation
 pub mod TargetExamples
+pub mod TrialFunctions
 pub mod TrialRules
 pub mod Values
 pub mod Worded

@@ -7,6 +7,7 @@ use Rattle.gi_meaning.specs.Argument.{Argument, Value, Number, Bits, Symbol, To,
 use Rattle.gi_meaning.specs.State.{World, State, outside_of, Place, Virtual, Physical}
 use Rattle.gi_meaning.specs.Runs.{Setting, name_at, is_among}
 use Rattle.gi_refine.specs.Agreement.{Agree, setting}
+use Rattle.gi_refine.specs.Kept.{HasSameValue}
 use Rattle.gi_refine.specs.Values.{Environment, Slot, At, Fixed, Operation, are_pure, AllHold, Rule}
 
 -- ══ Instructions that show operations ══
@@ -43,7 +44,7 @@ ShowsOperands s w registers (r ∷ rs) slots _ = ⊥
 pub record Shows (s : Setting) (w : World) (registers results : List ℕ) (o : Operation) (i : InstrData) : Type 0 where
   pub op : i.op ≡ o.op
   pub flags : i.flags ≡ o.flags
-  pub mem : i.mem ≡ None
+  pub mem : i.mem ≡ o.mem
   pub operands : ShowsOperands s w registers results o.slots i.operands
   pub widths : map s.width results ≡ o.widths
 
@@ -97,11 +98,26 @@ is_kept old new [] r = false
 is_kept old new (pair ∷ pairs) r = (is_register r (slice_get old pair.0) && is_register r (slice_get new pair.1)) || is_kept old new pairs r
 
 -- what is hidden after the operations: each result but those that are kept, and what was hidden before
-abbrev pub hidden_after : (hidden : Place → Bool) → Rule → Placing → Place → Bool
-hidden_after hidden rule placing (Virtual r) =
+abbrev pub left_hidden : (hidden : Place → Bool) → Rule → Placing → Place → Bool
+left_hidden hidden rule placing (Virtual r) =
     if is_result r placing.old || is_result r placing.new
     then not (is_kept (all_grown placing.inputs placing.old) (all_grown placing.inputs placing.new) rule.kept r) else hidden (Virtual r)
-hidden_after hidden rule placing (Physical n) = hidden (Physical n)
+left_hidden hidden rule placing (Physical n) = hidden (Physical n)
+
+-- each of these results is kept or hidden after
+abbrev pub are_covered : (after : Place → Bool) → (kept : ℕ → Bool) → List ℕ → Bool
+are_covered after kept [] = true
+are_covered after kept (r ∷ rs) = (kept r || after (Virtual r)) && are_covered after kept rs
+
+abbrev pub all_covered : (after : Place → Bool) → (kept : ℕ → Bool) → List (List ℕ) → Bool
+all_covered after kept [] = true
+all_covered after kept (rs ∷ rss) = are_covered after kept rs && all_covered after kept rss
+
+-- each result of the rule is kept or hidden after
+abbrev pub covers : (after : Place → Bool) → Rule → Placing → Bool
+covers after rule placing =
+    all_covered after (is_kept (all_grown placing.inputs placing.old) (all_grown placing.inputs placing.new) rule.kept) placing.old
+    && all_covered after (is_kept (all_grown placing.inputs placing.old) (all_grown placing.inputs placing.new) rule.kept) placing.new
 
 -- Instructions that are the operations of a rule on registers: nothing hidden is read, no result is another register
 -- of the rule, and what is hidden after covers what the two sides don't share.
@@ -115,7 +131,7 @@ pub record IsPlaced (x : ℕ) (names : List (List ℕ)) (width width' : ℕ → 
   pub old_widths : map width placing.inputs ≡ rule.inputs
   pub new_widths : map width' placing.inputs ≡ rule.inputs
   pub seen : none_hidden before placing.inputs ≡ true
-  pub covered : (p : Place) → after p ≡ false → hidden_after before rule placing p ≡ false
+  pub covered : (p : Place) → after p ≡ false → left_hidden before rule placing p ≡ false
 
 -- ══ Premises on states ══
 
@@ -175,3 +191,14 @@ pub record IsKnown (s : Setting) (w : World) (rule : Rule) (registers : List ℕ
 pub record AgreeKnown (s t : Setting) (w : World) (rule : Rule) (registers : List ℕ) (hidden : Place → Bool) (old new : State) : Type 0 where
   pub agree : Agree s t hidden old new
   pub known : IsKnown s w rule registers old
+
+-- ══ Registers with one value ══
+
+abbrev pub SameAt : (values : ℕ → Option ℕ) → Option ℕ → Option ℕ → Type 0
+SameAt values (Some r) (Some q) = HasSameValue (values r) (values q)
+SameAt values _ _ = Unit {0}
+
+-- at each two places the second register has the value of the first
+abbrev pub AllSame : (values : ℕ → Option ℕ) → (registers : List ℕ) → List (ℕ × ℕ) → Type 0
+AllSame values registers [] = Unit {0}
+AllSame values registers (pair ∷ pairs) = SameAt values (slice_get registers pair.0) (slice_get registers pair.1) × AllSame values registers pairs

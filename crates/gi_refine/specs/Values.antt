@@ -4,9 +4,10 @@
 use Rattle.std.specs.Prelude.{◌≡◌, ℕ, ◌^◌, ◌<◌, List, [], ◌∷◌, ◌++◌, Option, Some, None, option_map, Bool, true, false, ◌&&◌, ◌⊎◌, slice_get}
 use Rattle.gi_mir.specs.declared.opcode.Opcode.{Opcode}
 use Rattle.gi_mir.specs.declared.operand.Flags.{Flags}
+use Rattle.gi_mir.specs.declared.operand.MemOp.{MemOp}
 use Rattle.gi_meaning.specs.Argument.{Argument, Value}
-use Rattle.gi_meaning.specs.State.{World, Outside}
-use Rattle.gi_meaning.specs.Meaning.{Meaning, Copying, Generic, Machine, meaning_of}
+use Rattle.gi_meaning.specs.State.{World, Outside, AreBytes}
+use Rattle.gi_meaning.specs.Meaning.{Meaning, Copying, Generic, Machine, Loading, MachineLoading, meaning_of}
 use Rattle.gi_meaning.specs.Act.{Answer, Results, Breaks, Act}
 use Rattle.gi_meaning.specs.Runs.{joined_lists}
 
@@ -21,18 +22,21 @@ pub data Slot : Type 0 where
   At : (place : ℕ) → Slot
   Fixed : (argument : Argument) → Slot
 
--- an operation, with the widths of its results
+-- an operation, with its memory operand if it loads, and the widths of its results
 pub record Operation : Type 0 where
   pub op : Opcode
   pub flags : Flags
   pub slots : List Slot
+  pub mem : Option MemOp
   pub widths : List ℕ
 
--- the meaning touches no memory and no block: it goes from arguments to results
+-- the meaning goes from arguments, and memory, to results: it changes no memory and leaves no block
 abbrev pub is_pure : Meaning → Bool
 is_pure Copying = true
 is_pure (Generic gives) = true
 is_pure (Machine gives) = true
+is_pure (Loading extension) = true
+is_pure (MachineLoading exists bytes extension) = true
 is_pure _ = false
 
 abbrev pub are_pure : List Operation → Bool
@@ -53,7 +57,7 @@ arguments_at env (slot ∷ slots) = joined_lists (argument_at env slot) (argumen
 -- an answer of the operation; one that takes a place that isn't there is undefined
 abbrev pub ActsFrom : (x : ℕ) → World → Operation → Outside → Option (List Argument) → Answer → Type 0
 ActsFrom x w o outside None answer = answer ≡ Breaks
-ActsFrom x w o outside (Some arguments) answer = Act x w (meaning_of o.flags o.op) None o.widths arguments outside answer
+ActsFrom x w o outside (Some arguments) answer = Act x w (meaning_of o.flags o.op) o.mem o.widths arguments outside answer
 
 abbrev pub Acts : (x : ℕ) → World → Operation → Outside → Environment → Answer → Type 0
 Acts x w o outside env answer = ActsFrom x w o outside (arguments_at env o.slots) answer
@@ -88,6 +92,8 @@ pub data Fact : Type 0 where
   Defines : (operation : Operation) → (results : List ℕ) → Fact
   -- the value at a place is below a bound
   IsBelow : (place bound : ℕ) → Fact
+  -- what memory holds are bytes
+  HoldsBytes : Fact
 
 abbrev pub StandAt : Environment → (places widths values : List ℕ) → Type 0
 StandAt env [] [] [] = Unit {0}
@@ -102,6 +108,7 @@ abbrev pub Holds : (x : ℕ) → World → Outside → Environment → Fact → 
 Holds x w outside env (Defines operation results) =
     (values : List ℕ) × Acts x w operation outside env (Results values outside) × StandAt env results operation.widths values
 Holds x w outside env (IsBelow place bound) = EntryIsBelow (slice_get env place) bound
+Holds x w outside env HoldsBytes = AreBytes outside.memory
 
 abbrev pub AllHold : (x : ℕ) → World → Outside → Environment → List Fact → Type 0
 AllHold x w outside env [] = Unit {0}
@@ -139,3 +146,9 @@ ForAllOf (n ∷ ns) claim = (value : ℕ) → value < 2 ^ n → ForAllOf ns (λ 
 pub record IsSound (x : ℕ) (w : World) (rule : Rule) : Type 0 where
   pub by : (outside : Outside) → ForAllOf rule.inputs (λ env.
       AllHold x w outside env rule.facts → (made : Option Environment) → Makes x w outside rule.new env made → MayMake x w outside rule env made)
+
+-- Whatever the old operations make, the values at the places that are kept are equal in it: uses of the one may be
+-- replaced by uses of the other.
+pub record IsCertain (x : ℕ) (w : World) (rule : Rule) : Type 0 where
+  pub by : (outside : Outside) → ForAllOf rule.inputs (λ env.
+      AllHold x w outside env rule.facts → (old : Environment) → Makes x w outside rule.old env (Some old) → Correspond rule.kept old old)

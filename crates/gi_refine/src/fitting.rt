@@ -1,0 +1,24 @@
+//! Values that fit the widths of their registers wherever runs reach: a premise of rules on values, from a test.
+
+ghost use Rattle.std.specs.Prelude.{◌≡◌, ◌++◌, true, ℕ, List, Some, slice_get};
+ghost use Rattle.gi_mir.specs.Data.{BlockData, FunctionData, InstrData};
+ghost use Rattle.gi_meaning.specs.Runs.{after_phis, setting_of};
+ghost use Rattle.gi_meaning.specs.State.{IsWorld, State, World};
+ghost use Rattle.gi_refine.specs.Examples.{chooses, names};
+ghost use Rattle.gi_refine.specs.Fitting.{IsFit, blocks_fit};
+ghost use Rattle.gi_refine.specs.Lifting.{AreSized, Reads};
+ghost use Rattle.gi_refine.specs.Reached.{IsReached};
+ghost use Rattle.gi_refine.specs.TrialFunctions.{adds_zero};
+ghost use Rattle.gi_refine.specs.Values.{Environment};
+
+/// In a function that passes the test, values fit wherever runs reach behind instructions at the front of a block, and so
+/// inputs of a rule are of their sizes. Functions with a sum, and with branches and a phi, pass it.
+pub fn values_fit()
+    ensures reached { (x : ℕ) (names : List (List ℕ)) (f : FunctionData) (w : World) → IsWorld x w → blocks_fit (setting_of x names f) f.blocks ≡ true
+        → (b : ℕ) (block : BlockData) (before back : List (ℕ × InstrData)) → slice_get f.blocks b ≡ Some block → after_phis block.instrs ≡ before ++ back
+        → (state : State) → IsReached (setting_of x names f) w f.blocks b before state
+        → IsFit (setting_of x names f) state
+        × ((registers : List ℕ) (env : Environment) → Reads (setting_of x names f).width state.values registers env → AreSized env) }
+    ensures sums { blocks_fit (setting_of 32 names adds_zero) adds_zero.blocks ≡ true }
+    ensures branches { blocks_fit (setting_of 32 names chooses) chooses.blocks ≡ true }
+{}
