@@ -1,6 +1,7 @@
 pub mod Agreeing
 pub mod CallRuns
 pub mod Classed
+pub mod ConstantsHeld
 pub mod Covering
 pub mod Doing
 pub mod Evaluating

@@ -1,4 +1,5 @@
 pub mod Agreement
+pub mod Constants
 pub mod Evaluation
 pub mod Examples
 pub mod Fitting
