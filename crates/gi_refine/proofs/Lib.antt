@@ -27,6 +27,7 @@ pub mod Sized
 pub mod Staying
 pub mod StraightUses
 pub mod Targets
+pub mod TestedUses
 pub mod TrialArithmetic
 pub mod TrialBytes
 pub mod TrialDoubles

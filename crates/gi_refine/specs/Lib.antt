@@ -16,6 +16,7 @@ pub mod Replacing
 pub mod Rewriting
 pub mod RuleUse
 pub mod Simulation
+pub mod TestedUse
 pub mod TrialFunctions
 pub mod TrialRules
 pub mod Values

@@ -12,7 +12,7 @@ mod values;
 mod words;
 
 pub use examples::examples_come_to;
-pub use fitting::{constants_hold, values_fit};
+pub use fitting::{constants_hold, tested_rules_are_used, values_fit};
 pub use idle::no_premise_is_idle;
 pub use idle_values::no_premise_of_values_is_idle;
 pub use laws::{
