@@ -36,6 +36,7 @@ pub mod TrialParts
 pub mod TrialReplaced
 pub mod TrialRules
 pub mod TrialRulesMore
+pub mod TrialTested
 pub mod TrialUses
 pub mod ValuesCertain
 pub mod ValuesFollowed
