@@ -2,7 +2,7 @@
 use Rattle.gi_refine.specs.TrialRules.{constant}
 use Rattle.gi_refine.specs.Lifting.{Reads}
 use Rattle.gi_refine.specs.Values.{Environment, Holds, Defines}
-use Rattle.std.proofs.Common.{◌≡◌, ℕ, zero, suc, Bool, true, false, cond, not, ◌&&◌, ◌||◌, ◌==◌, List, [], ◌∷◌, ◌++◌, Option, Some, None, slice_get, ◌⊎◌, inl, inr, ⊎_elim, refl, sym, ap, ◌∙◌, subst, eqb-true}
+use Rattle.std.proofs.Common.{◌≡◌, ℕ, zero, suc, Bool, true, false, cond, not, ◌&&◌, ◌==◌, List, [], ◌∷◌, ◌++◌, Option, Some, None, slice_get, ⊎_elim, refl, sym, ap, ◌∙◌, subst, eqb-true}
 use Rattle.std.specs.Prelude.{IfSome}
 use Rattle.gi_mir.specs.Data.{InstrData, BlockData}
 use Rattle.gi_mir.specs.declared.opcode.Opcode.{Opcode}
@@ -20,7 +20,8 @@ use Rattle.gi_refine.specs.Constants.{is_virtual, writes, is_constant_of, keeps_
 use Rattle.gi_refine.specs.Invariant.{GoesOnWith, AllKeep, BlockKeeps}
 use Rattle.gi_refine.specs.Reached.{IsReached}
 use Rattle.gi_refine.proofs.Invariants.{invariant_holds}
-use Rattle.gi_refine.proofs.ValuesPlaced.{and_left, and_right, or_left, or_right, not_true, BothRead, both_read}
+use Rattle.gi_refine.proofs.ValuesPlaced.{BothRead, both_read}
+use Rattle.gi_refine.proofs.Tests.{neither_left, neither_right, both_left, both_right, not_true, either, same_some}
 
 -- ══ Writes to other places ══
 
@@ -41,7 +42,7 @@ put_all_others r old state [] [] h is = is
 put_all_others r old state [] (v ∷ vs) h is = tt
 put_all_others r old state (p ∷ ps) [] h is = tt
 put_all_others r old state (p ∷ ps) (v ∷ vs) h is =
-    put_all_others r old (put state p v) ps vs (or_right (is_virtual r p) (writes r ps) h) (put_other r v state p (or_left (is_virtual r p) (writes r ps) h) ∙ is)
+    put_all_others r old (put state p v) ps vs (neither_right (is_virtual r p) (writes r ps) h) (put_other r v state p (neither_left (is_virtual r p) (writes r ps) h) ∙ is)
 
 holds_still : (r value : ℕ) (old : Option ℕ) (state : Option State) → IfSome old (λ v. v ≡ value) → StaysSo r old state → GoesOnWith (HoldsOnly r value) (going_on state)
 holds_still r value old None holds stays = tt
@@ -74,13 +75,9 @@ constant_holds s w r value flags op.GenericConstant (operand.Def q kind ∷ oper
     let answered : step.0 ≡ Results (v ∷ []) (outside_of state) = step.1.2 ∙ ap (λ rs. Results rs (outside_of state)) step.1.1 in
     let made : p ≡ On (put state (Virtual q.0) v) = step.2 ∙ ap (progress_of state (Virtual q.0 ∷ [])) answered in
     let here : HoldsOnly r value (put state (Virtual q.0) v) =
-    record { is = value_put (r == q.0) v value (state.values r) (eqb-true v value (and_right (q.0 == r) (v == value) h)) holds.is } in
+    record { is = value_put (r == q.0) v value (state.values r) (eqb-true v value (both_right (q.0 == r) (v == value) h)) holds.is } in
     subst (GoesOnWith (HoldsOnly r value)) (sym made) here
 constant_holds s w r value flags _ _ mem line h state holds p step = cc
-
-either : (a b : Bool) → (a || b) ≡ true → (a ≡ true) ⊎ (b ≡ true)
-either true b h = inl refl
-either false b h = inr h
 
 instruction_holds : (s : Setting) (w : World) (r value : ℕ) (i : InstrData) → keeps_constant r value i ≡ true → (state : State) → HoldsOnly r value state → (p : Progress) → Steps s w i state p → GoesOnWith (HoldsOnly r value) p
 instruction_holds s w r value i h state holds p step =
@@ -92,22 +89,22 @@ instruction_holds s w r value i h state holds p step =
 instructions_hold : (s : Setting) (w : World) (r value : ℕ) (is : List (ℕ × InstrData)) → all_keep_constant r value is ≡ true → AllKeep s w (HoldsOnly r value) is
 instructions_hold s w r value [] h = tt
 instructions_hold s w r value (i ∷ is) h = (
-  instruction_holds s w r value i.1 (and_left (keeps_constant r value i.1) (all_keep_constant r value is) h),
-  instructions_hold s w r value is (and_right (keeps_constant r value i.1) (all_keep_constant r value is) h),
+  instruction_holds s w r value i.1 (both_left (keeps_constant r value i.1) (all_keep_constant r value is) h),
+  instructions_hold s w r value is (both_right (keeps_constant r value i.1) (all_keep_constant r value is) h),
 )
 
 -- ══ Phis ══
 
 put_value_others : (r : ℕ) (old : Option ℕ) (state : Option State) (ps : List Place) (value : Option ℕ) → writes r ps ≡ false → StaysSo r old state → StaysSo r old (put_value state ps value)
-put_value_others r old (Some state) (p ∷ []) (Some v) h stays = put_other r v state p (or_left (is_virtual r p) false h) ∙ stays
+put_value_others r old (Some state) (p ∷ []) (Some v) h stays = put_other r v state p (neither_left (is_virtual r p) false h) ∙ stays
 put_value_others r old _ _ _ h stays = tt
 
 joined_others : (r : ℕ) (state : State) (from : Option ℕ) (is : List (ℕ × InstrData)) → no_phi_writes r is ≡ true → StaysSo r (state.values r) (joined state from is)
 joined_others r state from [] h = refl
 joined_others r state from (i ∷ is) h =
     put_value_others r (state.values r) (joined state from is) (places_of i.1.operands) (value_at state (from_block from i.1.operands))
-    (not_true (writes r (places_of i.1.operands)) (and_left (not (writes r (places_of i.1.operands))) (no_phi_writes r is) h))
-    (joined_others r state from is (and_right (not (writes r (places_of i.1.operands))) (no_phi_writes r is) h))
+    (not_true (writes r (places_of i.1.operands)) (both_left (not (writes r (places_of i.1.operands))) (no_phi_writes r is) h))
+    (joined_others r state from is (both_right (not (writes r (places_of i.1.operands))) (no_phi_writes r is) h))
 
 -- ══ Functions ══
 
@@ -123,16 +120,13 @@ blocks_hold : (s : Setting) (w : World) (r value : ℕ) (blocks : List BlockData
 blocks_hold s w r value [] h b block here = cc
 blocks_hold s w r value (k ∷ blocks) h zero block here =
     let first : (no_phi_writes r (phis_of k.instrs) && all_keep_constant r value (after_phis k.instrs)) ≡ true =
-    and_left (no_phi_writes r (phis_of k.instrs) && all_keep_constant r value (after_phis k.instrs)) (only_constant r value blocks) h in
-    subst (BlockKeeps s w (HoldsOnly r value)) (unwrapped k block here)
+    both_left (no_phi_writes r (phis_of k.instrs) && all_keep_constant r value (after_phis k.instrs)) (only_constant r value blocks) h in
+    subst (BlockKeeps s w (HoldsOnly r value)) (same_some k block here)
     (block_holds s w r value k
-    (and_left (no_phi_writes r (phis_of k.instrs)) (all_keep_constant r value (after_phis k.instrs)) first)
-    (and_right (no_phi_writes r (phis_of k.instrs)) (all_keep_constant r value (after_phis k.instrs)) first))
-  where
-    unwrapped : (a b : BlockData) → Some a ≡ Some b → a ≡ b
-    unwrapped a b e = cc
+    (both_left (no_phi_writes r (phis_of k.instrs)) (all_keep_constant r value (after_phis k.instrs)) first)
+    (both_right (no_phi_writes r (phis_of k.instrs)) (all_keep_constant r value (after_phis k.instrs)) first))
 blocks_hold s w r value (k ∷ blocks) h (suc b) block here =
-    blocks_hold s w r value blocks (and_right (no_phi_writes r (phis_of k.instrs) && all_keep_constant r value (after_phis k.instrs)) (only_constant r value blocks) h) b block here
+    blocks_hold s w r value blocks (both_right (no_phi_writes r (phis_of k.instrs) && all_keep_constant r value (after_phis k.instrs)) (only_constant r value blocks) h) b block here
 
 -- wherever runs reach, the register has no value or the constant
 pub constant_where_reached : (s : Setting) (w : World) (blocks : List BlockData) (r value : ℕ) → only_constant r value blocks ≡ true

@@ -1,7 +1,7 @@
 -- The values of registers fit their widths wherever runs reach, in a function that passes a test.
 use Rattle.gi_refine.specs.Lifting.{Reads, AreSized}
 use Rattle.gi_refine.specs.Values.{Environment}
-use Rattle.std.proofs.Common.{◌≡◌, ℕ, zero, suc, ◌+◌, ◌*◌, ◌/◌, ◌^◌, ◌<◌, ◌==◌, Bool, true, false, cond, ◌&&◌, ◌||◌, List, [], ◌∷◌, ◌++◌, map, Option, Some, None, option_map, slice_get, ◌⊎◌, inl, inr, ⊎_elim, refl, sym, subst, eqb-true}
+use Rattle.std.proofs.Common.{◌≡◌, ℕ, zero, suc, ◌+◌, ◌*◌, ◌/◌, ◌^◌, ◌<◌, ◌==◌, Bool, true, false, cond, ◌&&◌, List, [], ◌∷◌, ◌++◌, map, Option, Some, None, option_map, slice_get, ⊎_elim, refl, sym, subst, eqb-true}
 use Rattle.std.specs.Prelude.{IfSome, nat_lt, nat_le}
 use Rattle.std.proofs.lemmas.Nat.{pow_pos, mod_below}
 use Rattle.std.proofs.lemmas.Bool.{ltb-true}
@@ -24,8 +24,8 @@ use Rattle.gi_refine.specs.Fitting.{IsFit, always_fits, is_fitting_constant, kee
 use Rattle.gi_refine.specs.Invariant.{GoesOnWith, AllKeep, BlockKeeps}
 use Rattle.gi_refine.specs.Reached.{IsReached}
 use Rattle.gi_refine.proofs.Invariants.{invariant_holds}
-use Rattle.gi_refine.proofs.ValuesPlaced.{and_left, and_right}
 use Rattle.gi_meaning.proofs.Numbers.{unsigned_below}
+use Rattle.gi_refine.proofs.Tests.{both_left, both_right, either, same_some}
 
 -- ══ What operations give ══
 
@@ -286,18 +286,11 @@ constant_fits : (s : Setting) (w : World) (flags : Flags) (o : Opcode) (os : Lis
     → ActsFit s w (record { op = o; flags = flags; operands = os; mem = mem; line = line })
 constant_fits s w flags op.GenericConstant (operand.Def r kind ∷ operand.Constant n v ∷ []) mem line h = λ state fit arguments read small answer act.
     answers_fit (s.width r.0 ∷ []) (one v) (outside_of state) answer (one_fits (s.width r.0) v (ltb-true v (2 ^ s.width r.0) h))
-    (subst (λ list. Answers (constant (s.width r.0 ∷ []) list) (outside_of state) answer) (unwrapped arguments (Bits n v ∷ []) (sym read)) act)
-  where
-    unwrapped : (a b : List Argument) → Some a ≡ Some b → a ≡ b
-    unwrapped a b e = cc
+    (subst (λ list. Answers (constant (s.width r.0 ∷ []) list) (outside_of state) answer) (same_some arguments (Bits n v ∷ []) (sym read)) act)
 constant_fits s w flags _ _ mem line h = cc
 
 other_fits : (s : Setting) (w : World) (i : InstrData) (m : Meaning) → meaning_of i.flags i.op ≡ m → MeaningFits m → has_no_words m ≡ true → ActsFit s w i
 other_fits s w i m is fits h = meaning_fits s w i (subst MeaningFits (sym is) fits) (subst (λ k. has_no_words k ≡ true) (sym is) h)
-
-either : (a b : Bool) → (a || b) ≡ true → (a ≡ true) ⊎ (b ≡ true)
-either true b h = inl refl
-either false b h = inr h
 
 instruction_fits : (s : Setting) (w : World) (i : InstrData) (m : Meaning) → meaning_of i.flags i.op ≡ m → keeps_fit s.width m i.op i.operands ≡ true → ActsFit s w i
 instruction_fits s w i Copying is keeps = other_fits s w i Copying is tt refl
@@ -317,8 +310,8 @@ instructions_fit : (s : Setting) (w : World) → IsWorld s.x w → (is : List (�
 instructions_fit s w is_world [] h = tt
 instructions_fit s w is_world (i ∷ is) h = (
   step_fit s w is_world i.1
-      (instruction_fits s w i.1 (meaning_of i.1.flags i.1.op) refl (and_left (keeps_fit s.width (meaning_of i.1.flags i.1.op) i.1.op i.1.operands) (all_keep_fit s.width is) h)),
-  instructions_fit s w is_world is (and_right (keeps_fit s.width (meaning_of i.1.flags i.1.op) i.1.op i.1.operands) (all_keep_fit s.width is) h),
+      (instruction_fits s w i.1 (meaning_of i.1.flags i.1.op) refl (both_left (keeps_fit s.width (meaning_of i.1.flags i.1.op) i.1.op i.1.operands) (all_keep_fit s.width is) h)),
+  instructions_fit s w is_world is (both_right (keeps_fit s.width (meaning_of i.1.flags i.1.op) i.1.op i.1.operands) (all_keep_fit s.width is) h),
 )
 
 -- ══ Phis ══
@@ -341,9 +334,9 @@ entry_fits : (width : ℕ → ℕ) (values : ℕ → Option ℕ) (n from : ℕ) 
     → IfSome (at_register values (entry_for from os)) (λ v. v < 2 ^ n)
 entry_fits width values n from fit [] h = tt
 entry_fits width values n from fit (operand.Use r ∷ operand.Block b ∷ os) h =
-    chosen_fits width values n fit (b == from) r.0 (entry_for from (operand.Block b ∷ os)) (eqb-true (width r.0) n (and_left (width r.0 == n) (uses_have width n os) h))
-    (entry_fits width values n from fit (operand.Block b ∷ os) (and_right (width r.0 == n) (uses_have width n os) h))
-entry_fits width values n from fit (operand.Use r ∷ os) h = entry_fits width values n from fit os (and_right (width r.0 == n) (uses_have width n os) h)
+    chosen_fits width values n fit (b == from) r.0 (entry_for from (operand.Block b ∷ os)) (eqb-true (width r.0) n (both_left (width r.0 == n) (uses_have width n os) h))
+    (entry_fits width values n from fit (operand.Block b ∷ os) (both_right (width r.0 == n) (uses_have width n os) h))
+entry_fits width values n from fit (operand.Use r ∷ os) h = entry_fits width values n from fit os (both_right (width r.0 == n) (uses_have width n os) h)
 entry_fits width values n from fit (o ∷ os) h = entry_fits width values n from fit os h
 
 taken_fits : (s : Setting) (state : State) → IsFit s state → (n : ℕ) (from : Option ℕ) (os : List Operand) → uses_have s.width n os ≡ true → IfSome (value_at state (from_block from os)) (λ v. v < 2 ^ n)
@@ -364,8 +357,8 @@ phis_joined_fit : (s : Setting) (state : State) → IsFit s state → (from : Op
 phis_joined_fit s state fit from [] h = fit
 phis_joined_fit s state fit from (i ∷ is) h =
     put_value_fits s (joined state from is) (places_of i.1.operands) (value_at state (from_block from i.1.operands))
-    (phis_joined_fit s state fit from is (and_right (phi_fits s (places_of i.1.operands) i.1.operands) (phis_fit s is) h))
-    (phi_taken_fits s state fit from (places_of i.1.operands) i.1.operands (and_left (phi_fits s (places_of i.1.operands) i.1.operands) (phis_fit s is) h))
+    (phis_joined_fit s state fit from is (both_right (phi_fits s (places_of i.1.operands) i.1.operands) (phis_fit s is) h))
+    (phi_taken_fits s state fit from (places_of i.1.operands) i.1.operands (both_left (phi_fits s (places_of i.1.operands) i.1.operands) (phis_fit s is) h))
 
 -- ══ Functions ══
 
@@ -378,15 +371,12 @@ block_keeps_fit s w is_world block phis body = record {
 blocks_keep_fit : (s : Setting) (w : World) → IsWorld s.x w → (blocks : List BlockData) → blocks_fit s blocks ≡ true → (b : ℕ) (block : BlockData) → slice_get blocks b ≡ Some block → BlockKeeps s w (IsFit s) block
 blocks_keep_fit s w is_world [] h b block here = cc
 blocks_keep_fit s w is_world (k ∷ blocks) h zero block here =
-    subst (BlockKeeps s w (IsFit s)) (unwrapped k block here)
+    subst (BlockKeeps s w (IsFit s)) (same_some k block here)
     (block_keeps_fit s w is_world k
-    (and_left (phis_fit s (phis_of k.instrs)) (all_keep_fit s.width (after_phis k.instrs)) (and_left (phis_fit s (phis_of k.instrs) && all_keep_fit s.width (after_phis k.instrs)) (blocks_fit s blocks) h))
-    (and_right (phis_fit s (phis_of k.instrs)) (all_keep_fit s.width (after_phis k.instrs)) (and_left (phis_fit s (phis_of k.instrs) && all_keep_fit s.width (after_phis k.instrs)) (blocks_fit s blocks) h)))
-  where
-    unwrapped : (a b : BlockData) → Some a ≡ Some b → a ≡ b
-    unwrapped a b e = cc
+    (both_left (phis_fit s (phis_of k.instrs)) (all_keep_fit s.width (after_phis k.instrs)) (both_left (phis_fit s (phis_of k.instrs) && all_keep_fit s.width (after_phis k.instrs)) (blocks_fit s blocks) h))
+    (both_right (phis_fit s (phis_of k.instrs)) (all_keep_fit s.width (after_phis k.instrs)) (both_left (phis_fit s (phis_of k.instrs) && all_keep_fit s.width (after_phis k.instrs)) (blocks_fit s blocks) h)))
 blocks_keep_fit s w is_world (k ∷ blocks) h (suc b) block here =
-    blocks_keep_fit s w is_world blocks (and_right (phis_fit s (phis_of k.instrs) && all_keep_fit s.width (after_phis k.instrs)) (blocks_fit s blocks) h) b block here
+    blocks_keep_fit s w is_world blocks (both_right (phis_fit s (phis_of k.instrs) && all_keep_fit s.width (after_phis k.instrs)) (blocks_fit s blocks) h) b block here
 
 -- wherever runs reach, values fit their widths
 pub fit_where_reached : (x : ℕ) (names : List (List ℕ)) (f : FunctionData) (w : World) → IsWorld x w → blocks_fit (setting_of x names f) f.blocks ≡ true

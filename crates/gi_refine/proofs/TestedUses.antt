@@ -11,13 +11,13 @@ use Rattle.gi_refine.specs.TestedUse.{ConstantInput, constant_facts, AreConstant
 use Rattle.gi_refine.specs.Values.{Environment, Slot, AllHold, Rule}
 use Rattle.gi_refine.proofs.ConstantsHeld.{constant_where_reached, constant_fact}
 use Rattle.gi_refine.proofs.Fitted.{fit_where_reached, fit_sized}
-use Rattle.gi_refine.proofs.ValuesPlaced.{and_left, and_right}
+use Rattle.gi_refine.proofs.Tests.{both_left, both_right}
 
 taken_there : (slots : List Slot) (values : ℕ → Option ℕ) (place : ℕ) (rs : List ℕ) → takes_all slots place rs ≡ true → AreThere slots values place rs
 taken_there slots values place [] h = tt
 taken_there slots values place (r ∷ rs) h = (
-  (λ not_taken. both_ways (takes place slots) (values r) (and_left (takes place slots) (takes_all slots (suc place) rs) h) not_taken),
-  taken_there slots values (suc place) rs (and_right (takes place slots) (takes_all slots (suc place) rs) h),
+  (λ not_taken. both_ways (takes place slots) (values r) (both_left (takes place slots) (takes_all slots (suc place) rs) h) not_taken),
+  taken_there slots values (suc place) rs (both_right (takes place slots) (takes_all slots (suc place) rs) h),
 )
   where
     both_ways : (b : Bool) (v : Option ℕ) → b ≡ true → b ≡ false → HasValue v
