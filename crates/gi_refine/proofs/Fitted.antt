@@ -1,11 +1,11 @@
 -- The values of registers fit their widths wherever runs reach, in a function that passes a test.
 use Rattle.gi_refine.specs.Lifting.{Reads, AreSized}
 use Rattle.gi_refine.specs.Values.{Environment}
-use Rattle.std.proofs.Common.{◌≡◌, ℕ, zero, suc, ◌+◌, ◌*◌, ◌/◌, ◌^◌, ◌<◌, ◌==◌, Bool, true, false, cond, ◌&&◌, List, [], ◌∷◌, ◌++◌, map, Option, Some, None, option_map, slice_get, ⊎_elim, refl, sym, subst, eqb-true}
-use Rattle.std.specs.Prelude.{IfSome, nat_lt, nat_le}
+use Rattle.std.proofs.Common.{◌≡◌, ℕ, zero, suc, ◌+◌, ◌*◌, ◌/◌, ◌^◌, ◌<◌, ◌==◌, Bool, true, false, cond, ◌&&◌, List, [], ◌∷◌, ◌++◌, map, Option, Some, None, option_map, slice_get, ⊎_elim, refl, sym, subst, eqb-true, ◌%◌, ◌||◌, not}
+use Rattle.std.specs.Prelude.{IfSome, nat_lt, nat_le, pos, int_div, int_rem, nat_abs, not}
 use Rattle.std.proofs.lemmas.Nat.{pow_pos, mod_below}
 use Rattle.std.proofs.lemmas.Bool.{ltb-true}
-use Rattle.gi_llt.specs.Bits.{wrapped}
+use Rattle.gi_llt.specs.Bits.{wrapped, signed, unsigned}
 use Rattle.gi_mir.specs.Data.{InstrData, BlockData, FunctionData}
 use Rattle.gi_mir.specs.declared.opcode.Opcode.{Opcode}
 use Rattle.gi_mir.specs.declared.opcode.Opcode.TheVariants as op
@@ -13,9 +13,9 @@ use Rattle.gi_mir.specs.declared.operand.Flags.{Flags}
 use Rattle.gi_mir.specs.declared.operand.MemOp.{MemOp}
 use Rattle.gi_mir.specs.declared.operand.Operand.{Operand}
 use Rattle.gi_mir.specs.declared.operand.Operand.TheVariants as operand
-use Rattle.gi_meaning.specs.Argument.{Argument, Value, To, Bits}
+use Rattle.gi_meaning.specs.Argument.{Argument, Value, To, Bits, Number}
 use Rattle.gi_meaning.specs.Given.{Given, Exactly, LowBits, Undefined, IsGiven, one, free, unless_broken}
-use Rattle.gi_meaning.specs.Generic.{nullary, unary, binary, unmerge, parts_of, constant}
+use Rattle.gi_meaning.specs.Generic.{nullary, unary, binary, unmerge, parts_of, constant, ternary, extension_in_register, signed_quotient, signed_remainder, overflows_division}
 use Rattle.gi_meaning.specs.State.{World, IsWorld, State, Outside, outside_of, Place, Virtual, Physical, put}
 use Rattle.gi_meaning.specs.Meaning.{Meaning, Copying, Generic, Jumping, Branching, MachineBranching, Returning, Nothing, meaning_of}
 use Rattle.gi_meaning.specs.Act.{Answer, Results, Leaves, Returns, Asks, Breaks, Act, Answers, copy, jump, branch, machine_branch}
@@ -62,6 +62,21 @@ copied_fits m n v false false same fits = one_fits n (wrapped n v) (wrapped_fits
 shifted_fits : (b c : Bool) (n v : ℕ) → v < 2 ^ n → GivenFits (n ∷ []) (cond b (free n) (unless_broken c n v))
 shifted_fits true c n v fits = low_bits_fit 0 n 0
 shifted_fits false c n v fits = unless_fits c n v fits
+
+partial_fits : (b : Bool) (n : ℕ) (given : Given) → GivenFits (n ∷ []) given → GivenFits (n ∷ []) (cond b Undefined given)
+partial_fits true n given fits = λ results h. absurd h
+partial_fits false n given fits = fits
+
+quotient_fits : (flags : Flags) (n a b : ℕ) → GivenFits (n ∷ []) (signed_quotient flags n a b)
+quotient_fits flags n a b =
+    let given : ℕ = unsigned n (int_div (signed n a) (signed n b)) in
+    let broken : Bool = flags.exact && not (nat_abs (signed n a) % nat_abs (signed n b) == 0) in
+    partial_fits ((b == 0) || overflows_division n a b) n (unless_broken broken n given) (unless_fits broken n given (unsigned_below n (int_div (signed n a) (signed n b))))
+
+remainder_fits : (n a b : ℕ) → GivenFits (n ∷ []) (signed_remainder n a b)
+remainder_fits n a b =
+    let given : ℕ = unsigned n (int_rem (signed n a) (signed n b)) in
+    partial_fits ((b == 0) || overflows_division n a b) n (one given) (one_fits n given (unsigned_below n (int_rem (signed n a) (signed n b))))
 
 parts_fit : (widths : List ℕ) (v : ℕ) → AreFit widths (parts_of widths v)
 parts_fit [] v = tt
@@ -128,6 +143,14 @@ binary_fits : (f : ℕ → ℕ → ℕ → Given) → ((n a b : ℕ) → GivenFi
 binary_fits f h (n ∷ []) (Value l a ∷ Value m b ∷ []) fits = h n a b
 binary_fits f h _ _ fits = λ results given. absurd given
 
+ternary_fits : (f : ℕ → ℕ → ℕ → ℕ → Given) → ((n a b c : ℕ) → GivenFits (n ∷ []) (f n a b c)) → GivesFit (ternary f)
+ternary_fits f h (n ∷ []) (Value l a ∷ Value m b ∷ Value k c ∷ []) fits = h n a b c
+ternary_fits f h _ _ fits = λ results given. absurd given
+
+in_register_fits : GivesFit extension_in_register
+in_register_fits (n ∷ []) (Value m a ∷ Number (pos k) ∷ []) fits = one_fits n _ (unsigned_below n _)
+in_register_fits _ _ fits = λ results given. absurd given
+
 unmerge_fits : GivesFit unmerge
 unmerge_fits widths (Value m a ∷ []) fits = λ results given. subst (AreFit widths) (sym given) (parts_fit widths a)
 unmerge_fits _ _ fits = λ results given. absurd given
@@ -153,6 +176,15 @@ opcode_fits flags op.GenericAdd h = binary_fits _ (λ n a b. unless_fits _ n _ (
 opcode_fits flags op.GenericSubtract h = binary_fits _ (λ n a b. unless_fits _ n _ (unsigned_below n _))
 opcode_fits flags op.GenericMultiply h = binary_fits _ (λ n a b. unless_fits _ n _ (wrapped_fits n (a * b)))
 opcode_fits flags op.GenericShiftLeft h = binary_fits _ (λ n a b. shifted_fits (nat_le n b) _ n _ (wrapped_fits n (a * 2 ^ b)))
+opcode_fits flags op.GenericArithmeticShiftRight h = binary_fits _ (λ n a b. shifted_fits (nat_le n b) _ n _ (wrapped_fits n _))
+opcode_fits flags op.GenericSignedDivide h = binary_fits _ (λ n a b. quotient_fits flags n a b)
+opcode_fits flags op.GenericSignedRemainder h = binary_fits _ (λ n a b. remainder_fits n a b)
+opcode_fits flags op.GenericSignExtendInRegister h = in_register_fits
+opcode_fits flags op.GenericAbsolute h = unary_fits _ (λ m n a fits. one_fits n (unsigned n (pos (nat_abs (signed m a)))) (unsigned_below n (pos (nat_abs (signed m a)))))
+opcode_fits flags op.GenericFunnelShiftLeft h = ternary_fits _ (λ n a b c. one_fits n _ (wrapped_fits n _))
+opcode_fits flags op.GenericFunnelShiftRight h = ternary_fits _ (λ n a b c. one_fits n _ (wrapped_fits n _))
+opcode_fits flags op.GenericRotateLeft h = binary_fits _ (λ n a b. one_fits n _ (wrapped_fits n _))
+opcode_fits flags op.GenericRotateRight h = binary_fits _ (λ n a b. one_fits n _ (wrapped_fits n _))
 opcode_fits flags op.GenericUnmergeValues h = unmerge_fits
 opcode_fits flags op.GenericUnsignedMultiplyHigh h = binary_fits _ (λ n a b. one_fits n _ (wrapped_fits n _))
 opcode_fits flags op.GenericSignedMultiplyHigh h = binary_fits _ (λ n a b. one_fits n _ (wrapped_fits n _))
