@@ -7,8 +7,10 @@ pub mod ExampleRuns
 pub mod Failing
 pub mod IdlePieces
 pub mod IdlePlaces
+pub mod Inserting
 pub mod Keeping
 pub mod OnePlaceFollows
+pub mod PhiRule
 pub mod Reaching
 pub mod ReachNeeded
 pub mod Refining

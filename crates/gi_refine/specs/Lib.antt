@@ -5,6 +5,7 @@ pub mod Idle
 pub mod Kept
 pub mod OnePlace
 pub mod Outcomes
+pub mod PhiTrial
 pub mod Reached
 pub mod Refinement
 pub mod Replacing

@@ -4,6 +4,7 @@
 mod examples;
 mod idle;
 mod laws;
+mod lifted;
 mod rewriting;
 mod words;
 
@@ -13,6 +14,7 @@ pub use laws::{
     may_fail_is_failing, pieces_follow, refinement_is_reflexive, refinement_is_transitive,
     same_instruction_follows, whole_runs_follow,
 };
+pub use lifted::lifted_rules_hold;
 pub use rewriting::{
     one_place_follows, replacement_follows, rewriting_follows, same_blocks_follow,
 };
