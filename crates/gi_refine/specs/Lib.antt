@@ -1,4 +1,5 @@
 pub mod Agreement
+pub mod CallTrial
 pub mod Evaluation
 pub mod Examples
 pub mod Idle
