@@ -1,5 +1,5 @@
 -- For each premise of rewriting one place a case in which all others hold and the new function returns something else.
-use Rattle.std.proofs.Common.{◌≡◌, ℕ, zero, suc, ◌^◌, ◌<◌, Bool, true, false, not, cond, ◌&&◌, ◌==◌, if◌then◌else◌, List, [], ◌∷◌, ◌++◌, Option, Some, None, slice_get, unwrap_or, inl, refl, sym, ap, ◌∙◌, subst, lit<}
+use Rattle.std.proofs.Common.{◌≡◌, ℕ, zero, suc, ◌^◌, ◌<◌, Bool, true, false, not, ◌&&◌, ◌==◌, if◌then◌else◌, List, [], ◌∷◌, ◌++◌, Option, Some, None, slice_get, unwrap_or, refl, sym, ap, ◌∙◌, subst, lit<}
 use Rattle.std.proofs.lemmas.Bool.{eq-eqb, eqb-true}
 use Rattle.std.proofs.Math.Nat.{mod-lt}
 use Rattle.gi_llt.specs.declared.Llt.TheVariants.{Scalar}
@@ -19,8 +19,9 @@ use Rattle.gi_refine.specs.Idle.{Premise, Successors, PhisKept, BeforeKept, Afte
 use Rattle.gi_refine.specs.Kept.{AreSeenAs, AllSeenAs, HasSameValue, UsesHold, EntriesHold, PhisHold, BodyHolds}
 use Rattle.gi_refine.specs.OnePlace.{OnePlace, only_virtual, StaysAt, RewritesOnePlace}
 use Rattle.gi_refine.specs.Reached.{IsReached, WhereReached}
-use Rattle.gi_refine.specs.Simulation.{Stands, IsFollowed}
-use Rattle.gi_refine.proofs.Evaluating.{steps_so, refutes}
+use Rattle.gi_refine.specs.Simulation.{IsFollowed}
+use Rattle.gi_refine.proofs.Evaluating.{refutes}
+use Rattle.gi_refine.proofs.Inserting.{inserted_follows}
 use Rattle.gi_refine.proofs.Reaching.{followed_within, nothing_followed}
 use Rattle.gi_refine.proofs.Staying.{all_kept_reused, has_same_value, entries_hold_alone}
 
@@ -225,37 +226,12 @@ unchanged f g b before hidden w is_world =
     followed_within s t w at at at (Agree s t (only_virtual hidden)) (AgreeAt s t (λ c. only_virtual hidden)) (AgreeAt s t (λ c. only_virtual hidden)) [] []
     (λ old new h. h) (λ old new h. h.relates) (λ c old new h. h) (nothing_followed s t w at (AgreeAt s t (λ c. only_virtual hidden)))
 
--- what is written where it is hidden isn't seen
-kept_value : (q r : ℕ) (b : Bool) → (r == q) ≡ b → (hidden : ℕ → Bool) → hidden q ≡ true → hidden r ≡ false → (x m n v : ℕ) (old new : Option ℕ) → ValueStands x m n old new → ValueStands x m n old (cond b (Some v) new)
-kept_value q r true is hidden h seen x m n v old new stands = absurd (contrary (sym h ∙ (ap hidden (sym (eqb-true r q is)) ∙ seen)))
-  where
-    contrary : true ≡ false → ⊥
-    contrary e = cc
-kept_value q r false is hidden h seen x m n v old new stands = stands
-
-hide_put : (s t : Setting) (hidden : ℕ → Bool) (old new : State) (q v : ℕ) → hidden q ≡ true → Agree s t (only_virtual hidden) old new → Agree s t (only_virtual hidden) old (put new (Virtual q) v)
-hide_put s t hidden old new q v h agree = record {
-  values = λ r seen. kept_value q r (r == q) refl hidden h seen s.x (s.width r) (t.width r) v (old.values r) (new.values r) (agree.values r seen);
-  words = agree.words;
-  memory = agree.memory;
-  taken = agree.taken;
-}
-
 -- where nothing is, one instruction comes that writes what is hidden
 pub hidden_written : (s : Setting) (g : FunctionData) (w : World) (before : State → State → Type 0) (hidden : ℕ → Bool) (exit : ℕ → State → State → Type 0) (i : ℕ × InstrData) (q : ℕ) (value : State → ℕ) → hidden q ≡ true
     → ((state : State) → steps_of (setting_of 32 names g) w (i ∷ []) state ≡ Some (On (put state (Virtual q) (value state))))
     → ((old new : State) → before old new → Agree s (setting_of 32 names g) (only_virtual hidden) old new)
     → IsFollowed s (setting_of 32 names g) w before (Agree s (setting_of 32 names g) (only_virtual hidden)) exit [] (i ∷ [])
-hidden_written s g w before hidden exit i q value h steps agrees = record {
-  by = λ old new related p' run.
-      let t : Setting = setting_of 32 names g in
-      let made : p' ≡ On (put new (Virtual q) (value new)) = (steps_so t w (i ∷ []) new (On (put new (Virtual q) (value new))) (steps new)).only p' run in
-      inl (
-        On old,
-        refl,
-        subst (λ p. Stands (Agree s t (only_virtual hidden)) exit (On old) p) (sym made) (hide_put s t hidden old new q (value new) h (agrees old new related)),
-      );
-}
+hidden_written s g w before hidden exit i q value h steps agrees = inserted_follows s (setting_of 32 names g) w before hidden exit i q h (λ old new related. (value new, steps new)) agrees
 
 -- ══ Instructions of the cases ══
 

@@ -1,4 +1,5 @@
 pub mod Agreeing
+pub mod CallRule
 pub mod CallRuns
 pub mod Classed
 pub mod ConstantsHeld
@@ -12,9 +13,11 @@ pub mod IdleValues
 pub mod Invariants
 pub mod IdlePieces
 pub mod IdlePlaces
+pub mod Inserting
 pub mod Keeping
 pub mod OneBlock
 pub mod OnePlaceFollows
+pub mod PhiRule
 pub mod Reaching
 pub mod ReachNeeded
 pub mod Refining

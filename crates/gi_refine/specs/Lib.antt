@@ -1,5 +1,6 @@
 pub mod Agreement
 pub mod Constants
+pub mod CallTrial
 pub mod Evaluation
 pub mod Examples
 pub mod Fitting
@@ -10,6 +11,7 @@ pub mod Kept
 pub mod Lifting
 pub mod OnePlace
 pub mod Outcomes
+pub mod PhiTrial
 pub mod Reached
 pub mod Refinement
 pub mod Replacing

@@ -6,6 +6,7 @@ mod fitting;
 mod idle;
 mod idle_values;
 mod laws;
+mod lifted;
 mod rewriting;
 mod trials;
 mod values;
@@ -19,6 +20,7 @@ pub use laws::{
     may_fail_is_failing, pieces_follow, refinement_is_reflexive, refinement_is_transitive,
     same_instruction_follows, whole_runs_follow,
 };
+pub use lifted::lifted_rules_hold;
 pub use rewriting::{
     one_place_follows, replacement_follows, rewriting_follows, same_blocks_follow,
 };
