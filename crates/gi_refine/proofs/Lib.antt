@@ -22,3 +22,4 @@ pub mod Sized
 pub mod Staying
 pub mod Targets
 pub mod Wording
+pub mod WordsExample

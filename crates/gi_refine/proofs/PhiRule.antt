@@ -15,7 +15,7 @@ use Rattle.gi_refine.specs.Evaluation.{step_from, then_on, steps_of}
 use Rattle.gi_refine.specs.Examples.{names, s32, copy_in, copy_out, return_of, block_of}
 use Rattle.gi_refine.specs.Kept.{HasSameValue}
 use Rattle.gi_refine.specs.OnePlace.{only_virtual}
-use Rattle.gi_refine.specs.PhiTrial.{s16, extension, truncation, phi_of, choice, on_to_2, narrow_phi, with_extensions, with_wide_phi, with_truncation, wide_phi}
+use Rattle.gi_refine.specs.Trials.{s16, extension, truncation, phi_of, choice, on_to_2, narrow_phi, with_extensions, with_wide_phi, with_truncation, wide_phi}
 use Rattle.gi_refine.specs.Reached.{Arrives, IsReached, WhereReached}
 use Rattle.gi_refine.specs.Refinement.{IsRefinement}
 use Rattle.gi_refine.specs.Rewriting.{Kept, Changed, Covers, PieceFollows, PhisFollow, RewrittenAt, shown_by_phis}

@@ -6,10 +6,10 @@ pub mod Idle
 pub mod Kept
 pub mod OnePlace
 pub mod Outcomes
-pub mod PhiTrial
 pub mod Reached
 pub mod Refinement
 pub mod Replacing
 pub mod Rewriting
 pub mod Simulation
+pub mod Trials
 pub mod Worded
