@@ -1,5 +1,5 @@
 -- The trial rule of a runtime call: what it clobbers is hidden from there until it is written again.
-use Rattle.std.proofs.Common.{◌≡◌, ℕ, zero, suc, ◌+◌, ◌*◌, ◌/◌, ◌%◌, ◌^◌, Bool, true, false, cond, ◌&&◌, ◌==◌, List, [], ◌∷◌, ◌++◌, length, map, Option, Some, None, unwrap_or, slice_get, ◌⊎◌, inl, inr, refl, sym, ap, ap₂, ◌∙◌, subst, arith}
+use Rattle.std.proofs.Common.{◌≡◌, ℕ, zero, suc, ◌+◌, ◌*◌, ◌/◌, ◌%◌, ◌^◌, Bool, true, false, cond, ◌==◌, List, [], ◌∷◌, ◌++◌, map, Option, Some, None, slice_get, ◌⊎◌, inl, inr, refl, sym, ap, ap₂, ◌∙◌, subst, arith}
 use Rattle.std.proofs.lemmas.Bool.{eqb-true}
 use Rattle.std.proofs.lemmas.Nat.{mul-mod, mod-pow-add}
 use Rattle.std.proofs.Math.Nat.{mod-mod}
@@ -20,10 +20,12 @@ use Rattle.gi_refine.specs.Kept.{reused, HasSameValue, AreSeenAs}
 use Rattle.gi_refine.specs.Refinement.{IsRefinement}
 use Rattle.gi_refine.specs.Rewriting.{Kept, Changed, Covers, is_target, Stays, RewrittenAt}
 use Rattle.gi_refine.proofs.Agreeing.{same_value, alike_stands, put_agree}
-use Rattle.gi_refine.proofs.Evaluating.{none_some, steps_so}
+use Rattle.gi_refine.proofs.Basics.{contrary}
+use Rattle.gi_refine.proofs.Evaluating.{steps_so}
+use Rattle.gi_refine.proofs.Inserting.{all_aside, put_aside, put_front}
 use Rattle.gi_refine.proofs.IdlePlaces.{all_seen_by}
 use Rattle.gi_refine.proofs.Keeping.{agree_but, all_shown_less}
-use Rattle.gi_refine.proofs.RewritingFollows.{rewriting_refines}
+use Rattle.gi_refine.proofs.RewritingFollows.{covers_so, hides_so, rewriting_refines}
 use Rattle.gi_refine.proofs.Simulating.{Split, split}
 use Rattle.gi_refine.proofs.Staying.{kept_reused, uses_hold_alone}
 
@@ -41,58 +43,6 @@ joined_product : (a b : ℕ) → let p : ℕ = ((a % 2 ^ 32 + 2 ^ 32 * (a / 2 ^ 
 joined_product a b =
     let p : ℕ = ((a % 2 ^ 32 + 2 ^ 32 * (a / 2 ^ 32 % 2 ^ 32)) * (b % 2 ^ 32 + 2 ^ 32 * (b / 2 ^ 32 % 2 ^ 32))) % 2 ^ 64 in
     whole_of p ∙ (mod-mod ((a % 2 ^ 32 + 2 ^ 32 * (a / 2 ^ 32 % 2 ^ 32)) * (b % 2 ^ 32 + 2 ^ 32 * (b / 2 ^ 32 % 2 ^ 32))) (2 ^ 64) ∙ product_of_parts a b)
-
--- ══ What is hidden may be written on one side ══
-
-contrary : true ≡ false → ⊥
-contrary e = cc
-
-value_aside : (hidden : Place → Bool) (q r : ℕ) (b : Bool) → (r == q) ≡ b → hidden (Virtual q) ≡ true → hidden (Virtual r) ≡ false → (x m n v : ℕ) (old new : Option ℕ) → ValueStands x m n old new → ValueStands x m n old (cond b (Some v) new)
-value_aside hidden q r true is h seen x m n v old new stands = absurd (contrary (sym h ∙ (ap (λ k. hidden (Virtual k)) (sym (eqb-true r q is)) ∙ seen)))
-value_aside hidden q r false is h seen x m n v old new stands = stands
-
-word_aside : (hidden : Place → Bool) (q r : ℕ) (b : Bool) → (r == q) ≡ b → hidden (Physical q) ≡ true → hidden (Physical r) ≡ false → (v old new : ℕ) → new ≡ old → cond b v new ≡ old
-word_aside hidden q r true is h seen v old new same = absurd (contrary (sym h ∙ (ap (λ k. hidden (Physical k)) (sym (eqb-true r q is)) ∙ seen)))
-word_aside hidden q r false is h seen v old new same = same
-
-put_aside : (s t : Setting) (hidden : Place → Bool) (old new : State) (p : Place) (v : ℕ) → hidden p ≡ true → Agree s t hidden old new → Agree s t hidden old (put new p v)
-put_aside s t hidden old new (Virtual q) v h agree = record {
-  values = λ r seen. value_aside hidden q r (r == q) refl h seen s.x (s.width r) (t.width r) v (old.values r) (new.values r) (agree.values r seen);
-  words = agree.words;
-  memory = agree.memory;
-  taken = agree.taken;
-}
-put_aside s t hidden old new (Physical q) v h agree = record {
-  values = agree.values;
-  words = λ r seen. word_aside hidden q r (r == q) refl h seen v (old.words r) (new.words r) (agree.words r seen);
-  memory = agree.memory;
-  taken = agree.taken;
-}
-
-abbrev are_hidden : (hidden : Place → Bool) → List Place → Bool
-are_hidden hidden [] = true
-are_hidden hidden (p ∷ ps) = hidden p && are_hidden hidden ps
-
-both_true : (a b : Bool) → (a && b) ≡ true → (a ≡ true) × (b ≡ true)
-both_true true b h = (refl, h)
-both_true false b h = cc
-
-all_aside : (s t : Setting) (hidden : Place → Bool) (old new mid : State) (ps : List Place) (vs : List ℕ) → are_hidden hidden ps ≡ true → Agree s t hidden old new → put_all new ps vs ≡ Some mid → Agree s t hidden old mid
-all_aside s t hidden old new mid [] [] h agree is = subst (λ σ. Agree s t hidden old σ) (ap (λ o. unwrap_or o new) is) agree
-all_aside s t hidden old new mid [] (v ∷ vs) h agree is = absurd (none_some mid is)
-all_aside s t hidden old new mid (p ∷ ps) [] h agree is = absurd (none_some mid is)
-all_aside s t hidden old new mid (p ∷ ps) (v ∷ vs) h agree is =
-    let each : (hidden p ≡ true) × (are_hidden hidden ps ≡ true) = both_true (hidden p) (are_hidden hidden ps) h in
-    all_aside s t hidden old (put new p v) mid ps vs each.1 (put_aside s t hidden old new p v each.0 agree) is
-
--- ══ Writes one after the other ══
-
-put_front : (state : State) (ps : List Place) (vs : List ℕ) (qs : List Place) (us : List ℕ) → length vs ≡ length ps
-    → (mid : State) × (put_all state ps vs ≡ Some mid) × (put_all state (ps ++ qs) (vs ++ us) ≡ put_all mid qs us)
-put_front state [] [] qs us h = (state, refl, refl)
-put_front state [] (v ∷ vs) qs us h = absurd (omega (arith, h))
-put_front state (p ∷ ps) [] qs us h = absurd (omega (arith, h))
-put_front state (p ∷ ps) (v ∷ vs) qs us h = put_front (put state p v) ps vs qs us (omega (arith, h))
 
 -- ══ The call ══
 
@@ -239,12 +189,6 @@ shown_10 = all_shown call_hides (Physical 10 ∷ [])
 
 abbrev shown_11 : Place → Bool
 shown_11 = all_shown shown_10 (Physical 11 ∷ [])
-
-hides_so : (now : Place → Bool) (ps : List Place) → Covers (all_shown now ps) now
-hides_so now ps = record { by = λ p h. all_shown_less now ps p h }
-
-covers_so : (now : Place → Bool) → Covers now now
-covers_so now = record { by = λ p h. h }
 
 -- an instruction that stays, uses nothing that is replaced, and goes nowhere
 stays : (w : World) (b : ℕ) (before : List (ℕ × InstrData)) (now next : Place → Bool) (i : InstrData) → i ≡ reused (λ r. r) i → AreSeenAs old_setting new_setting now (λ r. r) i.operands

@@ -1,4 +1,5 @@
 pub mod Agreeing
+pub mod Basics
 pub mod CallRule
 pub mod CallRuns
 pub mod Classed
