@@ -1,6 +1,6 @@
 -- For each premise of rewriting one place a case in which all others hold and the new function returns something else.
 use Rattle.std.proofs.Common.{◌≡◌, ℕ, zero, suc, ◌^◌, ◌<◌, Bool, true, false, not, ◌&&◌, ◌==◌, if◌then◌else◌, List, [], ◌∷◌, ◌++◌, Option, Some, None, slice_get, unwrap_or, refl, sym, ap, ◌∙◌, subst, lit<}
-use Rattle.std.proofs.lemmas.Bool.{eq-eqb, eqb-true}
+use Rattle.std.proofs.lemmas.Bool.{eqb-true}
 use Rattle.std.proofs.Math.Nat.{mod-lt}
 use Rattle.gi_llt.specs.declared.Llt.TheVariants.{Scalar}
 use Rattle.gi_mir.specs.Data.{InstrData, BlockData, FunctionData}
@@ -20,6 +20,7 @@ use Rattle.gi_refine.specs.Kept.{AreSeenAs, AllSeenAs, HasSameValue, UsesHold, E
 use Rattle.gi_refine.specs.OnePlace.{OnePlace, only_virtual, StaysAt, RewritesOnePlace}
 use Rattle.gi_refine.specs.Reached.{IsReached, WhereReached}
 use Rattle.gi_refine.specs.Simulation.{IsFollowed}
+use Rattle.gi_refine.proofs.Basics.{apart_by, both_true, never_true, not_true}
 use Rattle.gi_refine.proofs.Evaluating.{refutes}
 use Rattle.gi_refine.proofs.Inserting.{inserted_follows}
 use Rattle.gi_refine.proofs.Reaching.{followed_within, nothing_followed}
@@ -65,14 +66,6 @@ owes_all x f g p owes =
     }
 
 -- ══ Tests ══
-
-both_true : (a b : Bool) → (a && b) ≡ true → (a ≡ true) × (b ≡ true)
-both_true true b h = (refl, h)
-both_true false b h = cc
-
-not_true : (b : Bool) → not b ≡ true → b ≡ false
-not_true true h = cc
-not_true false h = refl
 
 -- whether a register that isn't hidden replaces each, and is of its width
 abbrev pub is_seen : (s t : Setting) → (hidden : ℕ → Bool) → (rename : ℕ → ℕ) → List Operand → Bool
@@ -166,9 +159,6 @@ shown_by hidden rename (i ∷ is) h =
     let a : (is_shown hidden rename i.1.operands ≡ true) × (are_shown hidden rename is ≡ true) = both_true (is_shown hidden rename i.1.operands) _ h in
     (one_shown_by hidden rename i.1.operands a.0, shown_by hidden rename is a.1)
 
-pub contrary_tests : false ≡ true → ⊥
-contrary_tests e = cc
-
 -- ══ What many cases share ══
 
 -- x10 and x11 hold these words
@@ -183,12 +173,6 @@ word_small a b n h l = either (n == 10) (n == 11) (n == 12)
     either false true r = l
     either false false true = lit< tt
     either false false false = lit< tt
-
-pub apart_by : (a b : ℕ) → (a == b) ≡ false → a ≡ b → ⊥
-apart_by a b test same = contrary (sym (eq-eqb a b same) ∙ test)
-  where
-    contrary : true ≡ false → ⊥
-    contrary e = cc
 
 pub is_world_of : (a b : ℕ) → a < 2 ^ 32 → b < 2 ^ 32 → IsWorld 32 (world a b)
 is_world_of a b h l = record {
@@ -317,7 +301,7 @@ after_shown_not_idle = record {
     others = after_shown_others;
     follows = λ w is_world. hidden_written (setting_of 32 names after_shown_old) after_shown_new w (WhereReached (setting_of 32 names after_shown_old) w after_shown_old.blocks 0 (copy_in 1 10 s32 ∷ []) (Agree (setting_of 32 names after_shown_old) (setting_of 32 names after_shown_new) (only_virtual only_1))) only_1 (AgreeAt (setting_of 32 names after_shown_old) (setting_of 32 names after_shown_new) (λ c. only_virtual only_1)) (copy_in 1 11 s32) 1 (λ state. word_in state 11) refl (λ state. refl) (λ old new related. related.relates);
   };
-  refuted = refutes 32 names after_shown_old after_shown_new (world 1 2) (is_world_of 1 2 (lit< tt) (lit< tt)) 4 (Returned (1 ∷ []) counting 0) (Returned (2 ∷ []) counting 0) refl refl (λ e. apart_by 2 1 refl (returned_is 2 1 e)) (λ e. contrary_tests (ap is_return e));
+  refuted = refutes 32 names after_shown_old after_shown_new (world 1 2) (is_world_of 1 2 (lit< tt) (lit< tt)) 4 (Returned (1 ∷ []) counting 0) (Returned (2 ∷ []) counting 0) refl refl (λ e. apart_by 2 1 refl (returned_is 2 1 e)) (λ e. never_true (ap is_return e));
 }
 
 -- ══ A hidden register is read before the place, which is in a loop ══
@@ -365,7 +349,7 @@ before_shown_not_idle = record {
     others = before_shown_others;
     follows = λ w is_world. hidden_written (setting_of 32 names before_shown_old) before_shown_new w (WhereReached (setting_of 32 names before_shown_old) w before_shown_old.blocks 1 (leave_if_equal 1 ∷ []) (Agree (setting_of 32 names before_shown_old) (setting_of 32 names before_shown_new) (only_virtual only_1))) only_1 (AgreeAt (setting_of 32 names before_shown_old) (setting_of 32 names before_shown_new) (λ c. only_virtual only_1)) (copy_in 1 11 s32) 1 (λ state. word_in state 11) refl (λ state. refl) (λ old new related. related.relates);
   };
-  refuted = refutes 32 names before_shown_old before_shown_new (world 1 2) (is_world_of 1 2 (lit< tt) (lit< tt)) 4 (Going counting 0) (Returned (1 ∷ []) counting 0) refl refl (λ e. contrary_tests (ap is_going e)) (λ e. contrary_tests (ap is_going e));
+  refuted = refutes 32 names before_shown_old before_shown_new (world 1 2) (is_world_of 1 2 (lit< tt) (lit< tt)) 4 (Going counting 0) (Returned (1 ∷ []) counting 0) refl refl (λ e. never_true (ap is_going e)) (λ e. never_true (ap is_going e));
 }
 
 -- ══ A hidden register is read by a phi of the block of the place ══
@@ -413,7 +397,7 @@ phis_shown_not_idle = record {
     others = phis_shown_others;
     follows = λ w is_world. hidden_written (setting_of 32 names phis_shown_old) phis_shown_new w (WhereReached (setting_of 32 names phis_shown_old) w phis_shown_old.blocks 1 (leave_if_equal 2 ∷ []) (Agree (setting_of 32 names phis_shown_old) (setting_of 32 names phis_shown_new) (only_virtual only_1))) only_1 (AgreeAt (setting_of 32 names phis_shown_old) (setting_of 32 names phis_shown_new) (λ c. only_virtual only_1)) (copy_in 1 11 s32) 1 (λ state. word_in state 11) refl (λ state. refl) (λ old new related. related.relates);
   };
-  refuted = refutes 32 names phis_shown_old phis_shown_new (world 1 2) (is_world_of 1 2 (lit< tt) (lit< tt)) 4 (Going counting 0) (Returned (1 ∷ []) counting 0) refl refl (λ e. contrary_tests (ap is_going e)) (λ e. contrary_tests (ap is_going e));
+  refuted = refutes 32 names phis_shown_old phis_shown_new (world 1 2) (is_world_of 1 2 (lit< tt) (lit< tt)) 4 (Going counting 0) (Returned (1 ∷ []) counting 0) refl refl (λ e. never_true (ap is_going e)) (λ e. never_true (ap is_going e));
 }
 
 -- ══ A register that is read behind the place has fewer bits in the new function ══
@@ -459,7 +443,7 @@ after_widths_not_idle = record {
     others = after_widths_others;
     follows = unchanged after_widths_old after_widths_new 0 ([]) none;
   };
-  refuted = refutes 32 names after_widths_old after_widths_new (world 65537 2) (is_world_of 65537 2 (lit< tt) (lit< tt)) 4 (Returned (65537 ∷ []) counting 0) (Returned (1 ∷ []) counting 0) refl refl (λ e. apart_by 1 65537 refl (returned_is 1 65537 e)) (λ e. contrary_tests (ap is_return e));
+  refuted = refutes 32 names after_widths_old after_widths_new (world 65537 2) (is_world_of 65537 2 (lit< tt) (lit< tt)) 4 (Returned (65537 ∷ []) counting 0) (Returned (1 ∷ []) counting 0) refl refl (λ e. apart_by 1 65537 refl (returned_is 1 65537 e)) (λ e. never_true (ap is_return e));
 }
 
 -- ══ A register that is read before the place has fewer bits in the new function ══
@@ -505,7 +489,7 @@ before_widths_not_idle = record {
     others = before_widths_others;
     follows = unchanged before_widths_old before_widths_new 0 (copy_in 0 10 s32 ∷ extended ∷ []) none;
   };
-  refuted = refutes 32 names before_widths_old before_widths_new (world 65537 2) (is_world_of 65537 2 (lit< tt) (lit< tt)) 4 (Returned (65537 ∷ []) counting 0) (Returned (1 ∷ []) counting 0) refl refl (λ e. apart_by 1 65537 refl (returned_is 1 65537 e)) (λ e. contrary_tests (ap is_return e));
+  refuted = refutes 32 names before_widths_old before_widths_new (world 65537 2) (is_world_of 65537 2 (lit< tt) (lit< tt)) 4 (Returned (65537 ∷ []) counting 0) (Returned (1 ∷ []) counting 0) refl refl (λ e. apart_by 1 65537 refl (returned_is 1 65537 e)) (λ e. never_true (ap is_return e));
 }
 
 -- ══ The register that replaces another behind the place holds another value ══
@@ -551,7 +535,7 @@ after_held_not_idle = record {
     others = after_held_others;
     follows = unchanged after_held_old after_held_new 0 (copy_in 0 10 s32 ∷ copy_in 1 11 s32 ∷ []) none;
   };
-  refuted = refutes 32 names after_held_old after_held_new (world 1 2) (is_world_of 1 2 (lit< tt) (lit< tt)) 4 (Returned (1 ∷ []) counting 0) (Returned (2 ∷ []) counting 0) refl refl (λ e. apart_by 2 1 refl (returned_is 2 1 e)) (λ e. contrary_tests (ap is_return e));
+  refuted = refutes 32 names after_held_old after_held_new (world 1 2) (is_world_of 1 2 (lit< tt) (lit< tt)) 4 (Returned (1 ∷ []) counting 0) (Returned (2 ∷ []) counting 0) refl refl (λ e. apart_by 2 1 refl (returned_is 2 1 e)) (λ e. never_true (ap is_return e));
 }
 
 -- ══ The register that replaces another before the place holds another value ══
@@ -597,7 +581,7 @@ before_held_not_idle = record {
     others = before_held_others;
     follows = unchanged before_held_old before_held_new 0 (copy_in 0 10 s32 ∷ copy_in 1 11 s32 ∷ copy_out 10 0 ∷ []) none;
   };
-  refuted = refutes 32 names before_held_old before_held_new (world 1 2) (is_world_of 1 2 (lit< tt) (lit< tt)) 4 (Returned (1 ∷ []) counting 0) (Returned (2 ∷ []) counting 0) refl refl (λ e. apart_by 2 1 refl (returned_is 2 1 e)) (λ e. contrary_tests (ap is_return e));
+  refuted = refutes 32 names before_held_old before_held_new (world 1 2) (is_world_of 1 2 (lit< tt) (lit< tt)) 4 (Returned (1 ∷ []) counting 0) (Returned (2 ∷ []) counting 0) refl refl (λ e. apart_by 2 1 refl (returned_is 2 1 e)) (λ e. never_true (ap is_return e));
 }
 
 -- ══ The register that replaces another in a phi holds another value ══
@@ -644,7 +628,7 @@ phis_held_not_idle = record {
     others = phis_held_others;
     follows = unchanged phis_held_old phis_held_new 1 ([]) none;
   };
-  refuted = refutes 32 names phis_held_old phis_held_new (world 1 2) (is_world_of 1 2 (lit< tt) (lit< tt)) 4 (Returned (1 ∷ []) counting 0) (Returned (2 ∷ []) counting 0) refl refl (λ e. apart_by 2 1 refl (returned_is 2 1 e)) (λ e. contrary_tests (ap is_return e));
+  refuted = refutes 32 names phis_held_old phis_held_new (world 1 2) (is_world_of 1 2 (lit< tt) (lit< tt)) 4 (Returned (1 ∷ []) counting 0) (Returned (2 ∷ []) counting 0) refl refl (λ e. apart_by 2 1 refl (returned_is 2 1 e)) (λ e. never_true (ap is_return e));
 }
 
 -- ══ A phi takes another register ══
@@ -691,7 +675,7 @@ phis_kept_not_idle = record {
     others = phis_kept_others;
     follows = unchanged phis_kept_old phis_kept_new 1 ([]) none;
   };
-  refuted = refutes 32 names phis_kept_old phis_kept_new (world 1 2) (is_world_of 1 2 (lit< tt) (lit< tt)) 4 (Returned (1 ∷ []) counting 0) (Returned (2 ∷ []) counting 0) refl refl (λ e. apart_by 2 1 refl (returned_is 2 1 e)) (λ e. contrary_tests (ap is_return e));
+  refuted = refutes 32 names phis_kept_old phis_kept_new (world 1 2) (is_world_of 1 2 (lit< tt) (lit< tt)) 4 (Returned (1 ∷ []) counting 0) (Returned (2 ∷ []) counting 0) refl refl (λ e. apart_by 2 1 refl (returned_is 2 1 e)) (λ e. never_true (ap is_return e));
 }
 
 -- ══ Another instruction stands before the place ══
@@ -737,7 +721,7 @@ before_kept_not_idle = record {
     others = before_kept_others;
     follows = unchanged before_kept_old before_kept_new 0 (copy_in 0 10 s32 ∷ []) none;
   };
-  refuted = refutes 32 names before_kept_old before_kept_new (world 1 2) (is_world_of 1 2 (lit< tt) (lit< tt)) 4 (Returned (1 ∷ []) counting 0) (Returned (2 ∷ []) counting 0) refl refl (λ e. apart_by 2 1 refl (returned_is 2 1 e)) (λ e. contrary_tests (ap is_return e));
+  refuted = refutes 32 names before_kept_old before_kept_new (world 1 2) (is_world_of 1 2 (lit< tt) (lit< tt)) 4 (Returned (1 ∷ []) counting 0) (Returned (2 ∷ []) counting 0) refl refl (λ e. apart_by 2 1 refl (returned_is 2 1 e)) (λ e. never_true (ap is_return e));
 }
 
 -- ══ Another instruction stands behind the place ══
@@ -783,7 +767,7 @@ after_kept_not_idle = record {
     others = after_kept_others;
     follows = unchanged after_kept_old after_kept_new 0 ([]) none;
   };
-  refuted = refutes 32 names after_kept_old after_kept_new (world 1 2) (is_world_of 1 2 (lit< tt) (lit< tt)) 4 (Returned (1 ∷ []) counting 0) (Returned (2 ∷ []) counting 0) refl refl (λ e. apart_by 2 1 refl (returned_is 2 1 e)) (λ e. contrary_tests (ap is_return e));
+  refuted = refutes 32 names after_kept_old after_kept_new (world 1 2) (is_world_of 1 2 (lit< tt) (lit< tt)) 4 (Returned (1 ∷ []) counting 0) (Returned (2 ∷ []) counting 0) refl refl (λ e. apart_by 2 1 refl (returned_is 2 1 e)) (λ e. never_true (ap is_return e));
 }
 
 -- ══ The block of the place has lost its successor ══
@@ -830,7 +814,7 @@ successors_not_idle = record {
     others = successors_others;
     follows = unchanged successors_old successors_new 0 (copy_in 0 10 s32 ∷ []) none;
   };
-  refuted = refutes 32 names successors_old successors_new (world 1 2) (is_world_of 1 2 (lit< tt) (lit< tt)) 4 (Returned (1 ∷ []) counting 0) Fails refl refl (λ e. contrary_tests (ap is_return e)) (λ e. contrary_tests (ap is_return e));
+  refuted = refutes 32 names successors_old successors_new (world 1 2) (is_world_of 1 2 (lit< tt) (lit< tt)) 4 (Returned (1 ∷ []) counting 0) Fails refl refl (λ e. never_true (ap is_return e)) (λ e. never_true (ap is_return e));
 }
 
 -- ══ Another block has changed ══
@@ -872,7 +856,7 @@ others_not_idle = record {
     others = tt;
     follows = unchanged others_old others_new 0 (copy_in 0 10 s32 ∷ []) none;
   };
-  refuted = refutes 32 names others_old others_new (world 1 2) (is_world_of 1 2 (lit< tt) (lit< tt)) 4 (Returned (1 ∷ []) counting 0) (Returned (2 ∷ []) counting 0) refl refl (λ e. apart_by 2 1 refl (returned_is 2 1 e)) (λ e. contrary_tests (ap is_return e));
+  refuted = refutes 32 names others_old others_new (world 1 2) (is_world_of 1 2 (lit< tt) (lit< tt)) 4 (Returned (1 ∷ []) counting 0) (Returned (2 ∷ []) counting 0) refl refl (λ e. apart_by 2 1 refl (returned_is 2 1 e)) (λ e. never_true (ap is_return e));
 }
 
 -- ══ The place does something else ══
@@ -918,7 +902,7 @@ follows_not_idle = record {
     others = follows_others;
     follows = tt;
   };
-  refuted = refutes 32 names follows_old follows_new (world 1 2) (is_world_of 1 2 (lit< tt) (lit< tt)) 4 (Returned (1 ∷ []) counting 0) (Returned (2 ∷ []) counting 0) refl refl (λ e. apart_by 2 1 refl (returned_is 2 1 e)) (λ e. contrary_tests (ap is_return e));
+  refuted = refutes 32 names follows_old follows_new (world 1 2) (is_world_of 1 2 (lit< tt) (lit< tt)) 4 (Returned (1 ∷ []) counting 0) (Returned (2 ∷ []) counting 0) refl refl (λ e. apart_by 2 1 refl (returned_is 2 1 e)) (λ e. never_true (ap is_return e));
 }
 
 -- ══ A phi writes a register of fewer bits in the new function ══
@@ -1003,7 +987,7 @@ phis_widths_not_idle = record {
     others = phis_widths_others;
     follows = phis_widths_follows;
   };
-  refuted = refutes 32 names phis_widths_old phis_widths_new (world 1 2) (is_world_of 1 2 (lit< tt) (lit< tt)) 4 (Returned (1 ∷ []) counting 0) (Returned (2 ∷ []) counting 0) refl refl (λ e. apart_by 2 1 refl (returned_is 2 1 e)) (λ e. contrary_tests (ap is_return e));
+  refuted = refutes 32 names phis_widths_old phis_widths_new (world 1 2) (is_world_of 1 2 (lit< tt) (lit< tt)) 4 (Returned (1 ∷ []) counting 0) (Returned (2 ∷ []) counting 0) refl refl (λ e. apart_by 2 1 refl (returned_is 2 1 e)) (λ e. never_true (ap is_return e));
 }
 
 pub none_idle : (dropped : Premise) → IsNotIdle dropped

@@ -1,4 +1,5 @@
 pub mod Agreeing
+pub mod Basics
 pub mod CallRule
 pub mod CallRuns
 pub mod Classed
@@ -47,3 +48,4 @@ pub mod ValuesFollowed
 pub mod ValuesPlaced
 pub mod ValuesThere
 pub mod Wording
+pub mod WordsExample

@@ -15,18 +15,19 @@ use Rattle.gi_refine.specs.Evaluation.{step_from, then_on, steps_of}
 use Rattle.gi_refine.specs.Examples.{names, s32, copy_in, copy_out, return_of, block_of}
 use Rattle.gi_refine.specs.Kept.{HasSameValue}
 use Rattle.gi_refine.specs.OnePlace.{only_virtual}
-use Rattle.gi_refine.specs.PhiTrial.{s16, extension, truncation, phi_of, choice, on_to_2, narrow_phi, with_extensions, with_wide_phi, with_truncation, wide_phi}
+use Rattle.gi_refine.specs.Trials.{s16, extension, truncation, phi_of, choice, on_to_2, narrow_phi, with_extensions, with_wide_phi, with_truncation, wide_phi}
 use Rattle.gi_refine.specs.Reached.{Arrives, IsReached, WhereReached}
 use Rattle.gi_refine.specs.Refinement.{IsRefinement}
 use Rattle.gi_refine.specs.Rewriting.{Kept, Changed, Covers, PieceFollows, PhisFollow, RewrittenAt, shown_by_phis}
 use Rattle.gi_refine.specs.Simulation.{PhisStand}
 use Rattle.gi_refine.proofs.Agreeing.{same_value}
-use Rattle.gi_refine.proofs.Evaluating.{none_some, steps_so}
+use Rattle.gi_refine.proofs.Basics.{none_some, some_is}
+use Rattle.gi_refine.proofs.Evaluating.{steps_so}
 use Rattle.gi_refine.proofs.IdlePlaces.{seen_by, all_seen_by, alone_holds}
 use Rattle.gi_refine.proofs.Inserting.{hide_put, hide_put_old, inserted_follows, put_has, IsAt, arrives_from}
 use Rattle.gi_refine.proofs.Keeping.{RegisterSeen, taken_same, from_seen, all_shown_less, phis_stand, phis_within, put_values_stand, agree_but, shown_by_phis_less}
 use Rattle.gi_refine.proofs.Refining.{refines_through}
-use Rattle.gi_refine.proofs.RewritingFollows.{kept_phis_follow, rewriting_refines}
+use Rattle.gi_refine.proofs.RewritingFollows.{covers_so, hides_so, kept_phis_follow, rewriting_refines}
 use Rattle.gi_refine.proofs.Staying.{kept_reused, all_kept_reused, phis_hold_alone, has_same_value}
 
 -- ══ Values at a point ══
@@ -79,12 +80,6 @@ only q r = r == q
 -- 8 replaces 2
 abbrev two_by_eight : ℕ → ℕ
 two_by_eight r = if r == 2 then 8 else r
-
-hides_so : (now : Place → Bool) (ps : List Place) → Covers (all_shown now ps) now
-hides_so now ps = record { by = λ p h. all_shown_less now ps p h }
-
-covers_so : (now : Place → Bool) → Covers now now
-covers_so now = record { by = λ p h. h }
 
 phis_cover : (now : Place → Bool) (is : List (ℕ × InstrData)) → Covers (shown_by_phis now is) now
 phis_cover now is = record { by = λ p h. shown_by_phis_less now is p h }
@@ -262,12 +257,9 @@ beside = rewriting_refines 32 names with_extensions with_wide_phi (record { entr
 
 -- ══ The truncation ══
 
-block_same : (a b : BlockData) → Some a ≡ Some b → b ≡ a
-block_same a b h = ap (λ o. unwrap_or o a) (sym h)
-
 wide_present : (w : World) (state : State) → IsReached (setting_of 32 names with_wide_phi) w with_wide_phi.blocks 2 [] state → (v : ℕ) × (state.values 7 ≡ Some v)
 wide_present w state r =
-    let same : r.block ≡ block_of [] (phi_of 7 5 6 s32 ∷ phi_of 2 0 1 s16 ∷ extension 3 2 ∷ copy_out 10 3 ∷ return_of 10 ∷ []) = block_same _ r.block r.enters.joins.here in
+    let same : r.block ≡ block_of [] (phi_of 7 5 6 s32 ∷ phi_of 2 0 1 s16 ∷ extension 3 2 ∷ copy_out 10 3 ∷ return_of 10 ∷ []) = some_is _ r.block r.enters.joins.here in
     let gave : joined r.enters.entered r.enters.from (phi_of 7 5 6 s32 ∷ phi_of 2 0 1 s16 ∷ []) ≡ Some r.middle =
     subst (λ (k : BlockData). joined r.enters.entered r.enters.from (phis_of k.instrs) ≡ Some r.middle) same r.enters.joins.phis in
     let has : (u : ℕ) × (value_at r.enters.entered (from_block r.enters.from wide_operands) ≡ Some u) × (r.middle.values 7 ≡ Some u) =
@@ -365,7 +357,7 @@ truncation_is w state r =
     let entered : State = r.enters.entered in
     let narrow : Option ℕ = value_at entered (from_block r.enters.from narrow_operands) in
     let wide : Option ℕ = value_at entered (from_block r.enters.from wide_operands) in
-    let same : r.block ≡ block_of [] (phi_of 7 5 6 s32 ∷ phi_of 2 0 1 s16 ∷ truncation 8 7 ∷ extension 3 2 ∷ copy_out 10 3 ∷ return_of 10 ∷ []) = block_same _ r.block r.enters.joins.here in
+    let same : r.block ≡ block_of [] (phi_of 7 5 6 s32 ∷ phi_of 2 0 1 s16 ∷ truncation 8 7 ∷ extension 3 2 ∷ copy_out 10 3 ∷ return_of 10 ∷ []) = some_is _ r.block r.enters.joins.here in
     let gave : (a : ℕ) × (b : ℕ) × (narrow ≡ Some a) × (wide ≡ Some b) × (r.middle ≡ put (put entered (Virtual 2) a) (Virtual 7) b) =
     both_gave entered narrow wide r.middle (subst (λ (k : BlockData). joined entered r.enters.from (phis_of k.instrs) ≡ Some r.middle) same r.enters.joins.phis) in
     let middle : State = put (put entered (Virtual 2) gave.0) (Virtual 7) gave.1 in

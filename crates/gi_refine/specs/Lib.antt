@@ -11,7 +11,6 @@ pub mod Kept
 pub mod Lifting
 pub mod OnePlace
 pub mod Outcomes
-pub mod PhiTrial
 pub mod Reached
 pub mod Refinement
 pub mod Replacing
@@ -22,4 +21,5 @@ pub mod TestedUse
 pub mod TrialFunctions
 pub mod TrialRules
 pub mod Values
+pub mod Trials
 pub mod Worded

@@ -1,5 +1,5 @@
--- A trial rule: a phi of 16 bits becomes one of 32, with an extension before the first terminator of each predecessor and
--- a truncation behind the last phi.
+-- Trial rules: a phi of 16 bits becomes one of 32, with an extension before the first terminator of each predecessor and a
+-- truncation behind the last phi; and registers of 32 bits that become words on RV64.
 use Rattle.std.specs.Prelude.{ℕ, List, [], ◌∷◌, None}
 use Rattle.gi_llt.specs.declared.Llt.TheVariants.{Scalar}
 use Rattle.gi_mir.specs.Data.{InstrData, FunctionData}
@@ -56,3 +56,12 @@ with_truncation = meeting (copy_in 0 10 s16 ∷ extension 5 0 ∷ choice ∷ [])
 abbrev pub wide_phi : FunctionData
 wide_phi = meeting (copy_in 0 10 s16 ∷ extension 5 0 ∷ choice ∷ []) (copy_in 1 11 s16 ∷ extension 6 1 ∷ on_to_2 ∷ [])
     (phi_of 7 5 6 s32 ∷ truncation 8 7 ∷ extension 3 8 ∷ copy_out 10 3 ∷ return_of 10 ∷ [])
+
+-- the low 32 bits of a sum, on RV64: registers of 32 bits become words
+abbrev pub sums_low : FunctionData
+sums_low = function_of (block_of []
+    (copy_in 0 10 s32
+    ∷ made op.AddWord (operand.Def (reg_of 1) s32 ∷ use_of 0 ∷ use_of 0 ∷ []) None
+    ∷ copy_out 10 1
+    ∷ return_of 10
+    ∷ []) ∷ [])
