@@ -1,5 +1,5 @@
 -- What is worked out is what a run comes to, and nothing else.
-use Rattle.std.proofs.Common.{◌≡◌, ℕ, zero, suc, ◌+◌, ◌%◌, ◌^◌, ◌<◌, Bool, true, false, not, cond, ◌&&◌, nat_lt, List, [], ◌∷◌, map, Option, Some, None, unwrap_or, slice_get, ⊎_elim, refl, sym, ap, ap₂, ◌∙◌, subst}
+use Rattle.std.proofs.Common.{◌≡◌, ℕ, zero, suc, ◌+◌, ◌%◌, ◌^◌, ◌<◌, Bool, true, false, not, cond, nat_lt, List, [], ◌∷◌, map, Option, Some, None, slice_get, ⊎_elim, refl, sym, ap, ap₂, ◌∙◌, subst}
 use Rattle.gi_mir.specs.Data.{InstrData, BlockData, FunctionData}
 use Rattle.gi_mir.specs.declared.operand.MemOp.{MemOp}
 use Rattle.gi_meaning.specs.Argument.{Argument, Value, Number}
@@ -11,14 +11,9 @@ use Rattle.gi_meaning.specs.Runs.{Setting, setting_of, arguments_of, written_pla
 use Rattle.gi_refine.specs.Evaluation.{exact, exact_words, are_whole, answered, progress_by, step_from, step_of, then_on, steps_of, followed_by, after_phis_of, block_of_run, entered, outcome_of}
 use Rattle.gi_refine.specs.Outcomes.{ComesTo}
 use Rattle.gi_refine.specs.Refinement.{IsRefinement}
+use Rattle.gi_refine.proofs.Basics.{both_true, none_some, not_true, some_is}
 use Rattle.gi_refine.proofs.Doing.{ActsSo, DoesAll}
 use Rattle.gi_refine.proofs.Failing.{fails_from_may}
-
-pub none_some : {X : Type 0} (x : X) → None ≡ Some x → ⊥
-none_some x h = cc
-
-some_is : {X : Type 0} (x y : X) → Some x ≡ Some y → y ≡ x
-some_is x y h = ap (λ o. unwrap_or o x) (sym h)
 
 -- ══ Answers ══
 
@@ -36,15 +31,6 @@ exact_words_so x widths (Exactly words) outside a h = (
 )
 exact_words_so x widths (LowBits known width value) outside a h = absurd (none_some a h)
 exact_words_so x widths Undefined outside a h = (some_is Breaks a h, λ other given. given ∙ sym (some_is Breaks a h))
-
--- whole words are read as they are
-both_true : (a b : Bool) → (a && b) ≡ true → (a ≡ true) × (b ≡ true)
-both_true true b h = (refl, h)
-both_true false b h = cc
-
-not_true : (b : Bool) → not b ≡ true → b ≡ false
-not_true true h = cc
-not_true false h = refl
 
 reads_whole : (x : ℕ) (arguments : List Argument) → are_whole x arguments ≡ true → AllReadAs x arguments arguments
 reads_whole x [] h = refl

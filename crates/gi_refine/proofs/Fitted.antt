@@ -1,11 +1,11 @@
 -- The values of registers fit their widths wherever runs reach, in a function that passes a test.
 use Rattle.gi_refine.specs.Lifting.{Reads, AreSized}
 use Rattle.gi_refine.specs.Values.{Environment}
-use Rattle.std.proofs.Common.{◌≡◌, ℕ, zero, suc, ◌+◌, ◌*◌, ◌/◌, ◌^◌, ◌<◌, ◌==◌, Bool, true, false, cond, ◌&&◌, ◌||◌, List, [], ◌∷◌, ◌++◌, map, Option, Some, None, option_map, slice_get, ◌⊎◌, inl, inr, ⊎_elim, refl, sym, subst, eqb-true}
-use Rattle.std.specs.Prelude.{IfSome, nat_lt, nat_le}
+use Rattle.std.proofs.Common.{◌≡◌, ℕ, zero, suc, ◌+◌, ◌*◌, ◌/◌, ◌^◌, ◌<◌, ◌==◌, Bool, true, false, cond, ◌&&◌, List, [], ◌∷◌, ◌++◌, map, Option, Some, None, option_map, slice_get, ⊎_elim, refl, sym, subst, eqb-true, ◌%◌, ◌||◌, not}
+use Rattle.std.specs.Prelude.{IfSome, nat_lt, nat_le, pos, int_div, int_rem, nat_abs, not}
 use Rattle.std.proofs.lemmas.Nat.{pow_pos, mod_below}
 use Rattle.std.proofs.lemmas.Bool.{ltb-true}
-use Rattle.gi_llt.specs.Bits.{wrapped}
+use Rattle.gi_llt.specs.Bits.{wrapped, signed, unsigned}
 use Rattle.gi_mir.specs.Data.{InstrData, BlockData, FunctionData}
 use Rattle.gi_mir.specs.declared.opcode.Opcode.{Opcode}
 use Rattle.gi_mir.specs.declared.opcode.Opcode.TheVariants as op
@@ -13,9 +13,9 @@ use Rattle.gi_mir.specs.declared.operand.Flags.{Flags}
 use Rattle.gi_mir.specs.declared.operand.MemOp.{MemOp}
 use Rattle.gi_mir.specs.declared.operand.Operand.{Operand}
 use Rattle.gi_mir.specs.declared.operand.Operand.TheVariants as operand
-use Rattle.gi_meaning.specs.Argument.{Argument, Value, To, Bits}
+use Rattle.gi_meaning.specs.Argument.{Argument, Value, To, Bits, Number}
 use Rattle.gi_meaning.specs.Given.{Given, Exactly, LowBits, Undefined, IsGiven, one, free, unless_broken}
-use Rattle.gi_meaning.specs.Generic.{nullary, unary, binary, unmerge, parts_of, constant}
+use Rattle.gi_meaning.specs.Generic.{nullary, unary, binary, unmerge, parts_of, constant, ternary, extension_in_register, signed_quotient, signed_remainder, overflows_division}
 use Rattle.gi_meaning.specs.State.{World, IsWorld, State, Outside, outside_of, Place, Virtual, Physical, put}
 use Rattle.gi_meaning.specs.Meaning.{Meaning, Copying, Generic, Jumping, Branching, MachineBranching, Returning, Nothing, meaning_of}
 use Rattle.gi_meaning.specs.Act.{Answer, Results, Leaves, Returns, Asks, Breaks, Act, Answers, copy, jump, branch, machine_branch}
@@ -24,8 +24,8 @@ use Rattle.gi_refine.specs.Fitting.{IsFit, always_fits, is_fitting_constant, kee
 use Rattle.gi_refine.specs.Invariant.{GoesOnWith, AllKeep, BlockKeeps}
 use Rattle.gi_refine.specs.Reached.{IsReached}
 use Rattle.gi_refine.proofs.Invariants.{invariant_holds}
-use Rattle.gi_refine.proofs.ValuesPlaced.{and_left, and_right}
 use Rattle.gi_meaning.proofs.Numbers.{unsigned_below}
+use Rattle.gi_refine.proofs.Tests.{both_left, both_right, either, same_some}
 
 -- ══ What operations give ══
 
@@ -62,6 +62,21 @@ copied_fits m n v false false same fits = one_fits n (wrapped n v) (wrapped_fits
 shifted_fits : (b c : Bool) (n v : ℕ) → v < 2 ^ n → GivenFits (n ∷ []) (cond b (free n) (unless_broken c n v))
 shifted_fits true c n v fits = low_bits_fit 0 n 0
 shifted_fits false c n v fits = unless_fits c n v fits
+
+partial_fits : (b : Bool) (n : ℕ) (given : Given) → GivenFits (n ∷ []) given → GivenFits (n ∷ []) (cond b Undefined given)
+partial_fits true n given fits = λ results h. absurd h
+partial_fits false n given fits = fits
+
+quotient_fits : (flags : Flags) (n a b : ℕ) → GivenFits (n ∷ []) (signed_quotient flags n a b)
+quotient_fits flags n a b =
+    let given : ℕ = unsigned n (int_div (signed n a) (signed n b)) in
+    let broken : Bool = flags.exact && not (nat_abs (signed n a) % nat_abs (signed n b) == 0) in
+    partial_fits ((b == 0) || overflows_division n a b) n (unless_broken broken n given) (unless_fits broken n given (unsigned_below n (int_div (signed n a) (signed n b))))
+
+remainder_fits : (n a b : ℕ) → GivenFits (n ∷ []) (signed_remainder n a b)
+remainder_fits n a b =
+    let given : ℕ = unsigned n (int_rem (signed n a) (signed n b)) in
+    partial_fits ((b == 0) || overflows_division n a b) n (one given) (one_fits n given (unsigned_below n (int_rem (signed n a) (signed n b))))
 
 parts_fit : (widths : List ℕ) (v : ℕ) → AreFit widths (parts_of widths v)
 parts_fit [] v = tt
@@ -128,6 +143,14 @@ binary_fits : (f : ℕ → ℕ → ℕ → Given) → ((n a b : ℕ) → GivenFi
 binary_fits f h (n ∷ []) (Value l a ∷ Value m b ∷ []) fits = h n a b
 binary_fits f h _ _ fits = λ results given. absurd given
 
+ternary_fits : (f : ℕ → ℕ → ℕ → ℕ → Given) → ((n a b c : ℕ) → GivenFits (n ∷ []) (f n a b c)) → GivesFit (ternary f)
+ternary_fits f h (n ∷ []) (Value l a ∷ Value m b ∷ Value k c ∷ []) fits = h n a b c
+ternary_fits f h _ _ fits = λ results given. absurd given
+
+in_register_fits : GivesFit extension_in_register
+in_register_fits (n ∷ []) (Value m a ∷ Number (pos k) ∷ []) fits = one_fits n _ (unsigned_below n _)
+in_register_fits _ _ fits = λ results given. absurd given
+
 unmerge_fits : GivesFit unmerge
 unmerge_fits widths (Value m a ∷ []) fits = λ results given. subst (AreFit widths) (sym given) (parts_fit widths a)
 unmerge_fits _ _ fits = λ results given. absurd given
@@ -153,6 +176,15 @@ opcode_fits flags op.GenericAdd h = binary_fits _ (λ n a b. unless_fits _ n _ (
 opcode_fits flags op.GenericSubtract h = binary_fits _ (λ n a b. unless_fits _ n _ (unsigned_below n _))
 opcode_fits flags op.GenericMultiply h = binary_fits _ (λ n a b. unless_fits _ n _ (wrapped_fits n (a * b)))
 opcode_fits flags op.GenericShiftLeft h = binary_fits _ (λ n a b. shifted_fits (nat_le n b) _ n _ (wrapped_fits n (a * 2 ^ b)))
+opcode_fits flags op.GenericArithmeticShiftRight h = binary_fits _ (λ n a b. shifted_fits (nat_le n b) _ n _ (wrapped_fits n _))
+opcode_fits flags op.GenericSignedDivide h = binary_fits _ (λ n a b. quotient_fits flags n a b)
+opcode_fits flags op.GenericSignedRemainder h = binary_fits _ (λ n a b. remainder_fits n a b)
+opcode_fits flags op.GenericSignExtendInRegister h = in_register_fits
+opcode_fits flags op.GenericAbsolute h = unary_fits _ (λ m n a fits. one_fits n (unsigned n (pos (nat_abs (signed m a)))) (unsigned_below n (pos (nat_abs (signed m a)))))
+opcode_fits flags op.GenericFunnelShiftLeft h = ternary_fits _ (λ n a b c. one_fits n _ (wrapped_fits n _))
+opcode_fits flags op.GenericFunnelShiftRight h = ternary_fits _ (λ n a b c. one_fits n _ (wrapped_fits n _))
+opcode_fits flags op.GenericRotateLeft h = binary_fits _ (λ n a b. one_fits n _ (wrapped_fits n _))
+opcode_fits flags op.GenericRotateRight h = binary_fits _ (λ n a b. one_fits n _ (wrapped_fits n _))
 opcode_fits flags op.GenericUnmergeValues h = unmerge_fits
 opcode_fits flags op.GenericUnsignedMultiplyHigh h = binary_fits _ (λ n a b. one_fits n _ (wrapped_fits n _))
 opcode_fits flags op.GenericSignedMultiplyHigh h = binary_fits _ (λ n a b. one_fits n _ (wrapped_fits n _))
@@ -286,18 +318,11 @@ constant_fits : (s : Setting) (w : World) (flags : Flags) (o : Opcode) (os : Lis
     → ActsFit s w (record { op = o; flags = flags; operands = os; mem = mem; line = line })
 constant_fits s w flags op.GenericConstant (operand.Def r kind ∷ operand.Constant n v ∷ []) mem line h = λ state fit arguments read small answer act.
     answers_fit (s.width r.0 ∷ []) (one v) (outside_of state) answer (one_fits (s.width r.0) v (ltb-true v (2 ^ s.width r.0) h))
-    (subst (λ list. Answers (constant (s.width r.0 ∷ []) list) (outside_of state) answer) (unwrapped arguments (Bits n v ∷ []) (sym read)) act)
-  where
-    unwrapped : (a b : List Argument) → Some a ≡ Some b → a ≡ b
-    unwrapped a b e = cc
+    (subst (λ list. Answers (constant (s.width r.0 ∷ []) list) (outside_of state) answer) (same_some arguments (Bits n v ∷ []) (sym read)) act)
 constant_fits s w flags _ _ mem line h = cc
 
 other_fits : (s : Setting) (w : World) (i : InstrData) (m : Meaning) → meaning_of i.flags i.op ≡ m → MeaningFits m → has_no_words m ≡ true → ActsFit s w i
 other_fits s w i m is fits h = meaning_fits s w i (subst MeaningFits (sym is) fits) (subst (λ k. has_no_words k ≡ true) (sym is) h)
-
-either : (a b : Bool) → (a || b) ≡ true → (a ≡ true) ⊎ (b ≡ true)
-either true b h = inl refl
-either false b h = inr h
 
 instruction_fits : (s : Setting) (w : World) (i : InstrData) (m : Meaning) → meaning_of i.flags i.op ≡ m → keeps_fit s.width m i.op i.operands ≡ true → ActsFit s w i
 instruction_fits s w i Copying is keeps = other_fits s w i Copying is tt refl
@@ -317,8 +342,8 @@ instructions_fit : (s : Setting) (w : World) → IsWorld s.x w → (is : List (�
 instructions_fit s w is_world [] h = tt
 instructions_fit s w is_world (i ∷ is) h = (
   step_fit s w is_world i.1
-      (instruction_fits s w i.1 (meaning_of i.1.flags i.1.op) refl (and_left (keeps_fit s.width (meaning_of i.1.flags i.1.op) i.1.op i.1.operands) (all_keep_fit s.width is) h)),
-  instructions_fit s w is_world is (and_right (keeps_fit s.width (meaning_of i.1.flags i.1.op) i.1.op i.1.operands) (all_keep_fit s.width is) h),
+      (instruction_fits s w i.1 (meaning_of i.1.flags i.1.op) refl (both_left (keeps_fit s.width (meaning_of i.1.flags i.1.op) i.1.op i.1.operands) (all_keep_fit s.width is) h)),
+  instructions_fit s w is_world is (both_right (keeps_fit s.width (meaning_of i.1.flags i.1.op) i.1.op i.1.operands) (all_keep_fit s.width is) h),
 )
 
 -- ══ Phis ══
@@ -341,9 +366,9 @@ entry_fits : (width : ℕ → ℕ) (values : ℕ → Option ℕ) (n from : ℕ) 
     → IfSome (at_register values (entry_for from os)) (λ v. v < 2 ^ n)
 entry_fits width values n from fit [] h = tt
 entry_fits width values n from fit (operand.Use r ∷ operand.Block b ∷ os) h =
-    chosen_fits width values n fit (b == from) r.0 (entry_for from (operand.Block b ∷ os)) (eqb-true (width r.0) n (and_left (width r.0 == n) (uses_have width n os) h))
-    (entry_fits width values n from fit (operand.Block b ∷ os) (and_right (width r.0 == n) (uses_have width n os) h))
-entry_fits width values n from fit (operand.Use r ∷ os) h = entry_fits width values n from fit os (and_right (width r.0 == n) (uses_have width n os) h)
+    chosen_fits width values n fit (b == from) r.0 (entry_for from (operand.Block b ∷ os)) (eqb-true (width r.0) n (both_left (width r.0 == n) (uses_have width n os) h))
+    (entry_fits width values n from fit (operand.Block b ∷ os) (both_right (width r.0 == n) (uses_have width n os) h))
+entry_fits width values n from fit (operand.Use r ∷ os) h = entry_fits width values n from fit os (both_right (width r.0 == n) (uses_have width n os) h)
 entry_fits width values n from fit (o ∷ os) h = entry_fits width values n from fit os h
 
 taken_fits : (s : Setting) (state : State) → IsFit s state → (n : ℕ) (from : Option ℕ) (os : List Operand) → uses_have s.width n os ≡ true → IfSome (value_at state (from_block from os)) (λ v. v < 2 ^ n)
@@ -364,8 +389,8 @@ phis_joined_fit : (s : Setting) (state : State) → IsFit s state → (from : Op
 phis_joined_fit s state fit from [] h = fit
 phis_joined_fit s state fit from (i ∷ is) h =
     put_value_fits s (joined state from is) (places_of i.1.operands) (value_at state (from_block from i.1.operands))
-    (phis_joined_fit s state fit from is (and_right (phi_fits s (places_of i.1.operands) i.1.operands) (phis_fit s is) h))
-    (phi_taken_fits s state fit from (places_of i.1.operands) i.1.operands (and_left (phi_fits s (places_of i.1.operands) i.1.operands) (phis_fit s is) h))
+    (phis_joined_fit s state fit from is (both_right (phi_fits s (places_of i.1.operands) i.1.operands) (phis_fit s is) h))
+    (phi_taken_fits s state fit from (places_of i.1.operands) i.1.operands (both_left (phi_fits s (places_of i.1.operands) i.1.operands) (phis_fit s is) h))
 
 -- ══ Functions ══
 
@@ -378,15 +403,12 @@ block_keeps_fit s w is_world block phis body = record {
 blocks_keep_fit : (s : Setting) (w : World) → IsWorld s.x w → (blocks : List BlockData) → blocks_fit s blocks ≡ true → (b : ℕ) (block : BlockData) → slice_get blocks b ≡ Some block → BlockKeeps s w (IsFit s) block
 blocks_keep_fit s w is_world [] h b block here = cc
 blocks_keep_fit s w is_world (k ∷ blocks) h zero block here =
-    subst (BlockKeeps s w (IsFit s)) (unwrapped k block here)
+    subst (BlockKeeps s w (IsFit s)) (same_some k block here)
     (block_keeps_fit s w is_world k
-    (and_left (phis_fit s (phis_of k.instrs)) (all_keep_fit s.width (after_phis k.instrs)) (and_left (phis_fit s (phis_of k.instrs) && all_keep_fit s.width (after_phis k.instrs)) (blocks_fit s blocks) h))
-    (and_right (phis_fit s (phis_of k.instrs)) (all_keep_fit s.width (after_phis k.instrs)) (and_left (phis_fit s (phis_of k.instrs) && all_keep_fit s.width (after_phis k.instrs)) (blocks_fit s blocks) h)))
-  where
-    unwrapped : (a b : BlockData) → Some a ≡ Some b → a ≡ b
-    unwrapped a b e = cc
+    (both_left (phis_fit s (phis_of k.instrs)) (all_keep_fit s.width (after_phis k.instrs)) (both_left (phis_fit s (phis_of k.instrs) && all_keep_fit s.width (after_phis k.instrs)) (blocks_fit s blocks) h))
+    (both_right (phis_fit s (phis_of k.instrs)) (all_keep_fit s.width (after_phis k.instrs)) (both_left (phis_fit s (phis_of k.instrs) && all_keep_fit s.width (after_phis k.instrs)) (blocks_fit s blocks) h)))
 blocks_keep_fit s w is_world (k ∷ blocks) h (suc b) block here =
-    blocks_keep_fit s w is_world blocks (and_right (phis_fit s (phis_of k.instrs) && all_keep_fit s.width (after_phis k.instrs)) (blocks_fit s blocks) h) b block here
+    blocks_keep_fit s w is_world blocks (both_right (phis_fit s (phis_of k.instrs) && all_keep_fit s.width (after_phis k.instrs)) (blocks_fit s blocks) h) b block here
 
 -- wherever runs reach, values fit their widths
 pub fit_where_reached : (x : ℕ) (names : List (List ℕ)) (f : FunctionData) (w : World) → IsWorld x w → blocks_fit (setting_of x names f) f.blocks ≡ true

@@ -6,15 +6,17 @@ use Rattle.gi_mir.specs.declared.operand.Operand.TheVariants as operand
 use Rattle.gi_meaning.specs.Meaning.{meaning_of}
 use Rattle.gi_meaning.specs.State.{World, State, Returned, Fails, Place, Virtual, Physical, put, word_in}
 use Rattle.gi_meaning.specs.Runs.{Setting, setting_of, written_places, On}
-use Rattle.gi_refine.specs.Agreement.{Agree, AgreeAt, all_shown}
+use Rattle.gi_refine.specs.Agreement.{Agree, AgreeAt}
 use Rattle.gi_refine.specs.Evaluation.{steps_of}
 use Rattle.gi_refine.specs.Examples.{made, block_of, function_of, s32, copy_in, copy_out, names, counting}
 use Rattle.gi_refine.specs.Idle.{PiecePremise, StayKept, StaySeen, StayHeld, StayHides, StayLeaves, PieceChanged, PhisFollowing, BlockFalls, BlockSuccessors, PieceBut, PiecesBut, BlockButAt, IsRewrittenBut, IsPieceNotIdle}
 use Rattle.gi_refine.specs.OnePlace.{only_virtual}
 use Rattle.gi_refine.specs.Reached.{WhereReached}
 use Rattle.gi_refine.specs.Rewriting.{Piece, Kept, Changed, old_of, Covers, PieceFollows, PiecesFollow, PhisFollow, RewrittenAt, IsRewritten}
-use Rattle.gi_refine.proofs.IdlePlaces.{seen_by, alone_holds, contrary_tests, apart_by, world, is_world_of, returned_is, is_return, hidden_written, none, only_1, zero_by_one, return_10, other_word, phi_of}
-use Rattle.gi_refine.proofs.Keeping.{agree_but, all_shown_less}
+use Rattle.gi_refine.proofs.RewritingFollows.{covers_so, hides_so}
+use Rattle.gi_refine.proofs.Basics.{apart_by, never_true}
+use Rattle.gi_refine.proofs.IdlePlaces.{seen_by, alone_holds, world, is_world_of, returned_is, is_return, hidden_written, none, only_1, zero_by_one, return_10, other_word, phi_of}
+use Rattle.gi_refine.proofs.Keeping.{agree_but}
 use Rattle.gi_refine.proofs.Staying.{kept_reused}
 use Rattle.gi_refine.proofs.Evaluating.{refutes}
 
@@ -60,13 +62,6 @@ all_seen = only_virtual none
 abbrev one_hidden : Place → Bool
 one_hidden = only_virtual only_1
 
--- what was hidden is hidden after an instruction that stays
-hides_so : (now : Place → Bool) (ps : List Place) → Covers (all_shown now ps) now
-hides_so now ps = record { by = λ p h. all_shown_less now ps p h }
-
-covers_so : (now : Place → Bool) → Covers now now
-covers_so now = record { by = λ p h. h }
-
 none_covered : (first then : Place → Bool) → ((p : Place) → first p ≡ false) → Covers first then
 none_covered first then seen = record { by = λ p h. seen p }
 
@@ -107,8 +102,8 @@ kept_places zero = record {
   splits = refl;
   new_splits = refl;
   phis = λ w is_world. no_phis_follow kept_old kept_new 0 all_seen w;
-  body = λ w is_world. (record { kept = tt; seen = seen_by (setting_of 32 names kept_old) (setting_of 32 names kept_new) none (λ r. r) ((copy_in 0 10 s32).1.operands) refl; holds = λ state reached. alone_holds (λ r. r) state ((copy_in 0 10 s32).1.operands) refl; hides = hides_so all_seen (written_places (meaning_of (copy_in 0 10 s32).1.flags (copy_in 0 10 s32).1.op) ((copy_in 0 10 s32).1.operands)); leaves = λ c h. absurd (contrary_tests h) }, (record { kept = tt; seen = seen_by (setting_of 32 names kept_old) (setting_of 32 names kept_new) none (λ r. r) ((copy_out 10 0).1.operands) refl; holds = λ state reached. alone_holds (λ r. r) state ((copy_out 10 0).1.operands) refl; hides = hides_so all_seen (written_places (meaning_of (copy_out 10 0).1.flags (copy_out 10 0).1.op) ((copy_out 10 0).1.operands)); leaves = λ c h. absurd (contrary_tests h) }, (record { kept = tt; seen = seen_by (setting_of 32 names kept_old) (setting_of 32 names kept_new) none (λ r. r) ((return_10).1.operands) refl; holds = λ state reached. alone_holds (λ r. r) state ((return_10).1.operands) refl; hides = hides_so all_seen (written_places (meaning_of (return_10).1.flags (return_10).1.op) ((return_10).1.operands)); leaves = λ c h. absurd (contrary_tests h) }, tt)));
-  falls = λ among. absurd (contrary_tests among);
+  body = λ w is_world. (record { kept = tt; seen = seen_by (setting_of 32 names kept_old) (setting_of 32 names kept_new) none (λ r. r) ((copy_in 0 10 s32).1.operands) refl; holds = λ state reached. alone_holds (λ r. r) state ((copy_in 0 10 s32).1.operands) refl; hides = hides_so all_seen (written_places (meaning_of (copy_in 0 10 s32).1.flags (copy_in 0 10 s32).1.op) ((copy_in 0 10 s32).1.operands)); leaves = λ c h. absurd (never_true h) }, (record { kept = tt; seen = seen_by (setting_of 32 names kept_old) (setting_of 32 names kept_new) none (λ r. r) ((copy_out 10 0).1.operands) refl; holds = λ state reached. alone_holds (λ r. r) state ((copy_out 10 0).1.operands) refl; hides = hides_so all_seen (written_places (meaning_of (copy_out 10 0).1.flags (copy_out 10 0).1.op) ((copy_out 10 0).1.operands)); leaves = λ c h. absurd (never_true h) }, (record { kept = tt; seen = seen_by (setting_of 32 names kept_old) (setting_of 32 names kept_new) none (λ r. r) ((return_10).1.operands) refl; holds = λ state reached. alone_holds (λ r. r) state ((return_10).1.operands) refl; hides = hides_so all_seen (written_places (meaning_of (return_10).1.flags (return_10).1.op) ((return_10).1.operands)); leaves = λ c h. absurd (never_true h) }, tt)));
+  falls = λ among. absurd (never_true among);
 }
 kept_places (suc b) = tt
 
@@ -117,7 +112,7 @@ kept_not_idle = record {
   old = kept_old;
   new = kept_new;
   owes = record { entries = (λ b. all_seen); rename = (λ r. r); places = kept_places };
-  refuted = refutes 32 names kept_old kept_new (world 1 2) (is_world_of 1 2 (lit< tt) (lit< tt)) 4 (Returned (1 ∷ []) counting 0) (Returned (2 ∷ []) counting 0) refl refl (λ e. apart_by 2 1 refl (returned_is 2 1 e)) (λ e. contrary_tests (ap is_return e));
+  refuted = refutes 32 names kept_old kept_new (world 1 2) (is_world_of 1 2 (lit< tt) (lit< tt)) 4 (Returned (1 ∷ []) counting 0) (Returned (2 ∷ []) counting 0) refl refl (λ e. apart_by 2 1 refl (returned_is 2 1 e)) (λ e. never_true (ap is_return e));
 }
 
 -- ══ An instruction that stays reads what is hidden ══
@@ -136,8 +131,8 @@ seen_places zero = record {
   splits = refl;
   new_splits = refl;
   phis = λ w is_world. no_phis_follow seen_old seen_new 0 all_seen w;
-  body = λ w is_world. (record { kept = kept_reused (λ r. r) ((copy_in 1 10 s32).1) ((copy_in 1 10 s32).1) refl; seen = tt; holds = λ state reached. alone_holds (λ r. r) state ((copy_in 1 10 s32).1.operands) refl; hides = hides_so all_seen (written_places (meaning_of (copy_in 1 10 s32).1.flags (copy_in 1 10 s32).1.op) ((copy_in 1 10 s32).1.operands)); leaves = λ c h. absurd (contrary_tests h) }, (hides_1 seen_old seen_new (λ b. all_seen) w 0 (copy_in 1 10 s32 ∷ []) all_seen all_seen_so (λ state. refl), (record { kept = kept_reused (λ r. r) ((copy_out 10 1).1) ((copy_out 10 1).1) refl; seen = tt; holds = λ state reached. alone_holds (λ r. r) state ((copy_out 10 1).1.operands) refl; hides = hides_so one_hidden (written_places (meaning_of (copy_out 10 1).1.flags (copy_out 10 1).1.op) ((copy_out 10 1).1.operands)); leaves = λ c h. absurd (contrary_tests h) }, (record { kept = kept_reused (λ r. r) ((return_10).1) ((return_10).1) refl; seen = tt; holds = λ state reached. alone_holds (λ r. r) state ((return_10).1.operands) refl; hides = hides_so one_hidden (written_places (meaning_of (return_10).1.flags (return_10).1.op) ((return_10).1.operands)); leaves = λ c h. absurd (contrary_tests h) }, tt))));
-  falls = λ among. absurd (contrary_tests among);
+  body = λ w is_world. (record { kept = kept_reused (λ r. r) ((copy_in 1 10 s32).1) ((copy_in 1 10 s32).1) refl; seen = tt; holds = λ state reached. alone_holds (λ r. r) state ((copy_in 1 10 s32).1.operands) refl; hides = hides_so all_seen (written_places (meaning_of (copy_in 1 10 s32).1.flags (copy_in 1 10 s32).1.op) ((copy_in 1 10 s32).1.operands)); leaves = λ c h. absurd (never_true h) }, (hides_1 seen_old seen_new (λ b. all_seen) w 0 (copy_in 1 10 s32 ∷ []) all_seen all_seen_so (λ state. refl), (record { kept = kept_reused (λ r. r) ((copy_out 10 1).1) ((copy_out 10 1).1) refl; seen = tt; holds = λ state reached. alone_holds (λ r. r) state ((copy_out 10 1).1.operands) refl; hides = hides_so one_hidden (written_places (meaning_of (copy_out 10 1).1.flags (copy_out 10 1).1.op) ((copy_out 10 1).1.operands)); leaves = λ c h. absurd (never_true h) }, (record { kept = kept_reused (λ r. r) ((return_10).1) ((return_10).1) refl; seen = tt; holds = λ state reached. alone_holds (λ r. r) state ((return_10).1.operands) refl; hides = hides_so one_hidden (written_places (meaning_of (return_10).1.flags (return_10).1.op) ((return_10).1.operands)); leaves = λ c h. absurd (never_true h) }, tt))));
+  falls = λ among. absurd (never_true among);
 }
 seen_places (suc b) = tt
 
@@ -146,7 +141,7 @@ seen_not_idle = record {
   old = seen_old;
   new = seen_new;
   owes = record { entries = (λ b. all_seen); rename = (λ r. r); places = seen_places };
-  refuted = refutes 32 names seen_old seen_new (world 1 2) (is_world_of 1 2 (lit< tt) (lit< tt)) 4 (Returned (1 ∷ []) counting 0) (Returned (2 ∷ []) counting 0) refl refl (λ e. apart_by 2 1 refl (returned_is 2 1 e)) (λ e. contrary_tests (ap is_return e));
+  refuted = refutes 32 names seen_old seen_new (world 1 2) (is_world_of 1 2 (lit< tt) (lit< tt)) 4 (Returned (1 ∷ []) counting 0) (Returned (2 ∷ []) counting 0) refl refl (λ e. apart_by 2 1 refl (returned_is 2 1 e)) (λ e. never_true (ap is_return e));
 }
 
 -- ══ What replaces a register holds another value ══
@@ -165,8 +160,8 @@ held_places zero = record {
   splits = refl;
   new_splits = refl;
   phis = λ w is_world. no_phis_follow held_old held_new 0 all_seen w;
-  body = λ w is_world. (record { kept = kept_reused zero_by_one ((copy_in 0 10 s32).1) ((copy_in 0 10 s32).1) refl; seen = seen_by (setting_of 32 names held_old) (setting_of 32 names held_new) none zero_by_one ((copy_in 0 10 s32).1.operands) refl; holds = tt; hides = hides_so all_seen (written_places (meaning_of (copy_in 0 10 s32).1.flags (copy_in 0 10 s32).1.op) ((copy_in 0 10 s32).1.operands)); leaves = λ c h. absurd (contrary_tests h) }, (record { kept = kept_reused zero_by_one ((copy_in 1 11 s32).1) ((copy_in 1 11 s32).1) refl; seen = seen_by (setting_of 32 names held_old) (setting_of 32 names held_new) none zero_by_one ((copy_in 1 11 s32).1.operands) refl; holds = tt; hides = hides_so all_seen (written_places (meaning_of (copy_in 1 11 s32).1.flags (copy_in 1 11 s32).1.op) ((copy_in 1 11 s32).1.operands)); leaves = λ c h. absurd (contrary_tests h) }, (record { kept = kept_reused zero_by_one ((copy_out 10 0).1) ((copy_out 10 1).1) refl; seen = seen_by (setting_of 32 names held_old) (setting_of 32 names held_new) none zero_by_one ((copy_out 10 0).1.operands) refl; holds = tt; hides = hides_so all_seen (written_places (meaning_of (copy_out 10 0).1.flags (copy_out 10 0).1.op) ((copy_out 10 0).1.operands)); leaves = λ c h. absurd (contrary_tests h) }, (record { kept = kept_reused zero_by_one ((return_10).1) ((return_10).1) refl; seen = seen_by (setting_of 32 names held_old) (setting_of 32 names held_new) none zero_by_one ((return_10).1.operands) refl; holds = tt; hides = hides_so all_seen (written_places (meaning_of (return_10).1.flags (return_10).1.op) ((return_10).1.operands)); leaves = λ c h. absurd (contrary_tests h) }, tt))));
-  falls = λ among. absurd (contrary_tests among);
+  body = λ w is_world. (record { kept = kept_reused zero_by_one ((copy_in 0 10 s32).1) ((copy_in 0 10 s32).1) refl; seen = seen_by (setting_of 32 names held_old) (setting_of 32 names held_new) none zero_by_one ((copy_in 0 10 s32).1.operands) refl; holds = tt; hides = hides_so all_seen (written_places (meaning_of (copy_in 0 10 s32).1.flags (copy_in 0 10 s32).1.op) ((copy_in 0 10 s32).1.operands)); leaves = λ c h. absurd (never_true h) }, (record { kept = kept_reused zero_by_one ((copy_in 1 11 s32).1) ((copy_in 1 11 s32).1) refl; seen = seen_by (setting_of 32 names held_old) (setting_of 32 names held_new) none zero_by_one ((copy_in 1 11 s32).1.operands) refl; holds = tt; hides = hides_so all_seen (written_places (meaning_of (copy_in 1 11 s32).1.flags (copy_in 1 11 s32).1.op) ((copy_in 1 11 s32).1.operands)); leaves = λ c h. absurd (never_true h) }, (record { kept = kept_reused zero_by_one ((copy_out 10 0).1) ((copy_out 10 1).1) refl; seen = seen_by (setting_of 32 names held_old) (setting_of 32 names held_new) none zero_by_one ((copy_out 10 0).1.operands) refl; holds = tt; hides = hides_so all_seen (written_places (meaning_of (copy_out 10 0).1.flags (copy_out 10 0).1.op) ((copy_out 10 0).1.operands)); leaves = λ c h. absurd (never_true h) }, (record { kept = kept_reused zero_by_one ((return_10).1) ((return_10).1) refl; seen = seen_by (setting_of 32 names held_old) (setting_of 32 names held_new) none zero_by_one ((return_10).1.operands) refl; holds = tt; hides = hides_so all_seen (written_places (meaning_of (return_10).1.flags (return_10).1.op) ((return_10).1.operands)); leaves = λ c h. absurd (never_true h) }, tt))));
+  falls = λ among. absurd (never_true among);
 }
 held_places (suc b) = tt
 
@@ -175,7 +170,7 @@ held_not_idle = record {
   old = held_old;
   new = held_new;
   owes = record { entries = (λ b. all_seen); rename = zero_by_one; places = held_places };
-  refuted = refutes 32 names held_old held_new (world 1 2) (is_world_of 1 2 (lit< tt) (lit< tt)) 4 (Returned (1 ∷ []) counting 0) (Returned (2 ∷ []) counting 0) refl refl (λ e. apart_by 2 1 refl (returned_is 2 1 e)) (λ e. contrary_tests (ap is_return e));
+  refuted = refutes 32 names held_old held_new (world 1 2) (is_world_of 1 2 (lit< tt) (lit< tt)) 4 (Returned (1 ∷ []) counting 0) (Returned (2 ∷ []) counting 0) refl refl (λ e. apart_by 2 1 refl (returned_is 2 1 e)) (λ e. never_true (ap is_return e));
 }
 
 -- ══ Less is hidden after an instruction than before, though it writes another place ══
@@ -194,8 +189,8 @@ hides_places zero = record {
   splits = refl;
   new_splits = refl;
   phis = λ w is_world. no_phis_follow hides_old hides_new 0 all_seen w;
-  body = λ w is_world. (record { kept = kept_reused (λ r. r) ((copy_in 1 10 s32).1) ((copy_in 1 10 s32).1) refl; seen = seen_by (setting_of 32 names hides_old) (setting_of 32 names hides_new) none (λ r. r) ((copy_in 1 10 s32).1.operands) refl; holds = λ state reached. alone_holds (λ r. r) state ((copy_in 1 10 s32).1.operands) refl; hides = tt; leaves = λ c h. absurd (contrary_tests h) }, (hides_1 hides_old hides_new (λ b. all_seen) w 0 (copy_in 1 10 s32 ∷ []) all_seen all_seen_so (λ state. refl), (record { kept = kept_reused (λ r. r) ((copy_in 0 10 s32).1) ((copy_in 0 10 s32).1) refl; seen = seen_by (setting_of 32 names hides_old) (setting_of 32 names hides_new) only_1 (λ r. r) ((copy_in 0 10 s32).1.operands) refl; holds = λ state reached. alone_holds (λ r. r) state ((copy_in 0 10 s32).1.operands) refl; hides = tt; leaves = λ c h. absurd (contrary_tests h) }, (record { kept = kept_reused (λ r. r) ((copy_out 10 1).1) ((copy_out 10 1).1) refl; seen = seen_by (setting_of 32 names hides_old) (setting_of 32 names hides_new) none (λ r. r) ((copy_out 10 1).1.operands) refl; holds = λ state reached. alone_holds (λ r. r) state ((copy_out 10 1).1.operands) refl; hides = tt; leaves = λ c h. absurd (contrary_tests h) }, (record { kept = kept_reused (λ r. r) ((return_10).1) ((return_10).1) refl; seen = seen_by (setting_of 32 names hides_old) (setting_of 32 names hides_new) none (λ r. r) ((return_10).1.operands) refl; holds = λ state reached. alone_holds (λ r. r) state ((return_10).1.operands) refl; hides = tt; leaves = λ c h. absurd (contrary_tests h) }, tt)))));
-  falls = λ among. absurd (contrary_tests among);
+  body = λ w is_world. (record { kept = kept_reused (λ r. r) ((copy_in 1 10 s32).1) ((copy_in 1 10 s32).1) refl; seen = seen_by (setting_of 32 names hides_old) (setting_of 32 names hides_new) none (λ r. r) ((copy_in 1 10 s32).1.operands) refl; holds = λ state reached. alone_holds (λ r. r) state ((copy_in 1 10 s32).1.operands) refl; hides = tt; leaves = λ c h. absurd (never_true h) }, (hides_1 hides_old hides_new (λ b. all_seen) w 0 (copy_in 1 10 s32 ∷ []) all_seen all_seen_so (λ state. refl), (record { kept = kept_reused (λ r. r) ((copy_in 0 10 s32).1) ((copy_in 0 10 s32).1) refl; seen = seen_by (setting_of 32 names hides_old) (setting_of 32 names hides_new) only_1 (λ r. r) ((copy_in 0 10 s32).1.operands) refl; holds = λ state reached. alone_holds (λ r. r) state ((copy_in 0 10 s32).1.operands) refl; hides = tt; leaves = λ c h. absurd (never_true h) }, (record { kept = kept_reused (λ r. r) ((copy_out 10 1).1) ((copy_out 10 1).1) refl; seen = seen_by (setting_of 32 names hides_old) (setting_of 32 names hides_new) none (λ r. r) ((copy_out 10 1).1.operands) refl; holds = λ state reached. alone_holds (λ r. r) state ((copy_out 10 1).1.operands) refl; hides = tt; leaves = λ c h. absurd (never_true h) }, (record { kept = kept_reused (λ r. r) ((return_10).1) ((return_10).1) refl; seen = seen_by (setting_of 32 names hides_old) (setting_of 32 names hides_new) none (λ r. r) ((return_10).1.operands) refl; holds = λ state reached. alone_holds (λ r. r) state ((return_10).1.operands) refl; hides = tt; leaves = λ c h. absurd (never_true h) }, tt)))));
+  falls = λ among. absurd (never_true among);
 }
 hides_places (suc b) = tt
 
@@ -204,7 +199,7 @@ hides_not_idle = record {
   old = hides_old;
   new = hides_new;
   owes = record { entries = (λ b. all_seen); rename = (λ r. r); places = hides_places };
-  refuted = refutes 32 names hides_old hides_new (world 1 2) (is_world_of 1 2 (lit< tt) (lit< tt)) 4 (Returned (1 ∷ []) counting 0) (Returned (2 ∷ []) counting 0) refl refl (λ e. apart_by 2 1 refl (returned_is 2 1 e)) (λ e. contrary_tests (ap is_return e));
+  refuted = refutes 32 names hides_old hides_new (world 1 2) (is_world_of 1 2 (lit< tt) (lit< tt)) 4 (Returned (1 ∷ []) counting 0) (Returned (2 ∷ []) counting 0) refl refl (λ e. apart_by 2 1 refl (returned_is 2 1 e)) (λ e. never_true (ap is_return e));
 }
 
 -- ══ A branch goes to a block at whose entry less is hidden ══
@@ -224,7 +219,7 @@ leaves_places zero = record {
   new_splits = refl;
   phis = λ w is_world. no_phis_follow leaves_old leaves_new 0 all_seen w;
   body = λ w is_world. (record { kept = kept_reused (λ r. r) ((copy_in 1 10 s32).1) ((copy_in 1 10 s32).1) refl; seen = seen_by (setting_of 32 names leaves_old) (setting_of 32 names leaves_new) none (λ r. r) ((copy_in 1 10 s32).1.operands) refl; holds = λ state reached. alone_holds (λ r. r) state ((copy_in 1 10 s32).1.operands) refl; hides = hides_so all_seen (written_places (meaning_of (copy_in 1 10 s32).1.flags (copy_in 1 10 s32).1.op) ((copy_in 1 10 s32).1.operands)); leaves = tt }, (hides_1 leaves_old leaves_new (λ b. all_seen) w 0 (copy_in 1 10 s32 ∷ []) all_seen all_seen_so (λ state. refl), (record { kept = kept_reused (λ r. r) ((branch_2).1) ((branch_2).1) refl; seen = seen_by (setting_of 32 names leaves_old) (setting_of 32 names leaves_new) only_1 (λ r. r) ((branch_2).1.operands) refl; holds = λ state reached. alone_holds (λ r. r) state ((branch_2).1.operands) refl; hides = hides_so one_hidden (written_places (meaning_of (branch_2).1.flags (branch_2).1.op) ((branch_2).1.operands)); leaves = tt }, tt)));
-  falls = λ among. absurd (contrary_tests among);
+  falls = λ among. absurd (never_true among);
 }
 leaves_places (suc zero) = record {
   middle = all_seen;
@@ -234,7 +229,7 @@ leaves_places (suc zero) = record {
   new_splits = refl;
   phis = λ w is_world. no_phis_follow leaves_old leaves_new 1 all_seen w;
   body = λ w is_world. (record { kept = kept_reused (λ r. r) ((return_10).1) ((return_10).1) refl; seen = seen_by (setting_of 32 names leaves_old) (setting_of 32 names leaves_new) none (λ r. r) ((return_10).1.operands) refl; holds = λ state reached. alone_holds (λ r. r) state ((return_10).1.operands) refl; hides = hides_so all_seen (written_places (meaning_of (return_10).1.flags (return_10).1.op) ((return_10).1.operands)); leaves = tt }, tt);
-  falls = λ among. absurd (contrary_tests among);
+  falls = λ among. absurd (never_true among);
 }
 leaves_places (suc (suc zero)) = record {
   middle = all_seen;
@@ -244,7 +239,7 @@ leaves_places (suc (suc zero)) = record {
   new_splits = refl;
   phis = λ w is_world. no_phis_follow leaves_old leaves_new 2 all_seen w;
   body = λ w is_world. (record { kept = kept_reused (λ r. r) ((copy_out 10 1).1) ((copy_out 10 1).1) refl; seen = seen_by (setting_of 32 names leaves_old) (setting_of 32 names leaves_new) none (λ r. r) ((copy_out 10 1).1.operands) refl; holds = λ state reached. alone_holds (λ r. r) state ((copy_out 10 1).1.operands) refl; hides = hides_so all_seen (written_places (meaning_of (copy_out 10 1).1.flags (copy_out 10 1).1.op) ((copy_out 10 1).1.operands)); leaves = tt }, (record { kept = kept_reused (λ r. r) ((return_10).1) ((return_10).1) refl; seen = seen_by (setting_of 32 names leaves_old) (setting_of 32 names leaves_new) none (λ r. r) ((return_10).1.operands) refl; holds = λ state reached. alone_holds (λ r. r) state ((return_10).1.operands) refl; hides = hides_so all_seen (written_places (meaning_of (return_10).1.flags (return_10).1.op) ((return_10).1.operands)); leaves = tt }, tt));
-  falls = λ among. absurd (contrary_tests among);
+  falls = λ among. absurd (never_true among);
 }
 leaves_places (suc (suc (suc b))) = tt
 
@@ -253,7 +248,7 @@ leaves_not_idle = record {
   old = leaves_old;
   new = leaves_new;
   owes = record { entries = (λ b. all_seen); rename = (λ r. r); places = leaves_places };
-  refuted = refutes 32 names leaves_old leaves_new (world 1 2) (is_world_of 1 2 (lit< tt) (lit< tt)) 4 (Returned (1 ∷ []) counting 0) (Returned (2 ∷ []) counting 0) refl refl (λ e. apart_by 2 1 refl (returned_is 2 1 e)) (λ e. contrary_tests (ap is_return e));
+  refuted = refutes 32 names leaves_old leaves_new (world 1 2) (is_world_of 1 2 (lit< tt) (lit< tt)) 4 (Returned (1 ∷ []) counting 0) (Returned (2 ∷ []) counting 0) refl refl (λ e. apart_by 2 1 refl (returned_is 2 1 e)) (λ e. never_true (ap is_return e));
 }
 
 -- ══ A changed piece does something else ══
@@ -272,8 +267,8 @@ changed_places zero = record {
   splits = refl;
   new_splits = refl;
   phis = λ w is_world. no_phis_follow changed_old changed_new 0 all_seen w;
-  body = λ w is_world. (tt, (record { kept = kept_reused (λ r. r) ((return_10).1) ((return_10).1) refl; seen = seen_by (setting_of 32 names changed_old) (setting_of 32 names changed_new) none (λ r. r) ((return_10).1.operands) refl; holds = λ state reached. alone_holds (λ r. r) state ((return_10).1.operands) refl; hides = hides_so all_seen (written_places (meaning_of (return_10).1.flags (return_10).1.op) ((return_10).1.operands)); leaves = λ c h. absurd (contrary_tests h) }, tt));
-  falls = λ among. absurd (contrary_tests among);
+  body = λ w is_world. (tt, (record { kept = kept_reused (λ r. r) ((return_10).1) ((return_10).1) refl; seen = seen_by (setting_of 32 names changed_old) (setting_of 32 names changed_new) none (λ r. r) ((return_10).1.operands) refl; holds = λ state reached. alone_holds (λ r. r) state ((return_10).1.operands) refl; hides = hides_so all_seen (written_places (meaning_of (return_10).1.flags (return_10).1.op) ((return_10).1.operands)); leaves = λ c h. absurd (never_true h) }, tt));
+  falls = λ among. absurd (never_true among);
 }
 changed_places (suc b) = tt
 
@@ -282,7 +277,7 @@ changed_not_idle = record {
   old = changed_old;
   new = changed_new;
   owes = record { entries = (λ b. all_seen); rename = (λ r. r); places = changed_places };
-  refuted = refutes 32 names changed_old changed_new (world 1 2) (is_world_of 1 2 (lit< tt) (lit< tt)) 4 (Returned (1 ∷ []) counting 0) (Returned (2 ∷ []) counting 0) refl refl (λ e. apart_by 2 1 refl (returned_is 2 1 e)) (λ e. contrary_tests (ap is_return e));
+  refuted = refutes 32 names changed_old changed_new (world 1 2) (is_world_of 1 2 (lit< tt) (lit< tt)) 4 (Returned (1 ∷ []) counting 0) (Returned (2 ∷ []) counting 0) refl refl (λ e. apart_by 2 1 refl (returned_is 2 1 e)) (λ e. never_true (ap is_return e));
 }
 
 -- ══ A phi takes another register ══
@@ -301,7 +296,7 @@ phis_places zero = record {
   splits = refl;
   new_splits = refl;
   phis = tt;
-  body = λ w is_world. (record { kept = kept_reused (λ r. r) ((copy_in 0 10 s32).1) ((copy_in 0 10 s32).1) refl; seen = seen_by (setting_of 32 names phis_old) (setting_of 32 names phis_new) none (λ r. r) ((copy_in 0 10 s32).1.operands) refl; holds = λ state reached. alone_holds (λ r. r) state ((copy_in 0 10 s32).1.operands) refl; hides = hides_so all_seen (written_places (meaning_of (copy_in 0 10 s32).1.flags (copy_in 0 10 s32).1.op) ((copy_in 0 10 s32).1.operands)); leaves = λ c h. absurd (contrary_tests h) }, (record { kept = kept_reused (λ r. r) ((copy_in 1 11 s32).1) ((copy_in 1 11 s32).1) refl; seen = seen_by (setting_of 32 names phis_old) (setting_of 32 names phis_new) none (λ r. r) ((copy_in 1 11 s32).1.operands) refl; holds = λ state reached. alone_holds (λ r. r) state ((copy_in 1 11 s32).1.operands) refl; hides = hides_so all_seen (written_places (meaning_of (copy_in 1 11 s32).1.flags (copy_in 1 11 s32).1.op) ((copy_in 1 11 s32).1.operands)); leaves = λ c h. absurd (contrary_tests h) }, tt));
+  body = λ w is_world. (record { kept = kept_reused (λ r. r) ((copy_in 0 10 s32).1) ((copy_in 0 10 s32).1) refl; seen = seen_by (setting_of 32 names phis_old) (setting_of 32 names phis_new) none (λ r. r) ((copy_in 0 10 s32).1.operands) refl; holds = λ state reached. alone_holds (λ r. r) state ((copy_in 0 10 s32).1.operands) refl; hides = hides_so all_seen (written_places (meaning_of (copy_in 0 10 s32).1.flags (copy_in 0 10 s32).1.op) ((copy_in 0 10 s32).1.operands)); leaves = λ c h. absurd (never_true h) }, (record { kept = kept_reused (λ r. r) ((copy_in 1 11 s32).1) ((copy_in 1 11 s32).1) refl; seen = seen_by (setting_of 32 names phis_old) (setting_of 32 names phis_new) none (λ r. r) ((copy_in 1 11 s32).1.operands) refl; holds = λ state reached. alone_holds (λ r. r) state ((copy_in 1 11 s32).1.operands) refl; hides = hides_so all_seen (written_places (meaning_of (copy_in 1 11 s32).1.flags (copy_in 1 11 s32).1.op) ((copy_in 1 11 s32).1.operands)); leaves = λ c h. absurd (never_true h) }, tt));
   falls = λ among. covers_so all_seen;
 }
 phis_places (suc zero) = record {
@@ -311,8 +306,8 @@ phis_places (suc zero) = record {
   splits = refl;
   new_splits = refl;
   phis = tt;
-  body = λ w is_world. (record { kept = kept_reused (λ r. r) ((copy_out 10 2).1) ((copy_out 10 2).1) refl; seen = seen_by (setting_of 32 names phis_old) (setting_of 32 names phis_new) none (λ r. r) ((copy_out 10 2).1.operands) refl; holds = λ state reached. alone_holds (λ r. r) state ((copy_out 10 2).1.operands) refl; hides = hides_so all_seen (written_places (meaning_of (copy_out 10 2).1.flags (copy_out 10 2).1.op) ((copy_out 10 2).1.operands)); leaves = λ c h. absurd (contrary_tests h) }, (record { kept = kept_reused (λ r. r) ((return_10).1) ((return_10).1) refl; seen = seen_by (setting_of 32 names phis_old) (setting_of 32 names phis_new) none (λ r. r) ((return_10).1.operands) refl; holds = λ state reached. alone_holds (λ r. r) state ((return_10).1.operands) refl; hides = hides_so all_seen (written_places (meaning_of (return_10).1.flags (return_10).1.op) ((return_10).1.operands)); leaves = λ c h. absurd (contrary_tests h) }, tt));
-  falls = λ among. absurd (contrary_tests among);
+  body = λ w is_world. (record { kept = kept_reused (λ r. r) ((copy_out 10 2).1) ((copy_out 10 2).1) refl; seen = seen_by (setting_of 32 names phis_old) (setting_of 32 names phis_new) none (λ r. r) ((copy_out 10 2).1.operands) refl; holds = λ state reached. alone_holds (λ r. r) state ((copy_out 10 2).1.operands) refl; hides = hides_so all_seen (written_places (meaning_of (copy_out 10 2).1.flags (copy_out 10 2).1.op) ((copy_out 10 2).1.operands)); leaves = λ c h. absurd (never_true h) }, (record { kept = kept_reused (λ r. r) ((return_10).1) ((return_10).1) refl; seen = seen_by (setting_of 32 names phis_old) (setting_of 32 names phis_new) none (λ r. r) ((return_10).1.operands) refl; holds = λ state reached. alone_holds (λ r. r) state ((return_10).1.operands) refl; hides = hides_so all_seen (written_places (meaning_of (return_10).1.flags (return_10).1.op) ((return_10).1.operands)); leaves = λ c h. absurd (never_true h) }, tt));
+  falls = λ among. absurd (never_true among);
 }
 phis_places (suc (suc b)) = tt
 
@@ -321,7 +316,7 @@ phis_not_idle = record {
   old = phis_old;
   new = phis_new;
   owes = record { entries = (λ b. all_seen); rename = (λ r. r); places = phis_places };
-  refuted = refutes 32 names phis_old phis_new (world 1 2) (is_world_of 1 2 (lit< tt) (lit< tt)) 4 (Returned (1 ∷ []) counting 0) (Returned (2 ∷ []) counting 0) refl refl (λ e. apart_by 2 1 refl (returned_is 2 1 e)) (λ e. contrary_tests (ap is_return e));
+  refuted = refutes 32 names phis_old phis_new (world 1 2) (is_world_of 1 2 (lit< tt) (lit< tt)) 4 (Returned (1 ∷ []) counting 0) (Returned (2 ∷ []) counting 0) refl refl (λ e. apart_by 2 1 refl (returned_is 2 1 e)) (λ e. never_true (ap is_return e));
 }
 
 -- ══ The next block is entered where less is hidden ══
@@ -340,7 +335,7 @@ falls_places zero = record {
   splits = refl;
   new_splits = refl;
   phis = λ w is_world. no_phis_follow falls_old falls_new 0 all_seen w;
-  body = λ w is_world. (record { kept = kept_reused (λ r. r) ((copy_in 1 10 s32).1) ((copy_in 1 10 s32).1) refl; seen = seen_by (setting_of 32 names falls_old) (setting_of 32 names falls_new) none (λ r. r) ((copy_in 1 10 s32).1.operands) refl; holds = λ state reached. alone_holds (λ r. r) state ((copy_in 1 10 s32).1.operands) refl; hides = hides_so all_seen (written_places (meaning_of (copy_in 1 10 s32).1.flags (copy_in 1 10 s32).1.op) ((copy_in 1 10 s32).1.operands)); leaves = λ c h. absurd (contrary_tests h) }, (hides_1 falls_old falls_new (λ b. all_seen) w 0 (copy_in 1 10 s32 ∷ []) all_seen all_seen_so (λ state. refl), tt));
+  body = λ w is_world. (record { kept = kept_reused (λ r. r) ((copy_in 1 10 s32).1) ((copy_in 1 10 s32).1) refl; seen = seen_by (setting_of 32 names falls_old) (setting_of 32 names falls_new) none (λ r. r) ((copy_in 1 10 s32).1.operands) refl; holds = λ state reached. alone_holds (λ r. r) state ((copy_in 1 10 s32).1.operands) refl; hides = hides_so all_seen (written_places (meaning_of (copy_in 1 10 s32).1.flags (copy_in 1 10 s32).1.op) ((copy_in 1 10 s32).1.operands)); leaves = λ c h. absurd (never_true h) }, (hides_1 falls_old falls_new (λ b. all_seen) w 0 (copy_in 1 10 s32 ∷ []) all_seen all_seen_so (λ state. refl), tt));
   falls = tt;
 }
 falls_places (suc zero) = record {
@@ -350,7 +345,7 @@ falls_places (suc zero) = record {
   splits = refl;
   new_splits = refl;
   phis = λ w is_world. no_phis_follow falls_old falls_new 1 all_seen w;
-  body = λ w is_world. (record { kept = kept_reused (λ r. r) ((copy_out 10 1).1) ((copy_out 10 1).1) refl; seen = seen_by (setting_of 32 names falls_old) (setting_of 32 names falls_new) none (λ r. r) ((copy_out 10 1).1.operands) refl; holds = λ state reached. alone_holds (λ r. r) state ((copy_out 10 1).1.operands) refl; hides = hides_so all_seen (written_places (meaning_of (copy_out 10 1).1.flags (copy_out 10 1).1.op) ((copy_out 10 1).1.operands)); leaves = λ c h. absurd (contrary_tests h) }, (record { kept = kept_reused (λ r. r) ((return_10).1) ((return_10).1) refl; seen = seen_by (setting_of 32 names falls_old) (setting_of 32 names falls_new) none (λ r. r) ((return_10).1.operands) refl; holds = λ state reached. alone_holds (λ r. r) state ((return_10).1.operands) refl; hides = hides_so all_seen (written_places (meaning_of (return_10).1.flags (return_10).1.op) ((return_10).1.operands)); leaves = λ c h. absurd (contrary_tests h) }, tt));
+  body = λ w is_world. (record { kept = kept_reused (λ r. r) ((copy_out 10 1).1) ((copy_out 10 1).1) refl; seen = seen_by (setting_of 32 names falls_old) (setting_of 32 names falls_new) none (λ r. r) ((copy_out 10 1).1.operands) refl; holds = λ state reached. alone_holds (λ r. r) state ((copy_out 10 1).1.operands) refl; hides = hides_so all_seen (written_places (meaning_of (copy_out 10 1).1.flags (copy_out 10 1).1.op) ((copy_out 10 1).1.operands)); leaves = λ c h. absurd (never_true h) }, (record { kept = kept_reused (λ r. r) ((return_10).1) ((return_10).1) refl; seen = seen_by (setting_of 32 names falls_old) (setting_of 32 names falls_new) none (λ r. r) ((return_10).1.operands) refl; holds = λ state reached. alone_holds (λ r. r) state ((return_10).1.operands) refl; hides = hides_so all_seen (written_places (meaning_of (return_10).1.flags (return_10).1.op) ((return_10).1.operands)); leaves = λ c h. absurd (never_true h) }, tt));
   falls = tt;
 }
 falls_places (suc (suc b)) = tt
@@ -360,7 +355,7 @@ falls_not_idle = record {
   old = falls_old;
   new = falls_new;
   owes = record { entries = (λ b. all_seen); rename = (λ r. r); places = falls_places };
-  refuted = refutes 32 names falls_old falls_new (world 1 2) (is_world_of 1 2 (lit< tt) (lit< tt)) 4 (Returned (1 ∷ []) counting 0) (Returned (2 ∷ []) counting 0) refl refl (λ e. apart_by 2 1 refl (returned_is 2 1 e)) (λ e. contrary_tests (ap is_return e));
+  refuted = refutes 32 names falls_old falls_new (world 1 2) (is_world_of 1 2 (lit< tt) (lit< tt)) 4 (Returned (1 ∷ []) counting 0) (Returned (2 ∷ []) counting 0) refl refl (λ e. apart_by 2 1 refl (returned_is 2 1 e)) (λ e. never_true (ap is_return e));
 }
 
 -- ══ A block has lost its successor ══
@@ -379,7 +374,7 @@ successors_places zero = record {
   splits = refl;
   new_splits = refl;
   phis = λ w is_world. no_phis_follow successors_old successors_new 0 all_seen w;
-  body = λ w is_world. (record { kept = kept_reused (λ r. r) ((copy_in 0 10 s32).1) ((copy_in 0 10 s32).1) refl; seen = seen_by (setting_of 32 names successors_old) (setting_of 32 names successors_new) none (λ r. r) ((copy_in 0 10 s32).1.operands) refl; holds = λ state reached. alone_holds (λ r. r) state ((copy_in 0 10 s32).1.operands) refl; hides = hides_so all_seen (written_places (meaning_of (copy_in 0 10 s32).1.flags (copy_in 0 10 s32).1.op) ((copy_in 0 10 s32).1.operands)); leaves = λ c h. absurd (contrary_tests h) }, tt);
+  body = λ w is_world. (record { kept = kept_reused (λ r. r) ((copy_in 0 10 s32).1) ((copy_in 0 10 s32).1) refl; seen = seen_by (setting_of 32 names successors_old) (setting_of 32 names successors_new) none (λ r. r) ((copy_in 0 10 s32).1.operands) refl; holds = λ state reached. alone_holds (λ r. r) state ((copy_in 0 10 s32).1.operands) refl; hides = hides_so all_seen (written_places (meaning_of (copy_in 0 10 s32).1.flags (copy_in 0 10 s32).1.op) ((copy_in 0 10 s32).1.operands)); leaves = λ c h. absurd (never_true h) }, tt);
   falls = λ among. covers_so all_seen;
 }
 successors_places (suc zero) = record {
@@ -389,8 +384,8 @@ successors_places (suc zero) = record {
   splits = refl;
   new_splits = refl;
   phis = λ w is_world. no_phis_follow successors_old successors_new 1 all_seen w;
-  body = λ w is_world. (record { kept = kept_reused (λ r. r) ((copy_out 10 0).1) ((copy_out 10 0).1) refl; seen = seen_by (setting_of 32 names successors_old) (setting_of 32 names successors_new) none (λ r. r) ((copy_out 10 0).1.operands) refl; holds = λ state reached. alone_holds (λ r. r) state ((copy_out 10 0).1.operands) refl; hides = hides_so all_seen (written_places (meaning_of (copy_out 10 0).1.flags (copy_out 10 0).1.op) ((copy_out 10 0).1.operands)); leaves = λ c h. absurd (contrary_tests h) }, (record { kept = kept_reused (λ r. r) ((return_10).1) ((return_10).1) refl; seen = seen_by (setting_of 32 names successors_old) (setting_of 32 names successors_new) none (λ r. r) ((return_10).1.operands) refl; holds = λ state reached. alone_holds (λ r. r) state ((return_10).1.operands) refl; hides = hides_so all_seen (written_places (meaning_of (return_10).1.flags (return_10).1.op) ((return_10).1.operands)); leaves = λ c h. absurd (contrary_tests h) }, tt));
-  falls = λ among. absurd (contrary_tests among);
+  body = λ w is_world. (record { kept = kept_reused (λ r. r) ((copy_out 10 0).1) ((copy_out 10 0).1) refl; seen = seen_by (setting_of 32 names successors_old) (setting_of 32 names successors_new) none (λ r. r) ((copy_out 10 0).1.operands) refl; holds = λ state reached. alone_holds (λ r. r) state ((copy_out 10 0).1.operands) refl; hides = hides_so all_seen (written_places (meaning_of (copy_out 10 0).1.flags (copy_out 10 0).1.op) ((copy_out 10 0).1.operands)); leaves = λ c h. absurd (never_true h) }, (record { kept = kept_reused (λ r. r) ((return_10).1) ((return_10).1) refl; seen = seen_by (setting_of 32 names successors_old) (setting_of 32 names successors_new) none (λ r. r) ((return_10).1.operands) refl; holds = λ state reached. alone_holds (λ r. r) state ((return_10).1.operands) refl; hides = hides_so all_seen (written_places (meaning_of (return_10).1.flags (return_10).1.op) ((return_10).1.operands)); leaves = λ c h. absurd (never_true h) }, tt));
+  falls = λ among. absurd (never_true among);
 }
 successors_places (suc (suc b)) = tt
 
@@ -399,7 +394,7 @@ successors_not_idle = record {
   old = successors_old;
   new = successors_new;
   owes = record { entries = (λ b. all_seen); rename = (λ r. r); places = successors_places };
-  refuted = refutes 32 names successors_old successors_new (world 1 2) (is_world_of 1 2 (lit< tt) (lit< tt)) 4 (Returned (1 ∷ []) counting 0) Fails refl refl (λ e. contrary_tests (ap is_return e)) (λ e. contrary_tests (ap is_return e));
+  refuted = refutes 32 names successors_old successors_new (world 1 2) (is_world_of 1 2 (lit< tt) (lit< tt)) 4 (Returned (1 ∷ []) counting 0) Fails refl refl (λ e. never_true (ap is_return e)) (λ e. never_true (ap is_return e));
 }
 
 pub no_piece_idle : (dropped : PiecePremise) → IsPieceNotIdle dropped

@@ -1,6 +1,6 @@
 -- For each premise of rewriting one place a case in which all others hold and the new function returns something else.
-use Rattle.std.proofs.Common.{◌≡◌, ℕ, zero, suc, ◌^◌, ◌<◌, Bool, true, false, not, cond, ◌&&◌, ◌==◌, if◌then◌else◌, List, [], ◌∷◌, ◌++◌, Option, Some, None, slice_get, unwrap_or, inl, refl, sym, ap, ◌∙◌, subst, lit<}
-use Rattle.std.proofs.lemmas.Bool.{eq-eqb, eqb-true}
+use Rattle.std.proofs.Common.{◌≡◌, ℕ, zero, suc, ◌^◌, ◌<◌, Bool, true, false, not, ◌&&◌, ◌==◌, if◌then◌else◌, List, [], ◌∷◌, ◌++◌, Option, Some, None, slice_get, unwrap_or, refl, sym, ap, ◌∙◌, subst, lit<}
+use Rattle.std.proofs.lemmas.Bool.{eqb-true}
 use Rattle.std.proofs.Math.Nat.{mod-lt}
 use Rattle.gi_llt.specs.declared.Llt.TheVariants.{Scalar}
 use Rattle.gi_mir.specs.Data.{InstrData, BlockData, FunctionData}
@@ -19,8 +19,10 @@ use Rattle.gi_refine.specs.Idle.{Premise, Successors, PhisKept, BeforeKept, Afte
 use Rattle.gi_refine.specs.Kept.{AreSeenAs, AllSeenAs, HasSameValue, UsesHold, EntriesHold, PhisHold, BodyHolds}
 use Rattle.gi_refine.specs.OnePlace.{OnePlace, only_virtual, StaysAt, RewritesOnePlace}
 use Rattle.gi_refine.specs.Reached.{IsReached, WhereReached}
-use Rattle.gi_refine.specs.Simulation.{Stands, IsFollowed}
-use Rattle.gi_refine.proofs.Evaluating.{steps_so, refutes}
+use Rattle.gi_refine.specs.Simulation.{IsFollowed}
+use Rattle.gi_refine.proofs.Basics.{apart_by, both_true, never_true, not_true}
+use Rattle.gi_refine.proofs.Evaluating.{refutes}
+use Rattle.gi_refine.proofs.Inserting.{inserted_follows}
 use Rattle.gi_refine.proofs.Reaching.{followed_within, nothing_followed}
 use Rattle.gi_refine.proofs.Staying.{all_kept_reused, has_same_value, entries_hold_alone}
 
@@ -64,14 +66,6 @@ owes_all x f g p owes =
     }
 
 -- ══ Tests ══
-
-both_true : (a b : Bool) → (a && b) ≡ true → (a ≡ true) × (b ≡ true)
-both_true true b h = (refl, h)
-both_true false b h = cc
-
-not_true : (b : Bool) → not b ≡ true → b ≡ false
-not_true true h = cc
-not_true false h = refl
 
 -- whether a register that isn't hidden replaces each, and is of its width
 abbrev pub is_seen : (s t : Setting) → (hidden : ℕ → Bool) → (rename : ℕ → ℕ) → List Operand → Bool
@@ -165,9 +159,6 @@ shown_by hidden rename (i ∷ is) h =
     let a : (is_shown hidden rename i.1.operands ≡ true) × (are_shown hidden rename is ≡ true) = both_true (is_shown hidden rename i.1.operands) _ h in
     (one_shown_by hidden rename i.1.operands a.0, shown_by hidden rename is a.1)
 
-pub contrary_tests : false ≡ true → ⊥
-contrary_tests e = cc
-
 -- ══ What many cases share ══
 
 -- x10 and x11 hold these words
@@ -182,12 +173,6 @@ word_small a b n h l = either (n == 10) (n == 11) (n == 12)
     either false true r = l
     either false false true = lit< tt
     either false false false = lit< tt
-
-pub apart_by : (a b : ℕ) → (a == b) ≡ false → a ≡ b → ⊥
-apart_by a b test same = contrary (sym (eq-eqb a b same) ∙ test)
-  where
-    contrary : true ≡ false → ⊥
-    contrary e = cc
 
 pub is_world_of : (a b : ℕ) → a < 2 ^ 32 → b < 2 ^ 32 → IsWorld 32 (world a b)
 is_world_of a b h l = record {
@@ -225,37 +210,12 @@ unchanged f g b before hidden w is_world =
     followed_within s t w at at at (Agree s t (only_virtual hidden)) (AgreeAt s t (λ c. only_virtual hidden)) (AgreeAt s t (λ c. only_virtual hidden)) [] []
     (λ old new h. h) (λ old new h. h.relates) (λ c old new h. h) (nothing_followed s t w at (AgreeAt s t (λ c. only_virtual hidden)))
 
--- what is written where it is hidden isn't seen
-kept_value : (q r : ℕ) (b : Bool) → (r == q) ≡ b → (hidden : ℕ → Bool) → hidden q ≡ true → hidden r ≡ false → (x m n v : ℕ) (old new : Option ℕ) → ValueStands x m n old new → ValueStands x m n old (cond b (Some v) new)
-kept_value q r true is hidden h seen x m n v old new stands = absurd (contrary (sym h ∙ (ap hidden (sym (eqb-true r q is)) ∙ seen)))
-  where
-    contrary : true ≡ false → ⊥
-    contrary e = cc
-kept_value q r false is hidden h seen x m n v old new stands = stands
-
-hide_put : (s t : Setting) (hidden : ℕ → Bool) (old new : State) (q v : ℕ) → hidden q ≡ true → Agree s t (only_virtual hidden) old new → Agree s t (only_virtual hidden) old (put new (Virtual q) v)
-hide_put s t hidden old new q v h agree = record {
-  values = λ r seen. kept_value q r (r == q) refl hidden h seen s.x (s.width r) (t.width r) v (old.values r) (new.values r) (agree.values r seen);
-  words = agree.words;
-  memory = agree.memory;
-  taken = agree.taken;
-}
-
 -- where nothing is, one instruction comes that writes what is hidden
 pub hidden_written : (s : Setting) (g : FunctionData) (w : World) (before : State → State → Type 0) (hidden : ℕ → Bool) (exit : ℕ → State → State → Type 0) (i : ℕ × InstrData) (q : ℕ) (value : State → ℕ) → hidden q ≡ true
     → ((state : State) → steps_of (setting_of 32 names g) w (i ∷ []) state ≡ Some (On (put state (Virtual q) (value state))))
     → ((old new : State) → before old new → Agree s (setting_of 32 names g) (only_virtual hidden) old new)
     → IsFollowed s (setting_of 32 names g) w before (Agree s (setting_of 32 names g) (only_virtual hidden)) exit [] (i ∷ [])
-hidden_written s g w before hidden exit i q value h steps agrees = record {
-  by = λ old new related p' run.
-      let t : Setting = setting_of 32 names g in
-      let made : p' ≡ On (put new (Virtual q) (value new)) = (steps_so t w (i ∷ []) new (On (put new (Virtual q) (value new))) (steps new)).only p' run in
-      inl (
-        On old,
-        refl,
-        subst (λ p. Stands (Agree s t (only_virtual hidden)) exit (On old) p) (sym made) (hide_put s t hidden old new q (value new) h (agrees old new related)),
-      );
-}
+hidden_written s g w before hidden exit i q value h steps agrees = inserted_follows s (setting_of 32 names g) w before hidden exit i q h (λ old new related. (value new, steps new)) agrees
 
 -- ══ Instructions of the cases ══
 
@@ -341,7 +301,7 @@ after_shown_not_idle = record {
     others = after_shown_others;
     follows = λ w is_world. hidden_written (setting_of 32 names after_shown_old) after_shown_new w (WhereReached (setting_of 32 names after_shown_old) w after_shown_old.blocks 0 (copy_in 1 10 s32 ∷ []) (Agree (setting_of 32 names after_shown_old) (setting_of 32 names after_shown_new) (only_virtual only_1))) only_1 (AgreeAt (setting_of 32 names after_shown_old) (setting_of 32 names after_shown_new) (λ c. only_virtual only_1)) (copy_in 1 11 s32) 1 (λ state. word_in state 11) refl (λ state. refl) (λ old new related. related.relates);
   };
-  refuted = refutes 32 names after_shown_old after_shown_new (world 1 2) (is_world_of 1 2 (lit< tt) (lit< tt)) 4 (Returned (1 ∷ []) counting 0) (Returned (2 ∷ []) counting 0) refl refl (λ e. apart_by 2 1 refl (returned_is 2 1 e)) (λ e. contrary_tests (ap is_return e));
+  refuted = refutes 32 names after_shown_old after_shown_new (world 1 2) (is_world_of 1 2 (lit< tt) (lit< tt)) 4 (Returned (1 ∷ []) counting 0) (Returned (2 ∷ []) counting 0) refl refl (λ e. apart_by 2 1 refl (returned_is 2 1 e)) (λ e. never_true (ap is_return e));
 }
 
 -- ══ A hidden register is read before the place, which is in a loop ══
@@ -389,7 +349,7 @@ before_shown_not_idle = record {
     others = before_shown_others;
     follows = λ w is_world. hidden_written (setting_of 32 names before_shown_old) before_shown_new w (WhereReached (setting_of 32 names before_shown_old) w before_shown_old.blocks 1 (leave_if_equal 1 ∷ []) (Agree (setting_of 32 names before_shown_old) (setting_of 32 names before_shown_new) (only_virtual only_1))) only_1 (AgreeAt (setting_of 32 names before_shown_old) (setting_of 32 names before_shown_new) (λ c. only_virtual only_1)) (copy_in 1 11 s32) 1 (λ state. word_in state 11) refl (λ state. refl) (λ old new related. related.relates);
   };
-  refuted = refutes 32 names before_shown_old before_shown_new (world 1 2) (is_world_of 1 2 (lit< tt) (lit< tt)) 4 (Going counting 0) (Returned (1 ∷ []) counting 0) refl refl (λ e. contrary_tests (ap is_going e)) (λ e. contrary_tests (ap is_going e));
+  refuted = refutes 32 names before_shown_old before_shown_new (world 1 2) (is_world_of 1 2 (lit< tt) (lit< tt)) 4 (Going counting 0) (Returned (1 ∷ []) counting 0) refl refl (λ e. never_true (ap is_going e)) (λ e. never_true (ap is_going e));
 }
 
 -- ══ A hidden register is read by a phi of the block of the place ══
@@ -437,7 +397,7 @@ phis_shown_not_idle = record {
     others = phis_shown_others;
     follows = λ w is_world. hidden_written (setting_of 32 names phis_shown_old) phis_shown_new w (WhereReached (setting_of 32 names phis_shown_old) w phis_shown_old.blocks 1 (leave_if_equal 2 ∷ []) (Agree (setting_of 32 names phis_shown_old) (setting_of 32 names phis_shown_new) (only_virtual only_1))) only_1 (AgreeAt (setting_of 32 names phis_shown_old) (setting_of 32 names phis_shown_new) (λ c. only_virtual only_1)) (copy_in 1 11 s32) 1 (λ state. word_in state 11) refl (λ state. refl) (λ old new related. related.relates);
   };
-  refuted = refutes 32 names phis_shown_old phis_shown_new (world 1 2) (is_world_of 1 2 (lit< tt) (lit< tt)) 4 (Going counting 0) (Returned (1 ∷ []) counting 0) refl refl (λ e. contrary_tests (ap is_going e)) (λ e. contrary_tests (ap is_going e));
+  refuted = refutes 32 names phis_shown_old phis_shown_new (world 1 2) (is_world_of 1 2 (lit< tt) (lit< tt)) 4 (Going counting 0) (Returned (1 ∷ []) counting 0) refl refl (λ e. never_true (ap is_going e)) (λ e. never_true (ap is_going e));
 }
 
 -- ══ A register that is read behind the place has fewer bits in the new function ══
@@ -483,7 +443,7 @@ after_widths_not_idle = record {
     others = after_widths_others;
     follows = unchanged after_widths_old after_widths_new 0 ([]) none;
   };
-  refuted = refutes 32 names after_widths_old after_widths_new (world 65537 2) (is_world_of 65537 2 (lit< tt) (lit< tt)) 4 (Returned (65537 ∷ []) counting 0) (Returned (1 ∷ []) counting 0) refl refl (λ e. apart_by 1 65537 refl (returned_is 1 65537 e)) (λ e. contrary_tests (ap is_return e));
+  refuted = refutes 32 names after_widths_old after_widths_new (world 65537 2) (is_world_of 65537 2 (lit< tt) (lit< tt)) 4 (Returned (65537 ∷ []) counting 0) (Returned (1 ∷ []) counting 0) refl refl (λ e. apart_by 1 65537 refl (returned_is 1 65537 e)) (λ e. never_true (ap is_return e));
 }
 
 -- ══ A register that is read before the place has fewer bits in the new function ══
@@ -529,7 +489,7 @@ before_widths_not_idle = record {
     others = before_widths_others;
     follows = unchanged before_widths_old before_widths_new 0 (copy_in 0 10 s32 ∷ extended ∷ []) none;
   };
-  refuted = refutes 32 names before_widths_old before_widths_new (world 65537 2) (is_world_of 65537 2 (lit< tt) (lit< tt)) 4 (Returned (65537 ∷ []) counting 0) (Returned (1 ∷ []) counting 0) refl refl (λ e. apart_by 1 65537 refl (returned_is 1 65537 e)) (λ e. contrary_tests (ap is_return e));
+  refuted = refutes 32 names before_widths_old before_widths_new (world 65537 2) (is_world_of 65537 2 (lit< tt) (lit< tt)) 4 (Returned (65537 ∷ []) counting 0) (Returned (1 ∷ []) counting 0) refl refl (λ e. apart_by 1 65537 refl (returned_is 1 65537 e)) (λ e. never_true (ap is_return e));
 }
 
 -- ══ The register that replaces another behind the place holds another value ══
@@ -575,7 +535,7 @@ after_held_not_idle = record {
     others = after_held_others;
     follows = unchanged after_held_old after_held_new 0 (copy_in 0 10 s32 ∷ copy_in 1 11 s32 ∷ []) none;
   };
-  refuted = refutes 32 names after_held_old after_held_new (world 1 2) (is_world_of 1 2 (lit< tt) (lit< tt)) 4 (Returned (1 ∷ []) counting 0) (Returned (2 ∷ []) counting 0) refl refl (λ e. apart_by 2 1 refl (returned_is 2 1 e)) (λ e. contrary_tests (ap is_return e));
+  refuted = refutes 32 names after_held_old after_held_new (world 1 2) (is_world_of 1 2 (lit< tt) (lit< tt)) 4 (Returned (1 ∷ []) counting 0) (Returned (2 ∷ []) counting 0) refl refl (λ e. apart_by 2 1 refl (returned_is 2 1 e)) (λ e. never_true (ap is_return e));
 }
 
 -- ══ The register that replaces another before the place holds another value ══
@@ -621,7 +581,7 @@ before_held_not_idle = record {
     others = before_held_others;
     follows = unchanged before_held_old before_held_new 0 (copy_in 0 10 s32 ∷ copy_in 1 11 s32 ∷ copy_out 10 0 ∷ []) none;
   };
-  refuted = refutes 32 names before_held_old before_held_new (world 1 2) (is_world_of 1 2 (lit< tt) (lit< tt)) 4 (Returned (1 ∷ []) counting 0) (Returned (2 ∷ []) counting 0) refl refl (λ e. apart_by 2 1 refl (returned_is 2 1 e)) (λ e. contrary_tests (ap is_return e));
+  refuted = refutes 32 names before_held_old before_held_new (world 1 2) (is_world_of 1 2 (lit< tt) (lit< tt)) 4 (Returned (1 ∷ []) counting 0) (Returned (2 ∷ []) counting 0) refl refl (λ e. apart_by 2 1 refl (returned_is 2 1 e)) (λ e. never_true (ap is_return e));
 }
 
 -- ══ The register that replaces another in a phi holds another value ══
@@ -668,7 +628,7 @@ phis_held_not_idle = record {
     others = phis_held_others;
     follows = unchanged phis_held_old phis_held_new 1 ([]) none;
   };
-  refuted = refutes 32 names phis_held_old phis_held_new (world 1 2) (is_world_of 1 2 (lit< tt) (lit< tt)) 4 (Returned (1 ∷ []) counting 0) (Returned (2 ∷ []) counting 0) refl refl (λ e. apart_by 2 1 refl (returned_is 2 1 e)) (λ e. contrary_tests (ap is_return e));
+  refuted = refutes 32 names phis_held_old phis_held_new (world 1 2) (is_world_of 1 2 (lit< tt) (lit< tt)) 4 (Returned (1 ∷ []) counting 0) (Returned (2 ∷ []) counting 0) refl refl (λ e. apart_by 2 1 refl (returned_is 2 1 e)) (λ e. never_true (ap is_return e));
 }
 
 -- ══ A phi takes another register ══
@@ -715,7 +675,7 @@ phis_kept_not_idle = record {
     others = phis_kept_others;
     follows = unchanged phis_kept_old phis_kept_new 1 ([]) none;
   };
-  refuted = refutes 32 names phis_kept_old phis_kept_new (world 1 2) (is_world_of 1 2 (lit< tt) (lit< tt)) 4 (Returned (1 ∷ []) counting 0) (Returned (2 ∷ []) counting 0) refl refl (λ e. apart_by 2 1 refl (returned_is 2 1 e)) (λ e. contrary_tests (ap is_return e));
+  refuted = refutes 32 names phis_kept_old phis_kept_new (world 1 2) (is_world_of 1 2 (lit< tt) (lit< tt)) 4 (Returned (1 ∷ []) counting 0) (Returned (2 ∷ []) counting 0) refl refl (λ e. apart_by 2 1 refl (returned_is 2 1 e)) (λ e. never_true (ap is_return e));
 }
 
 -- ══ Another instruction stands before the place ══
@@ -761,7 +721,7 @@ before_kept_not_idle = record {
     others = before_kept_others;
     follows = unchanged before_kept_old before_kept_new 0 (copy_in 0 10 s32 ∷ []) none;
   };
-  refuted = refutes 32 names before_kept_old before_kept_new (world 1 2) (is_world_of 1 2 (lit< tt) (lit< tt)) 4 (Returned (1 ∷ []) counting 0) (Returned (2 ∷ []) counting 0) refl refl (λ e. apart_by 2 1 refl (returned_is 2 1 e)) (λ e. contrary_tests (ap is_return e));
+  refuted = refutes 32 names before_kept_old before_kept_new (world 1 2) (is_world_of 1 2 (lit< tt) (lit< tt)) 4 (Returned (1 ∷ []) counting 0) (Returned (2 ∷ []) counting 0) refl refl (λ e. apart_by 2 1 refl (returned_is 2 1 e)) (λ e. never_true (ap is_return e));
 }
 
 -- ══ Another instruction stands behind the place ══
@@ -807,7 +767,7 @@ after_kept_not_idle = record {
     others = after_kept_others;
     follows = unchanged after_kept_old after_kept_new 0 ([]) none;
   };
-  refuted = refutes 32 names after_kept_old after_kept_new (world 1 2) (is_world_of 1 2 (lit< tt) (lit< tt)) 4 (Returned (1 ∷ []) counting 0) (Returned (2 ∷ []) counting 0) refl refl (λ e. apart_by 2 1 refl (returned_is 2 1 e)) (λ e. contrary_tests (ap is_return e));
+  refuted = refutes 32 names after_kept_old after_kept_new (world 1 2) (is_world_of 1 2 (lit< tt) (lit< tt)) 4 (Returned (1 ∷ []) counting 0) (Returned (2 ∷ []) counting 0) refl refl (λ e. apart_by 2 1 refl (returned_is 2 1 e)) (λ e. never_true (ap is_return e));
 }
 
 -- ══ The block of the place has lost its successor ══
@@ -854,7 +814,7 @@ successors_not_idle = record {
     others = successors_others;
     follows = unchanged successors_old successors_new 0 (copy_in 0 10 s32 ∷ []) none;
   };
-  refuted = refutes 32 names successors_old successors_new (world 1 2) (is_world_of 1 2 (lit< tt) (lit< tt)) 4 (Returned (1 ∷ []) counting 0) Fails refl refl (λ e. contrary_tests (ap is_return e)) (λ e. contrary_tests (ap is_return e));
+  refuted = refutes 32 names successors_old successors_new (world 1 2) (is_world_of 1 2 (lit< tt) (lit< tt)) 4 (Returned (1 ∷ []) counting 0) Fails refl refl (λ e. never_true (ap is_return e)) (λ e. never_true (ap is_return e));
 }
 
 -- ══ Another block has changed ══
@@ -896,7 +856,7 @@ others_not_idle = record {
     others = tt;
     follows = unchanged others_old others_new 0 (copy_in 0 10 s32 ∷ []) none;
   };
-  refuted = refutes 32 names others_old others_new (world 1 2) (is_world_of 1 2 (lit< tt) (lit< tt)) 4 (Returned (1 ∷ []) counting 0) (Returned (2 ∷ []) counting 0) refl refl (λ e. apart_by 2 1 refl (returned_is 2 1 e)) (λ e. contrary_tests (ap is_return e));
+  refuted = refutes 32 names others_old others_new (world 1 2) (is_world_of 1 2 (lit< tt) (lit< tt)) 4 (Returned (1 ∷ []) counting 0) (Returned (2 ∷ []) counting 0) refl refl (λ e. apart_by 2 1 refl (returned_is 2 1 e)) (λ e. never_true (ap is_return e));
 }
 
 -- ══ The place does something else ══
@@ -942,7 +902,7 @@ follows_not_idle = record {
     others = follows_others;
     follows = tt;
   };
-  refuted = refutes 32 names follows_old follows_new (world 1 2) (is_world_of 1 2 (lit< tt) (lit< tt)) 4 (Returned (1 ∷ []) counting 0) (Returned (2 ∷ []) counting 0) refl refl (λ e. apart_by 2 1 refl (returned_is 2 1 e)) (λ e. contrary_tests (ap is_return e));
+  refuted = refutes 32 names follows_old follows_new (world 1 2) (is_world_of 1 2 (lit< tt) (lit< tt)) 4 (Returned (1 ∷ []) counting 0) (Returned (2 ∷ []) counting 0) refl refl (λ e. apart_by 2 1 refl (returned_is 2 1 e)) (λ e. never_true (ap is_return e));
 }
 
 -- ══ A phi writes a register of fewer bits in the new function ══
@@ -1027,7 +987,7 @@ phis_widths_not_idle = record {
     others = phis_widths_others;
     follows = phis_widths_follows;
   };
-  refuted = refutes 32 names phis_widths_old phis_widths_new (world 1 2) (is_world_of 1 2 (lit< tt) (lit< tt)) 4 (Returned (1 ∷ []) counting 0) (Returned (2 ∷ []) counting 0) refl refl (λ e. apart_by 2 1 refl (returned_is 2 1 e)) (λ e. contrary_tests (ap is_return e));
+  refuted = refutes 32 names phis_widths_old phis_widths_new (world 1 2) (is_world_of 1 2 (lit< tt) (lit< tt)) 4 (Returned (1 ∷ []) counting 0) (Returned (2 ∷ []) counting 0) refl refl (λ e. apart_by 2 1 refl (returned_is 2 1 e)) (λ e. never_true (ap is_return e));
 }
 
 pub none_idle : (dropped : Premise) → IsNotIdle dropped

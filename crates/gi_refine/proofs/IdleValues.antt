@@ -26,6 +26,7 @@ use Rattle.gi_refine.specs.Simulation.{Stands, IsFollowed}
 use Rattle.gi_refine.specs.TrialFunctions.{constant_in}
 use Rattle.gi_refine.specs.Values.{IsSound, Makes, MayMake, Environment, Operation, Correspond}
 use Rattle.gi_refine.proofs.Doing.{gives_one, does_from, does_next, does_none, DoesAll}
+use Rattle.gi_refine.proofs.Tests.{same_some}
 
 -- two runs that each have one way to go, to states that aren't related
 refuted : (s t : Setting) (w : World) (before after : State → State → Type 0) (exit : ℕ → State → State → Type 0) (old new : List (ℕ × InstrData)) (state state' final final' : State) → before state state'
@@ -340,9 +341,6 @@ new_may_make outside = (
   ),
 )
 
-unwrapped : (a b : Environment) → Some a ≡ Some b → a ≡ b
-unwrapped a b h = cc
-
 -- the free choice of the old operations can't be made twice
 pub two_choices_unsound : IsSound 32 quiet chosen_twice → ⊥
 two_choices_unsound sound =
@@ -350,7 +348,7 @@ two_choices_unsound sound =
     ⊎_elim
     (λ may.
     let old : (f : ℕ) × (Some may.0 ≡ zero_made f) = old_makes outside (Some may.0) may.1 in
-    let is : may.0 ≡ (32, old.0) ∷ (32, 0) ∷ [] = unwrapped may.0 ((32, old.0) ∷ (32, 0) ∷ []) old.1 in
+    let is : may.0 ≡ (32, old.0) ∷ (32, 0) ∷ [] = same_some may.0 ((32, old.0) ∷ (32, 0) ∷ []) old.1 in
     let both : Correspond ((1, 2) ∷ []) ((32, old.0) ∷ (32, 0) ∷ []) ((32, 1) ∷ (32, 0) ∷ (32, 1) ∷ []) =
     subst (λ e. Correspond ((1, 2) ∷ []) e ((32, 1) ∷ (32, 0) ∷ (32, 1) ∷ [])) is may.2 in
     let same : entry 32 1 ≡ entry 32 0 = both.0 in

@@ -287,7 +287,7 @@ kept_entry rename i j kept (Some from) =
     sym (entry_plain from j.operands) ∙ (ap (entry_for from) kept.operands ∙ (entry_plain from (map (reused_operand rename) i.operands) ∙ entry_reused from rename i.operands))
 
 -- the replacement of a register is seen, and has its width
-abbrev RegisterSeen : (s t : Setting) → (hidden : Place → Bool) → (rename : ℕ → ℕ) → Option ℕ → Type 0
+abbrev pub RegisterSeen : (s t : Setting) → (hidden : Place → Bool) → (rename : ℕ → ℕ) → Option ℕ → Type 0
 RegisterSeen s t hidden rename None = Unit {0}
 RegisterSeen s t hidden rename (Some r) = (hidden (Virtual (rename r)) ≡ false) × (s.width (rename r) ≡ s.width r) × (t.width (rename r) ≡ s.width r)
 
@@ -312,7 +312,7 @@ entry_seen s t hidden rename from (operand.Phys n ∷ os) seen = entry_seen s t 
 entry_seen s t hidden rename from (operand.ImplicitUse n ∷ os) seen = entry_seen s t hidden rename from os seen.1
 entry_seen s t hidden rename from (_ ∷ os) seen = entry_seen s t hidden rename from os seen
 
-from_seen : (s t : Setting) (hidden : Place → Bool) (rename : ℕ → ℕ) (from : Option ℕ) (os : List Operand) → AreSeenAs s t hidden rename os → RegisterSeen s t hidden rename (from_block from os)
+pub from_seen : (s t : Setting) (hidden : Place → Bool) (rename : ℕ → ℕ) (from : Option ℕ) (os : List Operand) → AreSeenAs s t hidden rename os → RegisterSeen s t hidden rename (from_block from os)
 from_seen s t hidden rename None os seen = tt
 from_seen s t hidden rename (Some from) os seen = entry_seen s t hidden rename from os seen
 
@@ -321,7 +321,7 @@ same_through : (old other new : Option ℕ) → HasSameValue old other → HasSa
 same_through None other new first second = tt
 same_through (Some v) other new first second = subst (λ o. HasSameValue o new) first second
 
-taken_same : (s t : Setting) (hidden : Place → Bool) (rename : ℕ → ℕ) (old new : State) → Agree s t hidden old new → (r : Option ℕ) → RegisterSeen s t hidden rename r → EntryHolds rename old r
+pub taken_same : (s t : Setting) (hidden : Place → Bool) (rename : ℕ → ℕ) (old new : State) → Agree s t hidden old new → (r : Option ℕ) → RegisterSeen s t hidden rename r → EntryHolds rename old r
     → HasSameValue (value_at old r) (value_at new (option_map rename r))
 taken_same s t hidden rename old new agree None seen holds = tt
 taken_same s t hidden rename old new agree (Some r) seen holds =
@@ -338,7 +338,7 @@ same_value_put s t hidden old new p v alike agree = put_agree s t hidden old new
     in_place (Virtual r) alike' = subst (λ n. StandsFor s.x (s.width r) n v v) (sym alike'.0) (alike_stands s.x (s.width r) v v refl)
     in_place (Physical n) alike' = refl
 
-put_values_stand : (s t : Setting) (hidden : Place → Bool) (σ σ' : Option State) (ps : List Place) (v u : Option ℕ) → AreAlike s.width t.width ps → HasSameValue v u
+pub put_values_stand : (s t : Setting) (hidden : Place → Bool) (σ σ' : Option State) (ps : List Place) (v u : Option ℕ) → AreAlike s.width t.width ps → HasSameValue v u
     → PhisStand (Agree s t hidden) σ σ' → PhisStand (Agree s t (all_shown hidden ps)) (put_value σ ps v) (put_value σ' ps u)
 put_values_stand s t hidden None σ' ps v u alike same stand = tt
 put_values_stand s t hidden (Some old) None ps v u alike same stand = absurd stand
@@ -369,7 +369,7 @@ phis_within middle middle' None σ' f h = tt
 phis_within middle middle' (Some old) None f h = absurd h
 phis_within middle middle' (Some old) (Some new) f h = f old new h
 
-shown_by_phis_less : (hidden : Place → Bool) (is : List (ℕ × InstrData)) (q : Place) → hidden q ≡ false → shown_by_phis hidden is q ≡ false
+pub shown_by_phis_less : (hidden : Place → Bool) (is : List (ℕ × InstrData)) (q : Place) → hidden q ≡ false → shown_by_phis hidden is q ≡ false
 shown_by_phis_less hidden [] q e = e
 shown_by_phis_less hidden (i ∷ is) q e = all_shown_less (shown_by_phis hidden is) (places_of i.1.operands) q (shown_by_phis_less hidden is q e)
 

@@ -1,8 +1,11 @@
 pub mod Agreeing
+pub mod Basics
+pub mod CallRule
 pub mod CallRuns
 pub mod Choosing
 pub mod Classed
 pub mod Computing
+pub mod ConstantsHeld
 pub mod Covering
 pub mod Doing
 pub mod Evaluating
@@ -13,11 +16,13 @@ pub mod FreeRuns
 pub mod IdlePieces
 pub mod IdlePlaces
 pub mod IdleValues
+pub mod Inserting
 pub mod Invariants
 pub mod Keeping
 pub mod NarrowRuns
 pub mod OneBlock
 pub mod OnePlaceFollows
+pub mod PhiRule
 pub mod ReachNeeded
 pub mod Reaching
 pub mod Refining
@@ -31,6 +36,8 @@ pub mod Sized
 pub mod Staying
 pub mod StraightUses
 pub mod Targets
+pub mod TestedUses
+pub mod Tests
 pub mod TrialArithmetic
 pub mod TrialBytes
 pub mod TrialDoubles
@@ -39,9 +46,11 @@ pub mod TrialParts
 pub mod TrialReplaced
 pub mod TrialRules
 pub mod TrialRulesMore
+pub mod TrialTested
 pub mod TrialUses
 pub mod ValuesCertain
 pub mod ValuesFollowed
 pub mod ValuesPlaced
 pub mod ValuesThere
 pub mod Wording
+pub mod WordsExample

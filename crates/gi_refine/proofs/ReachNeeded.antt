@@ -11,9 +11,10 @@ use Rattle.gi_refine.specs.OnePlace.{only_virtual}
 use Rattle.gi_refine.specs.Reached.{IsReached, WhereReached}
 use Rattle.gi_refine.specs.Replacing.{any_touches, IsReplaced}
 use Rattle.gi_refine.specs.Simulation.{Stands, IsFollowed}
+use Rattle.gi_refine.proofs.Basics.{apart_by, never_true, none_some}
 use Rattle.gi_refine.proofs.Doing.{DoesAll}
-use Rattle.gi_refine.proofs.Evaluating.{none_some, steps_so}
-use Rattle.gi_refine.proofs.IdlePlaces.{seen_by, contrary_tests, apart_by, none, world, is_world_of}
+use Rattle.gi_refine.proofs.Evaluating.{steps_so}
+use Rattle.gi_refine.proofs.IdlePlaces.{seen_by, none, world, is_world_of}
 use Rattle.gi_refine.proofs.Keeping.{agree_but, all_shown_less, kept_followed}
 use Rattle.gi_refine.proofs.Reaching.{followed_within}
 use Rattle.gi_refine.proofs.Staying.{kept_reused, has_same_value}
@@ -118,7 +119,7 @@ not_everywhere followed =
     let new_does : DoesAll new_setting (world 1 2) (copied 2 0 ∷ []) apart_state come' = steps_so new_setting (world 1 2) (copied 2 0 ∷ []) apart_state come' refl in
     ⊎_elim
     (λ ran. stands_apart ran.0 come' (ap two_of (old_does.only ran.0 ran.1)) refl ran.2)
-    (λ fails. contrary_tests (sym (ap is_over (old_does.only (Over Fails) fails))))
+    (λ fails. never_true (sym (ap is_over (old_does.only (Over Fails) fails))))
     (followed.by apart_state apart_state agrees_itself come' new_does.can)
 
 pub by_reach : IsByReach

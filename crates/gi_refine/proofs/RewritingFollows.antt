@@ -12,10 +12,19 @@ use Rattle.gi_refine.specs.Refinement.{IsRefinement}
 use Rattle.gi_refine.specs.Rewriting.{Piece, Kept, Changed, old_of, new_of, all_old, all_new, Covers, is_target, Stays, PieceFollows, PiecesFollow, hidden_after, PhisFollow, shown_by_phis, BlockRewritten, RewrittenAt, IsRewritten}
 use Rattle.gi_refine.specs.Simulation.{Stands, IsFollowed}
 use Rattle.gi_refine.proofs.Agreeing.{alone_is}
-use Rattle.gi_refine.proofs.Keeping.{agree_but, kept_followed, phis_within, phis_show}
+use Rattle.gi_refine.proofs.Keeping.{agree_but, kept_followed, phis_within, phis_show, all_shown_less}
 use Rattle.gi_refine.proofs.Reaching.{WhereLeft, left_before, followed_where, followed_within, nothing_followed, FollowsWhere, PlaceFollowsWhere, refined_where_reached}
 use Rattle.gi_refine.proofs.Simulating.{followed_on}
 use Rattle.gi_refine.proofs.Targets.{ProgressIn, step_target}
+
+-- ══ What is hidden after an instruction ══
+
+-- what was hidden, and what is shown besides
+pub hides_so : (now : Place → Bool) (ps : List Place) → Covers (all_shown now ps) now
+hides_so now ps = record { by = λ p h. all_shown_less now ps p h }
+
+pub covers_so : (now : Place → Bool) → Covers now now
+covers_so now = record { by = λ p h. h }
 
 -- ══ An instruction goes to its targets alone ══
 

@@ -23,7 +23,7 @@ use Rattle.gi_refine.proofs.OneBlock.{reached_from_start}
 use Rattle.gi_refine.proofs.StraightUses.{state_is, straight_refines}
 use Rattle.gi_refine.proofs.TrialParts.{copies_so}
 use Rattle.gi_refine.proofs.TrialRulesMore.{narrow_add_sound}
-use Rattle.gi_refine.proofs.ValuesPlaced.{or_left, or_right}
+use Rattle.gi_refine.proofs.Tests.{neither_left, neither_right, same_some}
 
 -- two words as one value, as a merge gives it
 abbrev double : (x lo hi : ℕ) → ℕ
@@ -116,11 +116,8 @@ double_used x = record {
 
 pub not_one_of : (rs : List ℕ) (q k r : ℕ) → is_one_of rs q ≡ false → slice_get rs k ≡ Some r → (r == q) ≡ false
 not_one_of [] q k r none here = cc
-not_one_of (p ∷ rs) q zero r none here = subst (λ t. (t == q) ≡ false) (unwrapped p r here) (or_left (p == q) (is_one_of rs q) none)
-  where
-    unwrapped : (a b : ℕ) → Some a ≡ Some b → a ≡ b
-    unwrapped a b h = cc
-not_one_of (p ∷ rs) q (suc k) r none here = not_one_of rs q k r (or_right (p == q) (is_one_of rs q) none) here
+not_one_of (p ∷ rs) q zero r none here = subst (λ t. (t == q) ≡ false) (same_some p r here) (neither_left (p == q) (is_one_of rs q) none)
+not_one_of (p ∷ rs) q (suc k) r none here = not_one_of rs q k r (neither_right (p == q) (is_one_of rs q) none) here
 
 -- a definition of two other registers
 two_other_kinds : (b c : Bool) (k l : Kind) (rest : Option Kind) → b ≡ false → c ≡ false → first_there (first_there (cond b (Some k) None) (first_there (cond c (Some l) None) None)) rest ≡ rest

@@ -11,9 +11,10 @@ use Rattle.gi_meaning.specs.Argument.{Argument, Value}
 use Rattle.gi_meaning.specs.Given.{Exactly}
 use Rattle.gi_meaning.specs.Machine.{on_words, sum_word}
 use Rattle.gi_meaning.specs.Act.{Results, AnswersWords, fitted}
-use Rattle.gi_refine.specs.Values.{Environment, Makes, Correspond, MayMake, IsSound, IsCertain}
+use Rattle.gi_refine.specs.Values.{Makes, Correspond, MayMake, IsSound, IsCertain}
 use Rattle.gi_refine.specs.TrialRules.{subtract_self, add_constants, add_zero, select_add}
 use Rattle.gi_refine.proofs.RuleSteps.{answers_given, unless_given, exactly, constant_known, entry, entry_value, ReadTwo, read_two, whole_word, whole_fitted, words_exactly}
+use Rattle.gi_refine.proofs.Tests.{same_some}
 
 -- ══ Folds, and a use replaced ══
 
@@ -71,9 +72,6 @@ add_zero_sound x w flags n = record {
       ));
 }
 
-unwrapped : (a b : Environment) → Some a ≡ Some b → a ≡ b
-unwrapped a b h = cc
-
 -- the summand and the sum have one value
 pub add_zero_certain : (x : ℕ) (w : World) (n : ℕ) → IsCertain x w (add_zero no_flags n)
 add_zero_certain x w n = record {
@@ -82,7 +80,7 @@ add_zero_certain x w n = record {
       let is : Some old ≡ Some ((n, a) ∷ (n, b) ∷ (n, wrapped n (a + b)) ∷ []) =
       exactly (wrapped n (a + b) ∷ []) outside makes.0 ((n, a) ∷ (n, b) ∷ []) (n ∷ []) (Makes x w outside []) (Some old) makes.1 makes.2 in
       let sum_is : entry n a ≡ entry n (wrapped n (a + b)) = ap (entry n) (sym (sum_with_zero n a b a_fits b_is)) in
-      subst (λ env. Correspond ((2, 0) ∷ []) env env) (unwrapped _ old (sym is)) (sum_is, tt);
+      subst (λ env. Correspond ((2, 0) ∷ []) env env) (same_some _ old (sym is)) (sum_is, tt);
 }
 
 -- ══ Selection ══

@@ -10,7 +10,8 @@ use Rattle.gi_refine.specs.Simulation.{Stands, IsFollowed}
 use Rattle.gi_refine.specs.Values.{Environment, Makes, AllHold, Rule, Correspond, MayMake, ForAllOf, IsSound}
 use Rattle.gi_refine.specs.Lifting.{all_grown, is_result, none_hidden, is_register, Placing, is_kept, left_hidden, IsPlaced, Reads, AreSized, AgreeReady}
 use Rattle.gi_refine.proofs.Agreeing.{same_value, same_value_stands}
-use Rattle.gi_refine.proofs.ValuesPlaced.{BothRead, both_read, Became, Settled, Forward, forward, Backward, backward, or_left, or_right, and_left, and_right, not_true}
+use Rattle.gi_refine.proofs.ValuesPlaced.{BothRead, both_read, Became, Settled, Forward, forward, Backward, backward}
+use Rattle.gi_refine.proofs.Tests.{neither_left, neither_right, both_left, both_right, not_true, either, same_some}
 
 -- ══ The inputs ══
 
@@ -40,8 +41,8 @@ reads_new x names width width' hidden old new agree (r ∷ rs) (entry ∷ env) s
   subst (λ v. HasSameValue v (new.values r)) reads.1
       (same_value x (width r) (old.values r) (new.values r)
       (subst (λ n. ValueStands x (width r) n (old.values r) (new.values r)) (sym (first_of (width r) (width' r) (map width rs) (map width' rs) same))
-      (agree.values r (not_true (hidden (Virtual r)) (and_left (not (hidden (Virtual r))) (none_hidden hidden rs) seen))))),
-  reads_new x names width width' hidden old new agree rs env (and_right (not (hidden (Virtual r))) (none_hidden hidden rs) seen) (rest_of (width r) (width' r) (map width rs) (map width' rs) same) reads.2,
+      (agree.values r (not_true (hidden (Virtual r)) (both_left (not (hidden (Virtual r))) (none_hidden hidden rs) seen))))),
+  reads_new x names width width' hidden old new agree rs env (both_right (not (hidden (Virtual r))) (none_hidden hidden rs) seen) (rest_of (width r) (width' r) (map width rs) (map width' rs) same) reads.2,
 )
 
 outside_same : (x : ℕ) (names : List (List ℕ)) (width width' : ℕ → ℕ) (hidden : Place → Bool) (old new : State) → Agree (setting x names width) (setting x names width') hidden old new → outside_of new ≡ outside_of old
@@ -53,25 +54,18 @@ entries_stand : (x : ℕ) (width width' : ℕ → ℕ) (values values' : ℕ →
 entries_stand x width width' values values' q q' None entry' both both' same = absurd both
 entries_stand x width width' values values' q q' (Some entry) None both both' same = absurd both'
 entries_stand x width width' values values' q q' (Some entry) (Some entry') both both' same =
-    subst (λ n. ValueStands x (width q) n (values q) (values' q')) (sym both.0 ∙ ap (λ e. e.0) (sym (unwrapped entry' entry same)) ∙ both'.0)
-    (same_value_stands x (width q) (values q) (values' q') (subst (λ v. HasSameValue v (values' q')) (sym both.1) (both'.1 ∙ ap (λ e. Some e.1) (unwrapped entry' entry same))))
-  where
-    unwrapped : (a b : ℕ × ℕ) → Some a ≡ Some b → a ≡ b
-    unwrapped a b h = cc
+    subst (λ n. ValueStands x (width q) n (values q) (values' q')) (sym both.0 ∙ ap (λ e. e.0) (sym (same_some entry' entry same)) ∙ both'.0)
+    (same_value_stands x (width q) (values q) (values' q') (subst (λ v. HasSameValue v (values' q')) (sym both.1) (both'.1 ∙ ap (λ e. Some e.1) (same_some entry' entry same))))
 
 pair_stands : (x : ℕ) (width width' : ℕ → ℕ) (values values' : ℕ → Option ℕ) (r : ℕ) (a a' : Option ℕ) (entry entry' : Option (ℕ × ℕ)) → (is_register r a && is_register r a') ≡ true
     → BothRead width values a entry → BothRead width' values' a' entry' → entry' ≡ entry → ValueStands x (width r) (width' r) (values r) (values' r)
 pair_stands x width width' values values' r None a' entry entry' is both both' same = cc
-pair_stands x width width' values values' r (Some q) None entry entry' is both both' same = let no : false ≡ true = and_right (r == q) false is in cc
+pair_stands x width width' values values' r (Some q) None entry entry' is both both' same = let no : false ≡ true = both_right (r == q) false is in cc
 pair_stands x width width' values values' r (Some q) (Some q') entry entry' is both both' same =
-    let here : r ≡ q = eqb-true r q (and_left (r == q) (r == q') is) in
-    let there : r ≡ q' = eqb-true r q' (and_right (r == q) (r == q') is) in
+    let here : r ≡ q = eqb-true r q (both_left (r == q) (r == q') is) in
+    let there : r ≡ q' = eqb-true r q' (both_right (r == q) (r == q') is) in
     subst (λ k. ValueStands x (width k) (width' r) (values k) (values' r)) (sym here) (subst (λ k. ValueStands x (width q) (width' k) (values q) (values' k)) (sym there)
     (entries_stand x width width' values values' q q' entry entry' both both' same))
-
-either : (a b : Bool) → (a || b) ≡ true → (a ≡ true) ⊎ (b ≡ true)
-either true b h = inl refl
-either false b h = inr h
 
 -- a register that is kept on both sides has one value
 kept_stands : (x : ℕ) (width width' : ℕ → ℕ) (old new : State) (rs rs' : List ℕ) (env env' : Environment) → Reads width old.values rs env → Reads width' new.values rs' env' → (pairs : List (ℕ × ℕ))
@@ -97,8 +91,8 @@ agree_after x names width width' rule placing before after old new final final' 
   values = λ r seen. shown_value (is_result r placing.old || is_result r placing.new)
       (is_kept (all_grown placing.inputs placing.old) (all_grown placing.inputs placing.new) rule.kept r) (before (Virtual r)) (ValueStands x (width r) (width' r) (final.values r) (final'.values r))
       (λ other shown.
-      subst (λ v. ValueStands x (width r) (width' r) v (final'.values r)) (sym (became.kept r (or_left (is_result r placing.old) (is_result r placing.new) other)))
-      (subst (λ v. ValueStands x (width r) (width' r) (old.values r) v) (sym (became'.kept r (or_right (is_result r placing.old) (is_result r placing.new) other))) (agree.values r shown)))
+      subst (λ v. ValueStands x (width r) (width' r) v (final'.values r)) (sym (became.kept r (neither_left (is_result r placing.old) (is_result r placing.new) other)))
+      (subst (λ v. ValueStands x (width r) (width' r) (old.values r) v) (sym (became'.kept r (neither_right (is_result r placing.old) (is_result r placing.new) other))) (agree.values r shown)))
       (λ kept. kept_stands x width width' final final' (all_grown placing.inputs placing.old) (all_grown placing.inputs placing.new) env env' became.reads became'.reads rule.kept same r kept)
       (covered (Virtual r) seen);
   words = λ n seen. ap (λ (f : ℕ → ℕ). f n) became'.words ∙ agree.words n (covered (Physical n) seen) ∙ sym (ap (λ (f : ℕ → ℕ). f n) became.words);

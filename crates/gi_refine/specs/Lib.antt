@@ -1,4 +1,6 @@
 pub mod Agreement
+pub mod CallTrial
+pub mod Constants
 pub mod Evaluation
 pub mod Examples
 pub mod Fitting
@@ -16,7 +18,9 @@ pub mod Rewriting
 pub mod RuleUse
 pub mod Simulation
 pub mod TargetExamples
+pub mod TestedUse
 pub mod TrialFunctions
 pub mod TrialRules
+pub mod Trials
 pub mod Values
 pub mod Worded

@@ -3,12 +3,12 @@ use Rattle.gi_mir.specs.declared.operand.Operand.{Operand}
 use Rattle.gi_llt.specs.declared.Llt.TheVariants.{Scalar, Pointer}
 use Rattle.gi_mir.specs.declared.operand.Kind.TheVariants.{Generic}
 use Rattle.std.specs.Prelude.{ℕ, ◌==◌, if◌then◌else◌, List, [], ◌∷◌, None, false, ◌++◌, ◌||◌, Bool, ◌+◌, Some, true}
-use Rattle.gi_mir.specs.Data.{InstrData, FunctionData}
+use Rattle.gi_mir.specs.Data.{InstrData, FunctionData, BlockData}
 use Rattle.gi_mir.specs.Stated.{reg_of}
 use Rattle.gi_mir.specs.declared.opcode.Opcode.{Opcode}
 use Rattle.gi_mir.specs.declared.opcode.Opcode.TheVariants as op
 use Rattle.gi_mir.specs.declared.operand.Kind.{Kind}
-use Rattle.gi_mir.specs.declared.operand.Operand.TheVariants.{Def, Constant, ImplicitUse}
+use Rattle.gi_mir.specs.declared.operand.Operand.TheVariants.{Def, Constant, ImplicitUse, Block}
 use Rattle.gi_refine.specs.Examples.{made, block_of, function_of, s32, use_of, copy_in, copy_out, return_of}
 use Rattle.gi_refine.specs.Lifting.{Placing}
 use Rattle.gi_refine.specs.OnePlace.{OnePlace}
@@ -204,3 +204,38 @@ bytes_placed = record {
   old = (1 ∷ []) ∷ [];
   new = (2 ∷ []) ∷ (3 ∷ []) ∷ (4 ∷ []) ∷ (5 ∷ []) ∷ (6 ∷ []) ∷ (7 ∷ []) ∷ (1 ∷ []) ∷ [];
 }
+
+-- ══ A product behind a phi ══
+
+-- the words in x10 to x12 and the constant 8; by the first of them to block 2, or first to block 1
+abbrev pub first_block : BlockData
+first_block = block_of (2 ∷ 1 ∷ [])
+    (copy_in 0 10 s32 ∷ copy_in 1 11 s32 ∷ copy_in 2 12 s32 ∷ constant_in 4 32 8 s32
+    ∷ made op.GenericBranchConditional (use_of 0 ∷ Block 2 ∷ []) None ∷ made op.GenericBranch (Block 1 ∷ []) None ∷ [])
+
+abbrev pub second_block : BlockData
+second_block = block_of (2 ∷ []) (made op.GenericBranch (Block 2 ∷ []) None ∷ [])
+
+-- `%3 = G_PHI %1, %bb.0, %2, %bb.1`
+abbrev pub chosen_word : List (ℕ × InstrData)
+chosen_word = made op.GenericPhi (Def (reg_of 3) s32 ∷ use_of 1 ∷ Block 0 ∷ use_of 2 ∷ Block 1 ∷ []) None ∷ []
+
+-- `%5 = G_MUL %3, %4`
+abbrev pub product_by_eight : List (ℕ × InstrData)
+product_by_eight = of_two op.GenericMultiply 5 s32 3 4 ∷ []
+
+-- `%6 = G_CONSTANT i32 3`, `%5 = G_SHL %3, %6`
+abbrev pub shift_by_three : List (ℕ × InstrData)
+shift_by_three = constant_in 6 32 3 s32 ∷ of_two op.GenericShiftLeft 5 s32 3 6 ∷ []
+
+abbrev pub fifth_returned : List (ℕ × InstrData)
+fifth_returned = copy_out 10 5 ∷ return_of 10 ∷ []
+
+abbrev pub on_chosen : List (ℕ × InstrData) → FunctionData
+on_chosen is = function_of (first_block ∷ second_block ∷ block_of [] (chosen_word ++ (is ++ fifth_returned)) ∷ [])
+
+abbrev pub product_placed : Placing
+product_placed = record { inputs = 3 ∷ 4 ∷ []; old = (5 ∷ []) ∷ []; new = (6 ∷ []) ∷ (5 ∷ []) ∷ [] }
+
+abbrev pub product_shifted : Replacement
+product_shifted = record { block = 2; before = chosen_word; old = product_by_eight; new = shift_by_three; after = fifth_returned; hidden = λ r. 6 == r }

@@ -9,7 +9,7 @@ ghost use Rattle.gi_meaning.specs.Meaning.{Generic, meaning_of};
 ghost use Rattle.gi_meaning.specs.State.{World};
 ghost use Rattle.gi_refine.specs.Examples.{names};
 ghost use Rattle.gi_refine.specs.Refinement.{IsRefinement};
-ghost use Rattle.gi_refine.specs.TrialFunctions.{adds_zero, bytes_loaded, gives_summand, gives_zero, half_loaded, on_address, on_doubles, on_parts, subtracts_itself, sum_by_words, sum_of_doubles, sum_of_parts, wide_sum, word_sum};
+ghost use Rattle.gi_refine.specs.TrialFunctions.{adds_zero, bytes_loaded, gives_summand, gives_zero, half_loaded, on_address, on_chosen, on_doubles, on_parts, product_by_eight, shift_by_three, subtracts_itself, sum_by_words, sum_of_doubles, sum_of_parts, wide_sum, word_sum};
 ghost use Rattle.gi_refine.specs.TrialRules.{add_constants, add_zero, fold_constants, multiply_to_shift, narrow_add, remainder_to_mask, select_add, select_add_word, split_load, subtract_self, widen_add};
 ghost use Rattle.gi_refine.specs.Values.{IsSound};
 
@@ -41,4 +41,6 @@ pub fn trial_uses_refine()
     ensures selected { IsRefinement 64 names (on_parts 64 32 (sum_of_parts 32)) (on_parts 64 32 word_sum) }
     // A load of 16 bits from any address by two loads of bytes.
     ensures split { (x : ℕ) → IsRefinement x names (on_address half_loaded) (on_address (bytes_loaded x)) }
+    // A product by 8 as a shift, behind a phi and with the constant in another block.
+    ensures shifted { IsRefinement 32 names (on_chosen product_by_eight) (on_chosen shift_by_three) }
 {}
