@@ -1,5 +1,5 @@
--- Which premises of rewriting one place there are, and what it is to show that one isn't idle: a case in which all
--- others hold and the new function isn't a refinement.
+-- Which premises there are of rewriting one place and of rewriting piece by piece, and what it is to show that one isn't idle:
+-- a case in which all others hold and the new function isn't a refinement.
 use Rattle.std.specs.Prelude.{◌≡◌, ℕ, ◌+◌, Bool, true, false, cond, ◌==◌, List, [], ◌∷◌, ◌++◌, Option, Some, None, slice_get}
 use Rattle.gi_mir.specs.Data.{InstrData, BlockData, FunctionData}
 use Rattle.gi_mir.specs.Stated.{reg_of}
