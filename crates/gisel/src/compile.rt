@@ -27,3 +27,21 @@ pub fn compile(alloc: Global, bytes: &[u8]) -> Result<Vec<u8>, Refusal>
         Err(Memory) => Err(Refusal::Memory),
     }
 }
+
+#[cfg(test)]
+mod tests {
+    use super::*;
+
+    #[test]
+    fn adds_a_short_constant(rt: HostRuntime) {
+        let read =
+            "---\nname: f\nlegalized: true\nregBankSelected: true\nbody: |\n  bb.0:\n    liveins: $x10\n\n    %0:gprb(s32) = COPY $x10\n    %1:gprb(s32) = G_CONSTANT i32 5\n    %2:gprb(s32) = G_ADD %0, %1\n    $x10 = COPY %2(s32)\n    PseudoRET implicit $x10\n";
+        let written =
+            "---\nname:            f\nlegalized:       true\nregBankSelected: true\nselected:        true\ntracksRegLiveness: true\nbody:             |\n  bb.0:\n    liveins: $x10\n\n    %0:gpr = COPY $x10\n    %1:gpr = ADDI %0, 5\n    $x10 = COPY %1\n    PseudoRET implicit $x10\n...\n";
+        let is_written = match compile(rt.alloc(), read.as_bytes()) {
+            Ok(text) => text.as_slice() == written.as_bytes(),
+            Err(_) => false,
+        };
+        assert!(rt; is_written);
+    }
+}

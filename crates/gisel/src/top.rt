@@ -4,6 +4,7 @@ ghost use Rattle.std.specs.Prelude.{◌≡◌, ◌≢◌, ◌⊎◌, ◌≤◌, 
 ghost use Rattle.gi_io.specs.Faults.{Rose};
 ghost use Rattle.gisel.specs.Promise.{Compiles, AppendsCompiled};
 ghost use Rattle.gisel.specs.Stop.{UsageOf, Says};
+ghost use Rattle.gisel.specs.Text.{IsText};
 ghost use Rattle.gisel.specs.Words.{wrong_word};
 
 use crate::compile::compile;
@@ -38,7 +39,8 @@ fn text_for<'a, I: Input>(
     words: &'a [String],
     input: &mut I,
 ) -> Result<Vec<u8>, Stop<'a>>
-    ensures text { IfOk result (λ text. IsTrue (I.tells input.old) → Compiles 32 (I.stored input.old None) text.items) }
+    ensures compiles { IfOk result (λ text. IsTrue (I.tells input.old) → Compiles 32 (I.stored input.old None) text.items) }
+    ensures text { IfOk result (λ text. IsTrue (I.tells input.old) → IsText (I.stored input.old None) text.items) }
     ensures words { OnOk result (wrong_word (map string_bytes words.now) ≡ None) }
     ensures usage { IfErr result (UsageOf (wrong_word (map string_bytes words.now))) }
     ensures whole { OnOk result (IsTrue (I.tells input.old) → I.left input.new ≡ []) }
