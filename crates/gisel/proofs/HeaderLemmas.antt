@@ -31,9 +31,6 @@ pub no_colon : (line key rest : List ℕ) → line ≡ key ++ rest → ((more : 
 no_colon line key rest split none gap value same =
     none (replicate gap 32 ++ value) (append_cancel_left key rest (58 ∷ (replicate (suc gap) 32 ++ value)) (sym split ∙ same))
 
-pub no_key : (line key : List ℕ) → ((rest : List ℕ) → line ≡ key ++ rest → ⊥) → (gap : ℕ) (value : List ℕ) → line ≡ key_line key gap value → ⊥
-no_key line key none gap value same = none (58 ∷ (replicate (suc gap) 32 ++ value)) same
-
 behind_spaces : (g h : ℕ) (v w : List ℕ) → begins_with_space v ≡ false → begins_with_space w ≡ false → replicate g 32 ++ v ≡ replicate h 32 ++ w → v ≡ w
 behind_spaces zero zero v w apart_v apart_w same = same
 behind_spaces zero (suc h) v w apart_v apart_w same = let e : true ≡ false = sym (ap begins_with_space same) ∙ apart_v in cc
@@ -82,9 +79,6 @@ argument_held number is = let small : number ≤ 17 = argument_small number is i
 -- no `$x10` to `$x17` stands behind the word
 abbrev pub NoArgument : (bytes word : List ℕ) → Type 0
 NoArgument bytes word = (number : ℕ) (rest : List ℕ) → is_argument number ≡ true → IsNumberAfter bytes word number rest → ⊥
-
-pub no_argument : (bytes word : List ℕ) → NoNumber bytes word → NoArgument bytes word
-no_argument bytes word none number rest is found = none number rest (argument_held number is) found
 
 pub great_argument : (bytes word rest : List ℕ) (read : ℕ) → read < 2 ^ 32 → IsNumberAfter bytes word read rest → 256 ≤ read → NoArgument bytes word
 great_argument bytes word rest read small found great number other is there =

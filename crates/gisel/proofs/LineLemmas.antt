@@ -53,11 +53,6 @@ no_end_of_two line first between last rest more read next small_read small_next 
     let parts = one_number line first rest (between ++ (decimal b ++ last)) read a small_read small_a found same (apart_after between (decimal b ++ last) other) in
     not_last (one_number rest between more last next b small_next small_b found_next parts.1 apart).1
 
-pub both_of_two : (line first between last rest more : List ℕ) (read next : ℕ) → IsNumberAfter line first read rest → IsNumberAfter rest between next more → more ≡ last
-    → line ≡ with_two first between last read next
-both_of_two line first between last rest more read next found found_next end =
-    found.split ∙ ap (λ t. first ++ (decimal read ++ t)) (found_next.split ∙ ap (λ t. between ++ (decimal next ++ t)) end)
-
 -- ══ Three numbers ══
 
 abbrev pub NoThree : (line first second third : List ℕ) → Type 0
@@ -69,10 +64,6 @@ behind_first : (line first second third rest : List ℕ) (read : ℕ) → read <
 behind_first line first second third rest read small_read other found none a b c small_a small_b small_c same =
     let parts = one_number line first rest (second ++ (decimal b ++ (third ++ decimal c))) read a small_read small_a found same (apart_after second (decimal b ++ (third ++ decimal c)) other) in
     none b c small_b small_c (parts.1 ∙ ap (λ t. second ++ (decimal b ++ (third ++ t))) (sym (append-nil (decimal c))))
-
-pub no_first_of_three : (line first second third : List ℕ) → begins_otherwise second ≡ true → NoNumber line first → NoThree line first second third
-no_first_of_three line first second third other none a b c small_a small_b small_c same =
-    none a (second ++ (decimal b ++ (third ++ decimal c))) small_a (record { split = same; apart = apart_after second (decimal b ++ (third ++ decimal c)) other })
 
 pub no_second_of_three : (line first second third rest : List ℕ) (read : ℕ) → read < 2 ^ 32 → begins_otherwise second ≡ true → begins_otherwise third ≡ true → IsNumberAfter line first read rest
     → NoNumber rest second → NoThree line first second third
@@ -89,12 +80,6 @@ pub no_end_of_three : (line first second third rest more end : List ℕ) (read n
 no_end_of_three line first second third rest more end read next last small_read small_next small_last other other_third found found_next found_last not_end =
     behind_first line first second third rest read small_read other found
     (no_end_of_two rest second third [] more end next last small_next small_last other_third refl found_next found_last not_end)
-
-pub all_of_three : (line first second third rest more end : List ℕ) (read next last : ℕ) → IsNumberAfter line first read rest → IsNumberAfter rest second next more → IsNumberAfter more third last end
-    → end ≡ [] → line ≡ with_three first second third read next last
-all_of_three line first second third rest more end read next last found found_next found_last none =
-    found.split ∙ ap (λ t. first ++ (decimal read ++ t)) (found_next.split ∙ ap (λ t. second ++ (decimal next ++ t))
-    (found_last.split ∙ ap (λ t. third ++ (decimal last ++ t)) none ∙ ap (λ t. third ++ t) (append-nil (decimal last))))
 
 -- ══ The lines ══
 
@@ -123,9 +108,6 @@ negative = codes ":gprb(s32) = G_CONSTANT i32 -"
 copy_in_is : (register physical : ℕ) → stated_line (CopyIn register physical) ≡ with_two in_front copied [] register physical
 copy_in_is register physical = ap (λ t. in_front ++ (decimal register ++ (copied ++ t))) (sym (append-nil (decimal physical)))
 
-pub copy_in_from : (line : List ℕ) (register number physical : ℕ) → line ≡ with_two in_front copied [] register number → number ≡ physical → line ≡ stated_line (CopyIn register physical)
-copy_in_from line register number physical same is = same ∙ ap (with_two in_front copied [] register) is ∙ sym (copy_in_is register physical)
-
 pub no_copy_in : (line : List ℕ) → NoTwo line in_front copied [] → (register physical : ℕ) → register < 2 ^ 32 → physical < 256 → line ≡ stated_line (CopyIn register physical) → ⊥
 no_copy_in line none register physical small_register small_physical same =
     none register physical small_register (omega (arith, small_physical)) (same ∙ copy_in_is register physical)
@@ -138,10 +120,6 @@ copy_in_great line read number small_read small_number is great register physica
     omega (arith, equal, great, small_physical)
 
 -- ── COPY out ──
-
-pub copy_out_from : (line : List ℕ) (number physical register : ℕ) → line ≡ with_two (codes "    $x") (codes " = COPY %") (codes "(s32)") number register → number ≡ physical
-    → line ≡ stated_line (CopyOut physical register)
-copy_out_from line number physical register same is = same ∙ ap (λ n. with_two (codes "    $x") (codes " = COPY %") (codes "(s32)") n register) is
 
 pub copy_out_great : (line : List ℕ) (number read : ℕ) → number < 2 ^ 32 → read < 2 ^ 32 → line ≡ with_two (codes "    $x") (codes " = COPY %") (codes "(s32)") number read → 256 ≤ number
     → (physical register : ℕ) → physical < 256 → register < 2 ^ 32 → line ≡ stated_line (CopyOut physical register) → ⊥
@@ -180,17 +158,6 @@ unsigned_low size low = let same : size % 4294967296 ≡ size = omega (arith, lo
 
 unsigned_high : (k : ℕ) → k < 2048 → unsigned 32 (negsuc k) ≡ 4294967296 - suc k
 unsigned_high k low = let same : 4294967296 - 1 - k % 4294967296 ≡ 4294967296 - suc k = omega (arith, low) in same
-
-pub positive_from : (line : List ℕ) (register size : ℕ) (value : ℤ) → line ≡ with_two in_front positive [] register size → value ≡ pos size → size < 2048
-    → line ≡ stated_line (MakeConstant register (unsigned 32 value))
-positive_from line register size value same is low =
-    same ∙ sym (positive_is register size (omega (arith, low))) ∙ ap (λ n. stated_line (MakeConstant register n)) (sym (ap (unsigned 32) is ∙ unsigned_low size low))
-
-pub negative_from : (line : List ℕ) (register size k : ℕ) (value : ℤ) → line ≡ with_two in_front negative [] register size → size ≡ suc k → value ≡ negsuc k → k < 2048
-    → line ≡ stated_line (MakeConstant register (unsigned 32 value))
-negative_from line register size k value same next is low =
-    same ∙ ap (with_two in_front negative [] register) next ∙ sym (negative_is register k (omega (arith, low)))
-    ∙ ap (λ n. stated_line (MakeConstant register n)) (sym (ap (unsigned 32) is ∙ unsigned_high k low))
 
 pub no_positive : (line : List ℕ) → NoTwo line in_front positive [] → (register value : ℕ) → register < 2 ^ 32 → value < 2048 → line ≡ stated_line (MakeConstant register value) → ⊥
 no_positive line none register value small low same = none register value small (omega (arith, low)) (same ∙ positive_is register value (omega (arith, low)))
