@@ -10,6 +10,7 @@ use Rattle.gi_meaning.specs.Meaning.{Meaning, Copying, Calling, Nothing, meaning
 use Rattle.gi_meaning.specs.Act.{Answer, Act, clobbered, is_result_register}
 use Rattle.gi_meaning.specs.Runs.{Setting, argument_of, arguments_of, joined_lists, places_of, result_places, written_places, width_of_place, progress_of, Progress, Over, StepsFrom, Steps, is_phi, phis_of, after_phis, entry_for, value_at, from_block, put_value, joined}
 use Rattle.gi_refine.specs.Simulation.{IsFollowed, PhisStand}
+use Rattle.gi_refine.specs.Rewriting.{shown_by_phis}
 use Rattle.gi_refine.specs.Agreement.{setting, StandsFor, ValueStands, Agree, is_same_place, shown, all_shown, AreAlike}
 use Rattle.gi_refine.specs.Kept.{reused_operand, without_kind, IsKept, AreKept, AreSeenAs, AllSeenAs, HasSameValue, UsesHold, EntryHolds, EntriesHold}
 use Rattle.gi_refine.proofs.Agreeing.{ArgumentsStand, joined_stand, word_stands, value_stands, same_value, alike_stands, PlaceStands, put_agree, Exits, StepFollowed, step_stands, alone, alone_is}
@@ -24,7 +25,7 @@ arguments_plain : (s : Setting) (w : World) (state : State) (os : List Operand) 
 arguments_plain s w state [] = refl
 arguments_plain s w state (o ∷ os) = ap₂ joined_lists (argument_plain s w state o) (arguments_plain s w state os)
 
-places_plain : (os : List Operand) → places_of (map without_kind os) ≡ places_of os
+pub places_plain : (os : List Operand) → places_of (map without_kind os) ≡ places_of os
 places_plain [] = refl
 places_plain (operand.Def r k ∷ os) = ap (λ ps. Virtual r.0 ∷ ps) (places_plain os)
 places_plain (operand.PhysDef n ∷ os) = ap (λ ps. Physical n ∷ ps) (places_plain os)
@@ -274,7 +275,7 @@ use_plain from r (operand.Block b ∷ os) h = ap (λ later. cond (b == from) (So
 use_plain from r (operand.Def q k ∷ os) h = h
 use_plain from r (_ ∷ os) h = h
 
-entry_plain : (from : ℕ) (os : List Operand) → entry_for from (map without_kind os) ≡ entry_for from os
+pub entry_plain : (from : ℕ) (os : List Operand) → entry_for from (map without_kind os) ≡ entry_for from os
 entry_plain from [] = refl
 entry_plain from (operand.Use r ∷ os) = use_plain from r.0 os (entry_plain from os)
 entry_plain from (operand.Def r k ∷ os) = entry_plain from os
@@ -286,7 +287,7 @@ kept_entry rename i j kept (Some from) =
     sym (entry_plain from j.operands) ∙ (ap (entry_for from) kept.operands ∙ (entry_plain from (map (reused_operand rename) i.operands) ∙ entry_reused from rename i.operands))
 
 -- the replacement of a register is seen, and has its width
-abbrev RegisterSeen : (s t : Setting) → (hidden : Place → Bool) → (rename : ℕ → ℕ) → Option ℕ → Type 0
+abbrev pub RegisterSeen : (s t : Setting) → (hidden : Place → Bool) → (rename : ℕ → ℕ) → Option ℕ → Type 0
 RegisterSeen s t hidden rename None = Unit {0}
 RegisterSeen s t hidden rename (Some r) = (hidden (Virtual (rename r)) ≡ false) × (s.width (rename r) ≡ s.width r) × (t.width (rename r) ≡ s.width r)
 
@@ -311,7 +312,7 @@ entry_seen s t hidden rename from (operand.Phys n ∷ os) seen = entry_seen s t 
 entry_seen s t hidden rename from (operand.ImplicitUse n ∷ os) seen = entry_seen s t hidden rename from os seen.1
 entry_seen s t hidden rename from (_ ∷ os) seen = entry_seen s t hidden rename from os seen
 
-from_seen : (s t : Setting) (hidden : Place → Bool) (rename : ℕ → ℕ) (from : Option ℕ) (os : List Operand) → AreSeenAs s t hidden rename os → RegisterSeen s t hidden rename (from_block from os)
+pub from_seen : (s t : Setting) (hidden : Place → Bool) (rename : ℕ → ℕ) (from : Option ℕ) (os : List Operand) → AreSeenAs s t hidden rename os → RegisterSeen s t hidden rename (from_block from os)
 from_seen s t hidden rename None os seen = tt
 from_seen s t hidden rename (Some from) os seen = entry_seen s t hidden rename from os seen
 
@@ -320,7 +321,7 @@ same_through : (old other new : Option ℕ) → HasSameValue old other → HasSa
 same_through None other new first second = tt
 same_through (Some v) other new first second = subst (λ o. HasSameValue o new) first second
 
-taken_same : (s t : Setting) (hidden : Place → Bool) (rename : ℕ → ℕ) (old new : State) → Agree s t hidden old new → (r : Option ℕ) → RegisterSeen s t hidden rename r → EntryHolds rename old r
+pub taken_same : (s t : Setting) (hidden : Place → Bool) (rename : ℕ → ℕ) (old new : State) → Agree s t hidden old new → (r : Option ℕ) → RegisterSeen s t hidden rename r → EntryHolds rename old r
     → HasSameValue (value_at old r) (value_at new (option_map rename r))
 taken_same s t hidden rename old new agree None seen holds = tt
 taken_same s t hidden rename old new agree (Some r) seen holds =
@@ -329,36 +330,53 @@ taken_same s t hidden rename old new agree (Some r) seen holds =
     (subst (λ m. ValueStands s.x m (s.width r) (old.values (rename r)) (new.values (rename r))) seen.1
     (subst (λ n. ValueStands s.x (s.width (rename r)) n (old.values (rename r)) (new.values (rename r))) seen.2 (agree.values (rename r) seen.0))))
 
-same_value_put : (s t : Setting) (hidden : Place → Bool) (old new : State) (p : Place) (v : ℕ) → AreAlike s.width t.width (p ∷ []) → Agree s t hidden old new → Agree s t hidden (put old p v) (put new p v)
-same_value_put s t hidden old new p v alike agree =
-    agree_but s t (shown hidden p) hidden (put old p v) (put new p v) (λ q e. shown_less (is_same_place q p) (hidden q) e) (put_agree s t hidden old new p v v (in_place p alike) agree)
+same_value_put : (s t : Setting) (hidden : Place → Bool) (old new : State) (p : Place) (v : ℕ) → AreAlike s.width t.width (p ∷ []) → Agree s t hidden old new
+    → Agree s t (shown hidden p) (put old p v) (put new p v)
+same_value_put s t hidden old new p v alike agree = put_agree s t hidden old new p v v (in_place p alike) agree
   where
     in_place : (q : Place) → AreAlike s.width t.width (q ∷ []) → PlaceStands s t q v v
     in_place (Virtual r) alike' = subst (λ n. StandsFor s.x (s.width r) n v v) (sym alike'.0) (alike_stands s.x (s.width r) v v refl)
     in_place (Physical n) alike' = refl
 
-put_values_stand : (s t : Setting) (hidden : Place → Bool) (σ σ' : Option State) (ps : List Place) (v u : Option ℕ) → AreAlike s.width t.width ps → HasSameValue v u
-    → PhisStand (Agree s t hidden) σ σ' → PhisStand (Agree s t hidden) (put_value σ ps v) (put_value σ' ps u)
+pub put_values_stand : (s t : Setting) (hidden : Place → Bool) (σ σ' : Option State) (ps : List Place) (v u : Option ℕ) → AreAlike s.width t.width ps → HasSameValue v u
+    → PhisStand (Agree s t hidden) σ σ' → PhisStand (Agree s t (all_shown hidden ps)) (put_value σ ps v) (put_value σ' ps u)
 put_values_stand s t hidden None σ' ps v u alike same stand = tt
 put_values_stand s t hidden (Some old) None ps v u alike same stand = absurd stand
 put_values_stand s t hidden (Some old) (Some new) [] v u alike same stand = tt
 put_values_stand s t hidden (Some old) (Some new) (p ∷ q ∷ ps) v u alike same stand = tt
 put_values_stand s t hidden (Some old) (Some new) (p ∷ []) None u alike same stand = tt
 put_values_stand s t hidden (Some old) (Some new) (p ∷ []) (Some v) u alike same stand =
-    subst (λ o. PhisStand (Agree s t hidden) (Some (put old p v)) (put_value (Some new) (p ∷ []) o)) (sym same) (same_value_put s t hidden old new p v alike stand)
+    subst (λ o. PhisStand (Agree s t (shown hidden p)) (Some (put old p v)) (put_value (Some new) (p ∷ []) o)) (sym same) (same_value_put s t hidden old new p v alike stand)
 
--- phis that stay
-pub phis_stand : (s t : Setting) (hidden : Place → Bool) (rename : ℕ → ℕ) (from : Option ℕ) (old new : State) → Agree s t hidden old new → (is js : List (ℕ × InstrData)) → AreKept rename is js
-    → AllSeenAs s t hidden rename is → EntriesHold rename from old is → PhisStand (Agree s t hidden) (joined old from is) (joined new from js)
-phis_stand s t hidden rename from old new agree [] [] kept seen holds = agree
-phis_stand s t hidden rename from old new agree [] (j ∷ js) kept seen holds = absurd kept
-phis_stand s t hidden rename from old new agree (i ∷ is) [] kept seen holds = absurd kept
-phis_stand s t hidden rename from old new agree (i ∷ is) (j ∷ js) kept seen holds =
-    subst (λ ps. PhisStand (Agree s t hidden) (joined old from (i ∷ is)) (put_value (joined new from js) ps (value_at new (from_block from j.1.operands))))
+-- phis that stay, and show what they write
+pub phis_show : (s t : Setting) (hidden : Place → Bool) (rename : ℕ → ℕ) (from : Option ℕ) (old new : State) → Agree s t hidden old new → (is js : List (ℕ × InstrData)) → AreKept rename is js
+    → AllSeenAs s t hidden rename is → EntriesHold rename from old is → PhisStand (Agree s t (shown_by_phis hidden is)) (joined old from is) (joined new from js)
+phis_show s t hidden rename from old new agree [] [] kept seen holds = agree
+phis_show s t hidden rename from old new agree [] (j ∷ js) kept seen holds = absurd kept
+phis_show s t hidden rename from old new agree (i ∷ is) [] kept seen holds = absurd kept
+phis_show s t hidden rename from old new agree (i ∷ is) (j ∷ js) kept seen holds =
+    subst (λ ps. PhisStand (Agree s t (shown_by_phis hidden (i ∷ is))) (joined old from (i ∷ is)) (put_value (joined new from js) ps (value_at new (from_block from j.1.operands))))
     (sym (kept_places rename i.1 j.1 kept.0))
-    (subst (λ r. PhisStand (Agree s t hidden) (joined old from (i ∷ is)) (put_value (joined new from js) (places_of i.1.operands) (value_at new r)))
+    (subst (λ r. PhisStand (Agree s t (shown_by_phis hidden (i ∷ is))) (joined old from (i ∷ is)) (put_value (joined new from js) (places_of i.1.operands) (value_at new r)))
     (sym (kept_entry rename i.1 j.1 kept.0 from))
-    (put_values_stand s t hidden (joined old from is) (joined new from js) (places_of i.1.operands) (value_at old (from_block from i.1.operands))
+    (put_values_stand s t (shown_by_phis hidden is) (joined old from is) (joined new from js) (places_of i.1.operands) (value_at old (from_block from i.1.operands))
     (value_at new (option_map rename (from_block from i.1.operands))) (places_alike s t hidden rename i.1.operands seen.0)
     (taken_same s t hidden rename old new agree (from_block from i.1.operands) (from_seen s t hidden rename from i.1.operands seen.0) holds.0)
-    (phis_stand s t hidden rename from old new agree is js kept.1 seen.1 holds.1)))
+    (phis_show s t hidden rename from old new agree is js kept.1 seen.1 holds.1)))
+
+pub phis_within : (middle middle' : State → State → Type 0) (σ σ' : Option State) → ((old new : State) → middle old new → middle' old new) → PhisStand middle σ σ' → PhisStand middle' σ σ'
+phis_within middle middle' None σ' f h = tt
+phis_within middle middle' (Some old) None f h = absurd h
+phis_within middle middle' (Some old) (Some new) f h = f old new h
+
+pub shown_by_phis_less : (hidden : Place → Bool) (is : List (ℕ × InstrData)) (q : Place) → hidden q ≡ false → shown_by_phis hidden is q ≡ false
+shown_by_phis_less hidden [] q e = e
+shown_by_phis_less hidden (i ∷ is) q e = all_shown_less (shown_by_phis hidden is) (places_of i.1.operands) q (shown_by_phis_less hidden is q e)
+
+-- phis that stay, where no less is hidden after them
+pub phis_stand : (s t : Setting) (hidden : Place → Bool) (rename : ℕ → ℕ) (from : Option ℕ) (old new : State) → Agree s t hidden old new → (is js : List (ℕ × InstrData)) → AreKept rename is js
+    → AllSeenAs s t hidden rename is → EntriesHold rename from old is → PhisStand (Agree s t hidden) (joined old from is) (joined new from js)
+phis_stand s t hidden rename from old new agree is js kept seen holds =
+    phis_within (Agree s t (shown_by_phis hidden is)) (Agree s t hidden) (joined old from is) (joined new from js)
+    (λ σ σ' h. agree_but s t (shown_by_phis hidden is) hidden σ σ' (shown_by_phis_less hidden is) h)
+    (phis_show s t hidden rename from old new agree is js kept seen holds)

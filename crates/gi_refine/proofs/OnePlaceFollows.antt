@@ -91,7 +91,7 @@ block_stays x names f g hidden rename b old new stays w is_world = record {
   leaves = λ c state state' agree. agree;
 }
 
-option_stays : (x : ℕ) (names : List (List ℕ)) (f g : FunctionData) (hidden : ℕ → Bool) (rename : ℕ → ℕ) (b : ℕ) (old new : Option BlockData) → StaysAt x names f g hidden rename b old new
+pub option_stays : (x : ℕ) (names : List (List ℕ)) (f g : FunctionData) (hidden : ℕ → Bool) (rename : ℕ → ℕ) (b : ℕ) (old new : Option BlockData) → StaysAt x names f g hidden rename b old new
     → (w : World) → IsWorld x w
     → PlaceFollowsWhere (setting_of x names f) (setting_of x names g) w f.blocks (AgreeEntering (setting_of x names f) (setting_of x names g) (λ c. only_virtual hidden))
     (Agree (setting_of x names f) (setting_of x names g) (only_virtual hidden)) (Agree (setting_of x names f) (setting_of x names g) (only_virtual hidden))

@@ -1,11 +1,12 @@
 -- What follows from the states that runs reach follows as a whole.
-use Rattle.std.proofs.Common.{◌≡◌, ℕ, suc, ◌+◌, true, List, [], ◌++◌, Option, Some, None, unwrap_or, slice_get, inl, inr, ⊎_elim, refl, sym, ap, ◌∙◌, subst}
+use Rattle.std.proofs.Common.{◌≡◌, ℕ, suc, ◌+◌, true, List, [], ◌++◌, Option, Some, None, slice_get, inl, inr, ⊎_elim, refl, sym, ◌∙◌, subst}
 use Rattle.gi_mir.specs.Data.{InstrData, BlockData, FunctionData}
 use Rattle.gi_meaning.specs.State.{World, IsWorld, State, start}
 use Rattle.gi_meaning.specs.Runs.{Setting, setting_of, Progress, On, Left, Over, Executes, phis_of, after_phis, joined, is_among}
 use Rattle.gi_refine.specs.Reached.{GoesTo, Arrives, Reaches, WhereReached}
 use Rattle.gi_refine.specs.Refinement.{IsRefinement}
 use Rattle.gi_refine.specs.Simulation.{Stands, IsFollowed, PhisStand, IsBlockFollowed, PlaceFollowed}
+use Rattle.gi_refine.proofs.Basics.{some_is}
 use Rattle.gi_refine.proofs.Simulating.{join, refined_by_following}
 
 -- ══ Inside a block ══
@@ -99,14 +100,11 @@ pub record FollowsWhere (s t : Setting) (w : World) (blocks : List BlockData) (e
   pub falls : is_among (b + 1) old.successors ≡ true → (state state' : State) → after state state' → entry (Some b) (b + 1) state state'
   pub leaves : (c : ℕ) (state state' : State) → exit c state state' → entry (Some b) c state state'
 
-some_same : (a b : BlockData) → Some a ≡ Some b → b ≡ a
-some_same a b h = ap (λ o. unwrap_or o a) (sym h)
-
 -- the run that is behind a block's instructions passes on to the next block
 passes_on : (s : Setting) (w : World) (blocks : List BlockData) (b : ℕ) (old : BlockData) → slice_get blocks b ≡ Some old → (p : Progress) (c : ℕ) (state : State)
     → (r : Reaches s w blocks b (after_phis old.instrs) p) → GoesTo b old.successors p c state → Arrives s w blocks (suc r.enters.entries) (Some b) c state
 passes_on s w blocks b old here p c state r goes =
-    let e : r.block ≡ old = some_same old r.block (sym here ∙ r.enters.joins.here) in (
+    let e : r.block ≡ old = some_is old r.block (sym here ∙ r.enters.joins.here) in (
       r.enters.from,
       b,
       r.enters.entered,

@@ -10,10 +10,10 @@ use Rattle.gi_refine.proofs.Failing.{may_from_fails}
 -- ══ Lists of instructions one after the other ══
 
 -- how far a first list came, and what the second does from there
-record Split (s : Setting) (w : World) (xs ys : List (ℕ × InstrData)) (state : State) (p : Progress) : Type 0 where
-  between : Progress
-  first : Executes s w xs state between
-  second : After between (Executes s w ys) p
+pub record Split (s : Setting) (w : World) (xs ys : List (ℕ × InstrData)) (state : State) (p : Progress) : Type 0 where
+  pub between : Progress
+  pub first : Executes s w xs state between
+  pub second : After between (Executes s w ys) p
 
 split_after : (s : Setting) (w : World) (x : ℕ × InstrData) (xs ys : List (ℕ × InstrData)) (state : State) (next p : Progress) → Steps s w x.1 state next
     → ((state' : State) → Executes s w (xs ++ ys) state' p → Split s w xs ys state' p) → After next (Executes s w (xs ++ ys)) p → Split s w (x ∷ xs) ys state p
@@ -22,7 +22,7 @@ split_after s w x xs ys state (On state') p step goes run =
 split_after s w x xs ys state (Left b state') p step goes run = record { between = Left b state'; first = (Left b state', step, refl); second = run }
 split_after s w x xs ys state (Over o) p step goes run = record { between = Over o; first = (Over o, step, refl); second = run }
 
-split : (s : Setting) (w : World) (xs ys : List (ℕ × InstrData)) (state : State) (p : Progress) → Executes s w (xs ++ ys) state p → Split s w xs ys state p
+pub split : (s : Setting) (w : World) (xs ys : List (ℕ × InstrData)) (state : State) (p : Progress) → Executes s w (xs ++ ys) state p → Split s w xs ys state p
 split s w [] ys state p run = record { between = On state; first = refl; second = run }
 split s w (x ∷ xs) ys state p run = split_after s w x xs ys state run.0 p run.1 (λ state' more. split s w xs ys state' p more) run.2
 

@@ -1,5 +1,6 @@
 -- Instructions of one block replaced by others, and nothing else changed.
 use Rattle.std.specs.Prelude.{◌≡◌, ℕ, Bool, false, ◌||◌, map, List, [], ◌∷◌, ◌++◌, Some, slice_get, slice_set}
+use Rattle.std.specs.List.{AllZip}
 use Rattle.gi_mir.specs.Data.{InstrData, BlockData, FunctionData}
 use Rattle.gi_mir.specs.declared.operand.Operand.{Operand}
 use Rattle.gi_mir.specs.declared.operand.Operand.TheVariants as operand
@@ -68,3 +69,13 @@ pub record IsReplaced (x : ℕ) (names : List (List ℕ)) (f g : FunctionData) (
       (WhereReached (setting_of x names f) w f.blocks r.block (after_phis r.before) (Agree (setting_of x names f) (setting_of x names g) (only_virtual r.hidden)))
       (Agree (setting_of x names f) (setting_of x names g) (only_virtual r.hidden))
       (AgreeAt (setting_of x names f) (setting_of x names g) (λ b. only_virtual r.hidden)) r.old r.new
+
+-- ══ The same instructions under other ids ══
+
+pub record IsSameBlock (old new : BlockData) : Type 0 where
+  pub successors : new.successors ≡ old.successors
+  pub instrs : AllZip (λ i j. j.1 ≡ i.1) old.instrs new.instrs
+
+-- the same blocks; the keys, the next register and the next id may differ too
+abbrev pub AreSameBlocks : FunctionData → FunctionData → Type 0
+AreSameBlocks f g = AllZip IsSameBlock f.blocks g.blocks

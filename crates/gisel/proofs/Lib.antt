@@ -22,3 +22,4 @@ pub mod SelectSteps
 pub mod StandingLemmas
 pub mod TextLaws
 pub mod TextLemmas
+pub mod TopLemmas

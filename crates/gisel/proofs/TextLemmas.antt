@@ -193,8 +193,7 @@ one_refusal text a b (inl broken) (inr early) = absurd (broken.breaks (begins_fe
 one_refusal text a b (inr early) (inl broken) = absurd (broken.breaks (begins_fewer IsStatedLines (lines_of text) (suc broken.count) early.begins))
 one_refusal text a b (inr early) (inr other) = early.last ∙ sym other.last
 
-pub not_refused : (text : List ℕ) (m : ModuleData) (line : ℕ) → IsStatedText text m → IsRefusedAt text line → ⊥
-not_refused text m line stated (inl broken) =
-    let taken : IsStatedLines (lines_of text) = stated_lines_of text m stated in
+pub not_refused : (text : List ℕ) (line : ℕ) → IsStatedLines (lines_of text) → IsRefusedAt text line → ⊥
+not_refused text line taken (inl broken) =
     broken.breaks (begins_fewer IsStatedLines (lines_of text) (suc broken.count) (record { more = []; taken = subst IsStatedLines (sym (append-nil (lines_of text))) taken }))
-not_refused text m line stated (inr early) = early.short (stated_lines_of text m stated)
+not_refused text line taken (inr early) = early.short taken

@@ -1,4 +1,5 @@
 pub mod AddRuns
+pub mod Answers
 pub mod Body
 pub mod Built
 pub mod Digits

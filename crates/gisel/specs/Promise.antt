@@ -6,7 +6,6 @@ use Rattle.gi_mir.specs.Printed.{name_at}
 use Rattle.gi_mir.specs.Spelling.{Spells}
 use Rattle.gi_meaning.specs.State.{World, IsWorld, Outcome}
 use Rattle.gi_meaning.specs.Runs.{Runs, Allows}
-use Rattle.gisel.specs.Text.{IsText}
 
 -- the new function has the old one's name, and each of its runs, in every world and for every number of block
 -- entries, is one that the old one allows
@@ -23,9 +22,8 @@ pub record Compiles (x : ℕ) (read written : List ℕ) : Type 0 where
   pub spells_new : Spells written new
   pub refines : AllZip (Refines x old.names new.names) old.functions new.functions
 
--- what was held before, and then the text that is written for the read one, which keeps the promise
+-- what was held before, and then a text that keeps the promise
 pub record AppendsCompiled (x : ℕ) (read before after : List ℕ) : Type 0 where
   pub written : List ℕ
   pub appended : after ≡ before ++ written
   pub compiles : Compiles x read written
-  pub text : IsText read written

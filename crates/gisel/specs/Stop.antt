@@ -1,6 +1,8 @@
 -- The status of each reason to stop before a text is written, and what the program says of it.
-use Rattle.std.specs.Prelude.{◌≡◌, ◌⊎◌, ℕ, List, [], ◌∷◌, ◌++◌, codes, decimal, Option, Some, None}
+use Rattle.std.specs.Prelude.{◌≡◌, ◌⊎◌, ◌<◌, ◌≤◌, length, ℕ, List, [], ◌∷◌, ◌++◌, codes, decimal, Option, Some, None}
 use Rattle.gi_io.specs.Faults.{Rose}
+use Rattle.gisel.specs.Answers.{limit}
+use Rattle.gisel.specs.Refused.{IsRefusedAt}
 use Rattle.gisel.specs.declared.stop.Stop.{Stop}
 use Rattle.gisel.specs.declared.stop.Stop.TheVariants as stop
 
@@ -26,3 +28,9 @@ Says message old_faults new_faults before after = (after ≡ before ++ (message 
 abbrev pub UsageOf : (wrong : Option (List ℕ)) → Stop → Type 0
 UsageOf wrong (stop.Usage word) = wrong ≡ Some word.now
 UsageOf wrong other = wrong ≡ None
+
+-- what is known of the input where the program stops for this reason
+abbrev pub IsCause : (read : List ℕ) → Stop → Type 0
+IsCause read stop.TooLong = limit < length read
+IsCause read (stop.NotBuilt line) = (length read ≤ limit) × IsRefusedAt read line
+IsCause read other = Unit {0}

@@ -1,8 +1,8 @@
 //! What holds of the texts that are taken and of those that are refused, and of what is selected and written.
 
 ghost use Rattle.std.specs.Prelude.{◌≡◌, ℕ, List};
-ghost use Rattle.gi_mir.specs.Data.{FunctionData, ModuleData};
-ghost use Rattle.gi_mir.specs.Stated.{IsStatedText};
+ghost use Rattle.gi_mir.specs.Data.{FunctionData};
+ghost use Rattle.gi_mir.specs.Spelling.{lines_of};
 ghost use Rattle.gi_refine.specs.Refinement.{IsRefinement};
 ghost use Rattle.gisel.specs.NormalForm.{IsNormalForm};
 ghost use Rattle.gisel.specs.Refused.{IsStatedLines, IsRefusedAt};
@@ -16,10 +16,10 @@ pub fn stated_text_is_one()
     ensures { (lines : List (List ℕ)) (a b : IsStatedLines lines) → (a.name ≡ b.name) × (a.liveins ≡ b.liveins) × (a.instrs ≡ b.instrs) }
 {}
 
-/// A text is refused at one line at most, and at none where it states a module.
+/// A text is refused at one line at most, and at none where its lines are those of a text that is taken.
 pub fn refused_line_is_one()
     ensures one { (text : List ℕ) (a b : ℕ) → IsRefusedAt text a → IsRefusedAt text b → a ≡ b }
-    ensures none { (text : List ℕ) (m : ModuleData) (line : ℕ) → IsStatedText text m → IsRefusedAt text line → ⊥ }
+    ensures none { (text : List ℕ) (line : ℕ) → IsStatedLines (lines_of text) → IsRefusedAt text line → ⊥ }
 {}
 
 /// A text is written in one way: whatever module it states, and whatever the ids are of what is selected.

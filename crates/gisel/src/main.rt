@@ -20,6 +20,7 @@ mod top;
 mod words;
 
 use gi_io::{StdInput, StdOutput};
+pub use laws::{refused_line_is_one, stated_text_is_one};
 use std::process::ExitCode;
 use std::{env, io};
 pub use top::gisel;
@@ -42,3 +43,6 @@ fn main(rt: HostRuntime) -> ExitCode {
     let mut err = StdOutput::new(&rt, rt.stderr());
     ExitCode::from(gisel(rt.alloc(), words.as_slice(), &mut input, &mut out, &mut err))
 }
+
+#[cfg(test)]
+mod tests;

@@ -1,0 +1,131 @@
+-- Steps of a proof that a rule on values is sound.
+use Rattle.std.proofs.Common.{◌≡◌, ℕ, ◌^◌, ◌%◌, ◌<◌, ◌==◌, Bool, true, false, cond, List, [], ◌∷◌, ◌++◌, Option, Some, None, slice_get, refl, sym, ap, ◌∙◌, subst, arith}
+use Rattle.std.specs.Prelude.{nat_lt}
+use Rattle.std.proofs.Math.Nat.{mod-one}
+use Rattle.gi_meaning.specs.Argument.{Argument, Value}
+use Rattle.gi_meaning.specs.Given.{Given, Exactly, LowBits, Undefined, IsGiven, one, in_low_bits, unless_broken}
+use Rattle.gi_meaning.specs.State.{World, Outside}
+use Rattle.gi_llt.specs.Bits.{wrapped}
+use Rattle.gi_meaning.specs.Act.{Answer, Results, Breaks, AllReadAs, Answers, AnswersWords, all_fitted, fitted, IsWordOf}
+use Rattle.gi_refine.specs.Values.{Environment, appended, answered, Then, Holds, Defines, StandAt}
+use Rattle.gi_refine.specs.TrialRules.{constant}
+
+-- ══ What is given ══
+
+-- an operation may answer what is given
+pub answers_given : (given : Given) (outside : Outside) (results : List ℕ) → IsGiven given results → Answers given outside (Results results outside)
+answers_given Undefined outside results h = absurd h
+answers_given (Exactly given) outside results h = (results, h, refl)
+answers_given (LowBits known width value) outside results h = (results, h, refl)
+
+-- any value of the width, where a promise may be broken and else this is the value
+pub unless_given : (b : Bool) (n v u : ℕ) → u < 2 ^ n → v ≡ u → IsGiven (unless_broken b n v) (u ∷ [])
+unless_given true n v u fits same = (u, fits, mod-one u, refl)
+unless_given false n v u fits same = ap (λ r. r ∷ []) (sym same)
+
+-- the one list of results that an operation gives
+pub exactly : (results : List ℕ) (outside : Outside) (answer : Answer) (env : Environment) (widths : List ℕ) (rest : Environment → Option Environment → Type 0) (made : Option Environment)
+    → Answers (Exactly results) outside answer → Then (answered env widths answer) rest made → Then (appended env widths results) rest made
+exactly results outside answer env widths rest made h more =
+    subst (λ rs. Then (appended env widths rs) rest made) h.1 (subst (λ a. Then (answered env widths a) rest made) h.2 more)
+
+-- ══ Facts ══
+
+-- what is defined by a constant holds it
+pub constant_known : (x : ℕ) (w : World) (outside : Outside) (env : Environment) (n value place : ℕ) → Holds x w outside env (Defines (constant n value) (place ∷ [])) → slice_get env place ≡ Some (n, value)
+constant_known x w outside env n value place h =
+    let same : h.0 ≡ value ∷ [] = results_are h.0 h.1.0 outside h.1.2 ∙ h.1.1 in
+    let stands : StandAt env (place ∷ []) (n ∷ []) (value ∷ []) = subst (λ vs. StandAt env (place ∷ []) (n ∷ []) vs) same h.2 in
+    stands.0
+  where
+    results_are : (a b : List ℕ) (outside : Outside) → Results a outside ≡ Results b outside → a ≡ b
+    results_are a b outside h = cc
+
+-- two entries that are one have one value
+abbrev pub entry : (n value : ℕ) → Option (ℕ × ℕ)
+entry n value = Some (n, value)
+
+pub entry_value : (n a m b : ℕ) → entry n a ≡ entry m b → a ≡ b
+entry_value n a m b h = ap value_of h
+  where
+    value_of : Option (ℕ × ℕ) → ℕ
+    value_of None = 0
+    value_of (Some e) = e.1
+
+-- ══ Words ══
+
+pub not_below_itself : (x : ℕ) → nat_lt x x ≡ false
+not_below_itself x = grind arith
+
+-- a register of a word's width is read as it is
+pub whole_word : (x a : ℕ) (word : Argument) → IsWordOf x x a word → word ≡ Value x a
+whole_word x a word h =
+    subst (λ b. cond b ((u : ℕ) × (u < 2 ^ x) × (u % 2 ^ x ≡ a) × (word ≡ Value x u)) (word ≡ Value x a)) (not_below_itself x) h
+
+-- what is written to a register of a word's width stays whole
+pub whole_fitted : (x v : ℕ) → fitted x x v ≡ v
+whole_fitted x v = ap (λ b. cond b (wrapped x v) v) (not_below_itself x)
+
+-- two registers as words
+pub record ReadTwo (x m n a b : ℕ) (words : List Argument) : Type 0 where
+  pub left : Argument
+  pub right : Argument
+  pub left_of : IsWordOf x m a left
+  pub right_of : IsWordOf x n b right
+  pub both : words ≡ left ∷ right ∷ []
+
+pub read_two : (x m n a b : ℕ) (words : List Argument) → AllReadAs x (Value m a ∷ Value n b ∷ []) words → ReadTwo x m n a b words
+read_two x m n a b words h = record {
+  left = h.0;
+  right = h.3.0;
+  left_of = h.2;
+  right_of = h.3.2;
+  both = h.4 ∙ ap (λ rest. h.0 ∷ rest) (h.3.4 ∙ ap (λ rest. h.3.0 ∷ rest) h.3.3);
+}
+
+-- the one list of words that a machine instruction gives
+pub words_exactly : (x : ℕ) (widths words : List ℕ) (outside : Outside) (answer : Answer) (env : Environment) (rest : Environment → Option Environment → Type 0) (made : Option Environment)
+    → AnswersWords x widths (Exactly words) outside answer → Then (answered env widths answer) rest made → Then (appended env widths (all_fitted x widths words)) rest made
+words_exactly x widths words outside answer env rest made h more =
+    subst (λ ws. Then (appended env widths (all_fitted x widths ws)) rest made) h.1 (subst (λ a. Then (answered env widths a) rest made) h.2 more)
+
+-- ══ Free bits ══
+
+-- a value whose low bits are known
+pub record OneOf (known value : ℕ) (outside : Outside) (answer : Answer) : Type 0 where
+  pub result : ℕ
+  pub low : result % 2 ^ known ≡ value % 2 ^ known
+  pub is : answer ≡ Results (result ∷ []) outside
+
+given_low_bits : (b : Bool) (known width value : ℕ) (outside : Outside) (answer : Answer) → Answers (cond b (one value) (LowBits known width value)) outside answer → OneOf known value outside answer
+given_low_bits true known width value outside answer h = record { result = value; low = refl; is = h.2 ∙ ap (λ rs. Results rs outside) h.1 }
+given_low_bits false known width value outside answer h = record { result = h.1.0; low = h.1.2; is = h.2 ∙ ap (λ rs. Results rs outside) h.1.3 }
+
+pub from_low_bits : (known width value : ℕ) (outside : Outside) (answer : Answer) → Answers (in_low_bits known width value) outside answer → OneOf known value outside answer
+from_low_bits known width value outside answer h = given_low_bits (known == width) known width value outside answer h
+
+-- the rest of a run after one result
+pub after_one : (v n : ℕ) (outside : Outside) (answer : Answer) (env : Environment) (rest : Environment → Option Environment → Type 0) (made : Option Environment)
+    → answer ≡ Results (v ∷ []) outside → Then (answered env (n ∷ []) answer) rest made → rest (env ++ (n, v) ∷ []) made
+after_one v n outside answer env rest made is more = subst (λ a. Then (answered env (n ∷ []) a) rest made) is more
+
+-- ══ The same given ══
+
+-- the new operation gives one result, which the old may give as well, or both are undefined
+pub data SameGiven (given : Given) (outside : Outside) (n : ℕ) (env env' : Environment) (made : Option Environment) : Type 0 where
+  Gives : (v : ℕ) → made ≡ Some (env' ++ (n, v) ∷ []) → Answers given outside (Results (v ∷ []) outside) → SameGiven given outside n env env' made
+  GivesNone : made ≡ None → (answer : Answer) → Answers given outside answer → answered env (n ∷ []) answer ≡ None → SameGiven given outside n env env' made
+
+same_results : (given : Given) (outside : Outside) (n : ℕ) (env env' : Environment) (made : Option Environment) (results : List ℕ) → Answers given outside (Results results outside)
+    → Then (appended env' (n ∷ []) results) (λ e m. m ≡ Some e) made → SameGiven given outside n env env' made
+same_results given outside n env env' made [] h more = GivesNone more (Results [] outside) h refl
+same_results given outside n env env' made (v ∷ []) h more = Gives v more h
+same_results given outside n env env' made (v ∷ u ∷ results) h more = GivesNone more (Results (v ∷ u ∷ results) outside) h refl
+
+pub same_given : (given : Given) (outside : Outside) (n : ℕ) (env env' : Environment) (answer : Answer) (made : Option Environment) → Answers given outside answer
+    → Then (answered env' (n ∷ []) answer) (λ e m. m ≡ Some e) made → SameGiven given outside n env env' made
+same_given Undefined outside n env env' answer made h more = GivesNone (subst (λ a. Then (answered env' (n ∷ []) a) (λ e m. m ≡ Some e) made) h more) Breaks refl refl
+same_given (Exactly results) outside n env env' answer made h more =
+    same_results (Exactly results) outside n env env' made h.0 (answers_given (Exactly results) outside h.0 h.1) (subst (λ a. Then (answered env' (n ∷ []) a) (λ e m. m ≡ Some e) made) h.2 more)
+same_given (LowBits known width value) outside n env env' answer made h more =
+    same_results (LowBits known width value) outside n env env' made h.0 (answers_given (LowBits known width value) outside h.0 h.1) (subst (λ a. Then (answered env' (n ∷ []) a) (λ e m. m ≡ Some e) made) h.2 more)

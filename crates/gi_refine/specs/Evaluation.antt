@@ -1,0 +1,84 @@
+-- What a run comes to where it has one way to go, worked out.
+use Rattle.std.specs.Prelude.{ℕ, zero, suc, ◌+◌, Bool, true, not, cond, ◌&&◌, nat_lt, List, [], ◌∷◌, map, Option, Some, None, slice_get}
+use Rattle.gi_mir.specs.Data.{InstrData, BlockData, FunctionData}
+use Rattle.gi_mir.specs.declared.operand.MemOp.{MemOp}
+use Rattle.gi_meaning.specs.Argument.{Argument, Value}
+use Rattle.gi_meaning.specs.Given.{Given, Exactly, LowBits, Undefined}
+use Rattle.gi_meaning.specs.State.{World, State, Outside, outside_of, start, Outcome, Going, Fails}
+use Rattle.gi_meaning.specs.Meaning.{Meaning, Copying, Generic, Machine, Loading, Jumping, Branching, MachineBranching, Returning, Nothing, Joining, meaning_of}
+use Rattle.gi_meaning.specs.Act.{Answer, Results, Returns, Breaks, all_fitted, copy, generic_load, jump, branch, machine_branch, returned}
+use Rattle.gi_meaning.specs.Runs.{Setting, setting_of, arguments_of, written_places, width_of_place, progress_of, Progress, On, Left, Over, phis_of, after_phis, joined, is_among}
+
+-- the one answer that is given, if there is one
+abbrev pub exact : Given → Outside → Option Answer
+exact (Exactly results) outside = Some (Results results outside)
+exact (LowBits known width value) outside = None
+exact Undefined outside = Some Breaks
+
+abbrev pub exact_words : (x : ℕ) → (widths : List ℕ) → Given → Outside → Option Answer
+exact_words x widths (Exactly words) outside = Some (Results (all_fitted x widths words) outside)
+exact_words x widths (LowBits known width value) outside = None
+exact_words x widths Undefined outside = Some Breaks
+
+-- whether each register that is read has a word's bits, so that it is read as it is
+abbrev pub are_whole : (x : ℕ) → List Argument → Bool
+are_whole x [] = true
+are_whole x (Value width value ∷ arguments) = not (nat_lt width x) && are_whole x arguments
+are_whole x (_ ∷ arguments) = are_whole x arguments
+
+abbrev pub answered : (x : ℕ) → Meaning → Option MemOp → (widths : List ℕ) → List Argument → Outside → Option Answer
+answered x Copying mem widths arguments outside = exact (copy widths arguments) outside
+answered x (Generic gives) mem widths arguments outside = exact (gives widths arguments) outside
+answered x (Machine gives) mem widths arguments outside = cond (are_whole x arguments) (exact_words x widths (gives x arguments) outside) None
+answered x (Loading extension) mem widths arguments outside = exact (generic_load x extension mem widths arguments outside.memory) outside
+answered x Jumping mem widths arguments outside = Some (jump arguments)
+answered x Branching mem widths arguments outside = Some (branch arguments outside)
+answered x (MachineBranching test) mem widths arguments outside = cond (are_whole x arguments) (Some (machine_branch x test arguments outside)) None
+answered x Returning mem widths arguments outside = Some (Returns (returned arguments))
+answered x Nothing mem widths arguments outside = Some (Results [] outside)
+answered x Joining mem widths arguments outside = Some Breaks
+answered x _ mem widths arguments outside = None
+
+abbrev pub progress_by : State → Setting → InstrData → Option Answer → Option Progress
+progress_by state s i None = None
+progress_by state s i (Some answer) = Some (progress_of state (written_places (meaning_of i.flags i.op) i.operands) answer)
+
+abbrev pub step_from : Setting → InstrData → State → Option (List Argument) → Option Progress
+step_from s i state None = Some (Over Fails)
+step_from s i state (Some arguments) =
+    progress_by state s i (answered s.x (meaning_of i.flags i.op) i.mem (map (width_of_place s) (written_places (meaning_of i.flags i.op) i.operands)) arguments (outside_of state))
+
+abbrev pub step_of : Setting → World → InstrData → State → Option Progress
+step_of s w i state = step_from s i state (arguments_of s w state i.operands)
+
+abbrev pub then_on : Option Progress → (State → Option Progress) → Option Progress
+then_on None rest = None
+then_on (Some (On state)) rest = rest state
+then_on (Some (Left b state)) rest = Some (Left b state)
+then_on (Some (Over outcome)) rest = Some (Over outcome)
+
+abbrev pub steps_of : Setting → World → List (ℕ × InstrData) → State → Option Progress
+steps_of s w [] state = Some (On state)
+steps_of s w (i ∷ is) state = then_on (step_of s w i.1 state) (steps_of s w is)
+
+abbrev pub followed_by : (b : ℕ) → (successors : List ℕ) → (enters : Option ℕ → ℕ → State → Option Outcome) → Option Progress → Option Outcome
+followed_by b successors enters None = None
+followed_by b successors enters (Some (On state)) = cond (is_among (b + 1) successors) (enters (Some b) (b + 1) state) (Some Fails)
+followed_by b successors enters (Some (Left c state)) = enters (Some b) c state
+followed_by b successors enters (Some (Over outcome)) = Some outcome
+
+abbrev pub after_phis_of : Setting → World → (b : ℕ) → BlockData → (enters : Option ℕ → ℕ → State → Option Outcome) → Option State → Option Outcome
+after_phis_of s w b block enters None = Some Fails
+after_phis_of s w b block enters (Some state) = followed_by b block.successors enters (steps_of s w (after_phis block.instrs) state)
+
+abbrev pub block_of_run : Setting → World → (enters : Option ℕ → ℕ → State → Option Outcome) → Option BlockData → (from : Option ℕ) → (b : ℕ) → State → Option Outcome
+block_of_run s w enters None from b state = Some Fails
+block_of_run s w enters (Some block) from b state = after_phis_of s w b block enters (joined state from (phis_of block.instrs))
+
+abbrev pub entered : Setting → World → List BlockData → ℕ → (from : Option ℕ) → (b : ℕ) → State → Option Outcome
+entered s w blocks zero from b state = Some (Going state.memory state.taken)
+entered s w blocks (suc n) from b state = block_of_run s w (entered s w blocks n) (slice_get blocks b) from b state
+
+-- within n block entries
+abbrev pub outcome_of : (x : ℕ) → (names : List (List ℕ)) → FunctionData → World → (n : ℕ) → Option Outcome
+outcome_of x names f w n = entered (setting_of x names f) w f.blocks n None 0 (start w)
