@@ -12,7 +12,6 @@ use Rattle.gisel.specs.Digits.{begins_with_digit, IsNumberAfter}
 use Rattle.gisel.specs.Header.{IsKeyed, IsHead, more_liveins, liveins_line}
 use Rattle.gisel.specs.Lines.{begins_with_space}
 use Rattle.gisel.specs.Next.{IsWrongNext, IsKeyedLine}
-use Rattle.gisel.proofs.DigitsLemmas.{NoNumber}
 use Rattle.gisel.proofs.LineLemmas.{no_more, one_number}
 
 pub head_from : (text r1 name r2 r3 r4 r5 : List ℕ) → lines_of text ≡ codes "---" ∷ lines_of r1 → IsKeyed r1 (codes "name") name r2

@@ -1,5 +1,5 @@
 -- Words and an input as they are taken, where no read failed, leave want of memory as the one reason to stop.
-use Rattle.std.proofs.Common.{◌≡◌, ℕ, ◌≤◌, ◌<◌, List, length, Option, Some, None, ◌⊎◌, inl, inr, refl, ap, ◌∙◌, arith}
+use Rattle.std.proofs.Common.{◌≡◌, ℕ, ◌≤◌, List, length, Option, Some, None, ◌⊎◌, inl, inr, refl, ◌∙◌, arith}
 use Rattle.gi_mir.specs.Spelling.{lines_of}
 use Rattle.gisel.specs.Answers.{limit}
 use Rattle.gisel.specs.Refused.{IsStatedLines}

@@ -1,8 +1,14 @@
-//! What holds of the texts that are taken and of those that are refused.
+//! What holds of the texts that are taken and of those that are refused, and of what is selected and written.
 
 ghost use Rattle.std.specs.Prelude.{◌≡◌, ℕ, List};
+ghost use Rattle.gi_mir.specs.Data.{FunctionData};
 ghost use Rattle.gi_mir.specs.Spelling.{lines_of};
+ghost use Rattle.gi_refine.specs.Refinement.{IsRefinement};
+ghost use Rattle.gisel.specs.NormalForm.{IsNormalForm};
 ghost use Rattle.gisel.specs.Refused.{IsStatedLines, IsRefusedAt};
+ghost use Rattle.gisel.specs.Rows.{selection_rows};
+ghost use Rattle.gisel.specs.Selectable.{IsSelectable};
+ghost use Rattle.gisel.specs.Selection.{IsSelected};
 ghost use Rattle.gisel.specs.Text.{IsText};
 
 /// A text states one name, one list of physical registers and one list of instructions.
@@ -19,4 +25,14 @@ pub fn refused_line_is_one()
 /// A text is written in one way: whatever module it states, and whatever the ids are of what is selected.
 pub fn written_text_is_one()
     ensures { (text written other : List ℕ) → IsText text written → IsText text other → written ≡ other }
+{}
+
+/// A function that selection takes has a normal form.
+pub fn normal_form_is_there()
+    ensures { (f : FunctionData) → IsSelectable f → (normal : FunctionData) × IsNormalForm selection_rows f normal }
+{}
+
+/// On RV32 what is selected from a function refines it.
+pub fn selected_function_refines()
+    ensures { (names : List (List ℕ)) (f g : FunctionData) → IsSelectable f → IsSelected f g → IsRefinement 32 names f g }
 {}
