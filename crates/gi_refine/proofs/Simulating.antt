@@ -4,7 +4,7 @@ use Rattle.gi_mir.specs.Data.{InstrData, BlockData, FunctionData}
 use Rattle.gi_meaning.specs.State.{World, IsWorld, State, start, Outcome, Going, Fails}
 use Rattle.gi_meaning.specs.Runs.{Setting, setting_of, Steps, Progress, On, Left, Over, After, Executes, phis_of, joined, is_among, Follows, RunsAfterPhis, RunsBlock, Enters}
 use Rattle.gi_refine.specs.Refinement.{IsRefinement}
-use Rattle.gi_refine.specs.Simulation.{Stands, IsFollowed, PhisStand, IsBlockFollowed, PlaceFollowed, AreFollowed}
+use Rattle.gi_refine.specs.Simulation.{Stands, IsFollowed, PhisStand, IsBlockFollowed, RunsFrom, RunsThrough, PlaceFollowed, AreFollowed}
 use Rattle.gi_refine.proofs.Failing.{may_from_fails}
 
 -- ══ Lists of instructions one after the other ══
@@ -96,6 +96,20 @@ ends s s' w entry middle after exit b old new followed enters enters' on (Left c
 ends s s' w entry middle after exit b old new followed enters enters' on (Over q) (On σ') o stands run = absurd stands
 ends s s' w entry middle after exit b old new followed enters enters' on (Over q) (Left d σ') o stands run = absurd stands
 ends s s' w entry middle after exit b old new followed enters enters' on (Over q) (Over r) o stands run = inl (run ∙ sym stands)
+
+-- what a block does from related states at its entry
+runs_on : (s s' : Setting) (w : World) (entry : Option ℕ → ℕ → State → State → Type 0) (middle after : State → State → Type 0) (exit : ℕ → State → State → Type 0) (b : ℕ) (old new : BlockData)
+    → IsBlockFollowed s s' w entry middle after exit b old new → (σ σ' : Option State) (p' : Progress) → PhisStand middle σ σ' → RunsFrom s' w new σ' p'
+    → ((p : Progress) × RunsFrom s w old σ p × Stands after exit p p') ⊎ RunsFrom s w old σ (Over Fails)
+runs_on s s' w entry middle after exit b old new followed None σ' p' stands run = inr refl
+runs_on s s' w entry middle after exit b old new followed (Some σ) None p' stands run = absurd stands
+runs_on s s' w entry middle after exit b old new followed (Some σ) (Some σ') p' stands run = followed.body.by σ σ' stands p' run
+
+pub block_on : (s s' : Setting) (w : World) (entry : Option ℕ → ℕ → State → State → Type 0) (middle after : State → State → Type 0) (exit : ℕ → State → State → Type 0) (b : ℕ) (old new : BlockData)
+    → IsBlockFollowed s s' w entry middle after exit b old new → (from : Option ℕ) (state state' : State) → entry from b state state' → (p' : Progress) → RunsThrough s' w new from state' p'
+    → ((p : Progress) × RunsThrough s w old from state p × Stands after exit p p') ⊎ RunsThrough s w old from state (Over Fails)
+block_on s s' w entry middle after exit b old new followed from state state' related p' run =
+    runs_on s s' w entry middle after exit b old new followed (joined state from (phis_of old.instrs)) (joined state' from (phis_of new.instrs)) p' (followed.phis from state state' related) run
 
 -- the body of a block, from related states after the phis
 body_on : (s s' : Setting) (w : World) (entry : Option ℕ → ℕ → State → State → Type 0) (middle after : State → State → Type 0) (exit : ℕ → State → State → Type 0) (b : ℕ) (old new : BlockData)

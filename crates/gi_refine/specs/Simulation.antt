@@ -34,6 +34,15 @@ pub record IsBlockFollowed (s s' : Setting) (w : World) (entry : Option ℕ → 
   pub falls : is_among (b + 1) old.successors ≡ true → (state state' : State) → after state state' → entry (Some b) (b + 1) state state'
   pub leaves : (c : ℕ) (state state' : State) → exit c state state' → entry (Some b) c state state'
 
+-- A block runs from a state at its entry, by the block that was left: its phis give a state, from which its other
+-- instructions run.
+abbrev pub RunsFrom : Setting → World → BlockData → (middle : Option State) → Progress → Type 0
+RunsFrom s w block None progress = progress ≡ Over Fails
+RunsFrom s w block (Some middle) progress = Executes s w (after_phis block.instrs) middle progress
+
+abbrev pub RunsThrough : Setting → World → BlockData → (from : Option ℕ) → State → Progress → Type 0
+RunsThrough s w block from state progress = RunsFrom s w block (joined state from (phis_of block.instrs)) progress
+
 -- where the old function has a block, the new one has a block that it follows
 abbrev pub PlaceFollowed : (s s' : Setting) (w : World) (entry : Option ℕ → ℕ → State → State → Type 0) (middle after : State → State → Type 0) (exit : ℕ → State → State → Type 0) (b : ℕ) → (old new : Option BlockData) → Type 0
 PlaceFollowed s s' w entry middle after exit b None new = Unit {0}

@@ -1,13 +1,13 @@
 //! The laws.
 
-ghost use Rattle.std.specs.Prelude.{◌≡◌, ◌↔◌, ◌++◌, ◌∷◌, [], ℕ, Bool, List, None};
-ghost use Rattle.gi_mir.specs.Data.{FunctionData, InstrData};
+ghost use Rattle.std.specs.Prelude.{◌≡◌, ◌↔◌, ◌⊎◌, ◌++◌, ◌∷◌, [], ℕ, Bool, List, Option, None};
+ghost use Rattle.gi_mir.specs.Data.{BlockData, FunctionData, InstrData};
 ghost use Rattle.gi_meaning.specs.Meaning.{meaning_of};
-ghost use Rattle.gi_meaning.specs.Runs.{MayFail, Runs, Setting, setting_of, written_places};
-ghost use Rattle.gi_meaning.specs.State.{World, IsWorld, Fails, Place, start};
+ghost use Rattle.gi_meaning.specs.Runs.{MayFail, Over, Progress, Runs, Setting, setting_of, written_places};
+ghost use Rattle.gi_meaning.specs.State.{World, IsWorld, Fails, Place, State, start};
 ghost use Rattle.gi_refine.specs.Agreement.{Agree, AgreeAt, AgreeEntering, AreAlike, AreSeen, all_shown, read_places, setting};
 ghost use Rattle.gi_refine.specs.Refinement.{IsRefinement};
-ghost use Rattle.gi_refine.specs.Simulation.{AreFollowed, IsFollowed};
+ghost use Rattle.gi_refine.specs.Simulation.{AreFollowed, IsBlockFollowed, IsFollowed, RunsThrough, Stands};
 
 /// A function may fail exactly where it runs to what is undefined: no prefix of the trace and no smaller number
 /// of block entries adds anything.
@@ -42,6 +42,16 @@ pub fn same_instruction_follows()
         → IsFollowed (setting x names old) (setting x names new) world (Agree (setting x names old) (setting x names new) hidden)
         (Agree (setting x names old) (setting x names new) (all_shown hidden (written_places (meaning_of i.1.flags i.1.op) i.1.operands)))
         (AgreeAt (setting x names old) (setting x names new) (λ b. hidden)) (i ∷ []) (j ∷ []) }
+{}
+
+/// A block follows another where its phis and its body do: whatever the new block does from a state, the old does
+/// from each state that it agrees with at its entry, or it fails.
+pub fn block_follows()
+    ensures { (s t : Setting) (world : World) (entry : ℕ → Place → Bool) (middle after : Place → Bool) (out : ℕ → Place → Bool) (b : ℕ) (old new : BlockData)
+        → IsBlockFollowed s t world (AgreeEntering s t entry) (Agree s t middle) (Agree s t after) (AgreeAt s t out) b old new
+        → (from : Option ℕ) (state other : State) → Agree s t (entry b) state other → (end : Progress) → RunsThrough t world new from other end
+        → ((old_end : Progress) × RunsThrough s world old from state old_end × Stands (Agree s t after) (AgreeAt s t out) old_end end)
+        ⊎ RunsThrough s world old from state (Over Fails) }
 {}
 
 /// Where each block follows, from states that agree at its entry to states that agree at the entry of the next,

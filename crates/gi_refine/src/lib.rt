@@ -20,8 +20,8 @@ pub use free_examples::{free_choices_come_to, routines_come_to};
 pub use idle::no_premise_is_idle;
 pub use idle_values::no_premise_of_values_is_idle;
 pub use laws::{
-    may_fail_is_failing, pieces_follow, refinement_is_reflexive, refinement_is_transitive,
-    same_instruction_follows, whole_runs_follow,
+    block_follows, may_fail_is_failing, pieces_follow, refinement_is_reflexive,
+    refinement_is_transitive, same_instruction_follows, whole_runs_follow,
 };
 pub use lifted::lifted_rules_hold;
 pub use rewriting::{
