@@ -1,0 +1,2 @@
+pub mod Materialised
+pub mod Steps

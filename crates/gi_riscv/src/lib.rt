@@ -1,0 +1,6 @@
+//! RISC-V: constants by instructions.
+#![tactic(auto)]
+
+mod materialise;
+
+pub use materialise::{Sequence, Step, materialise};
