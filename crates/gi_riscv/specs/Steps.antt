@@ -8,8 +8,8 @@ use Rattle.gi_meaning.specs.Argument.{Argument, Value, Number}
 use Rattle.gi_meaning.specs.Given.{Given, one}
 use Rattle.gi_meaning.specs.Meaning.{meaning_of}
 use Rattle.gi_meaning.specs.Words.{word_given}
-use Rattle.gi_riscv.specs.declared.materialise.Step.{Step}
-use Rattle.gi_riscv.specs.declared.materialise.Step.TheVariants.{Lui, Addi, Addiw, Slli}
+use Rattle.gi_riscv.specs.declared.constants.Step.{Step}
+use Rattle.gi_riscv.specs.declared.constants.Step.TheVariants.{Lui, Addi, Addiw, Slli}
 
 -- the instruction of a step
 abbrev pub opcode_of : Step → Opcode

@@ -1,6 +1,6 @@
 //! RISC-V: constants by instructions.
 #![tactic(auto)]
 
-mod materialise;
+mod constants;
 
-pub use materialise::{Sequence, Step, materialise};
+pub use constants::{Sequence, Step, materialise};
