@@ -1,4 +1,5 @@
 pub mod Examples
+pub mod Making
 pub mod Parts
 pub mod Rounds
 pub mod Words

@@ -1,14 +1,14 @@
 -- The words that LUI, ADDI, ADDIW and SLLI make of the parts of a number.
-use Rattle.std.proofs.Common.{◌≡◌, ℕ, zero, suc, ◌+◌, ◌-◌, ◌*◌, ◌/◌, ◌%◌, ◌^◌, ◌<◌, ◌≤◌, inl, inr, refl, sym, ap, ◌∙◌, arith, ℤ, pos, negsuc, neg_ℤ, nat_abs, ◌+ℤ◌, ◌-ℤ◌, ◌*ℤ◌, ◌≤ℤ◌, lit<, true}
+use Rattle.std.proofs.Common.{◌≡◌, ℕ, suc, ◌+◌, ◌-◌, ◌*◌, ◌/◌, ◌%◌, ◌^◌, ◌<◌, ◌≤◌, inl, inr, refl, sym, ap, ◌∙◌, arith, ℤ, pos, negsuc, neg_ℤ, ◌+ℤ◌, ◌*ℤ◌, ◌≤ℤ◌, true}
 use Rattle.std.specs.Int.{int_shr}
 use Rattle.std.proofs.lemmas.Bool.{cases_lt}
 use Rattle.std.proofs.lemmas.Int.{ints}
 use Rattle.std.proofs.lemmas.Nat.{pow-add, pow_pos, shr_le}
-use Rattle.std.proofs.Math.Nat.{mul-mod_left, mod-eq_of_lt, mod-add-div', add-mul-mod_self_left, mul-sub, mul_comm}
+use Rattle.std.proofs.Math.Nat.{mul-mod_left, mod-eq_of_lt, mod-add-div', add-mul-mod_self_left, mul-sub}
 use Rattle.gi_llt.specs.Bits.{signed, unsigned, sign_extended}
 use Rattle.gi_meaning.proofs.Numbers.{signed-low, signed-high, unsigned_below, unsigned-neg, mod-step}
-use Rattle.gi_riscv.specs.Materialised.{low_part, high_part, fits_32, rest_of}
-use Rattle.gi_riscv.proofs.Parts.{parts, sum_64}
+use Rattle.gi_riscv.specs.Materialised.{low_part, high_part, fits_32}
+use Rattle.gi_riscv.proofs.Parts.{parts}
 
 -- a word that is read with a sign is the bits of its number
 pub unsigned_signed : (x word : ℕ) → word < 2 ^ x → unsigned x (signed x word) ≡ word
@@ -19,7 +19,7 @@ unsigned_signed x word fits = elim (cases_lt word (2 ^ (x - 1))) [
       let size : (2 ^ x - word) % 2 ^ x ≡ 2 ^ x - word = mod-eq_of_lt (omega (arith, some, fits)) in
       let bits : unsigned x (neg_ℤ (pos (2 ^ x - word))) ≡ 2 ^ x - 1 - ((2 ^ x - word) % 2 ^ x - 1) = unsigned-neg x (2 ^ x - word) (omega (arith, size, fits)) in
       ap (unsigned x) (signed-high x word h) ∙ omega (arith, bits, size, some, fits)
-    )
+      )
 ]
 
 -- ══ The upper 20 bits and the lower 12 ══
@@ -70,7 +70,7 @@ complement_even rest k fits below even =
     let p : 2 ^ 64 ≡ 2 ^ (64 - k) * m = ap (λ j. 2 ^ j) (sym e) ∙ pow-add 2 (64 - k) k in
     let whole : rest / m * m ≡ rest = omega (arith, mod-add-div' rest m, even) in
     let d : 2 ^ 64 - rest ≡ (2 ^ (64 - k) - rest / m) * m =
-        omega (arith, p, whole, mul-sub m (2 ^ (64 - k)) (rest / m)) in
+    omega (arith, p, whole, mul-sub m (2 ^ (64 - k)) (rest / m)) in
     ap (λ j. j % m) d ∙ mul-mod_left (2 ^ (64 - k) - rest / m) m
 
 negative_back : (rest k : ℕ) → rest < 2 ^ 64 → k < 64 → rest % 2 ^ k ≡ 0
@@ -84,7 +84,7 @@ negative_back rest k fits below even =
     let q : a % m + a / m * m ≡ a = mod-add-div' a m in
     let least : a / m ≤ a = shr_le a k in
     let product : (2 ^ 64 - 1 - a / m) * m ≡ rest + 2 ^ 64 * (m - 1) =
-        omega (arith, r, q, least, some, mul-sub m (2 ^ 64 - 1) (a / m)) in
+    omega (arith, r, q, least, some, mul-sub m (2 ^ 64 - 1) (a / m)) in
     ap (λ j. j % 2 ^ 64) product ∙ (add-mul-mod_self_left rest (2 ^ 64) (m - 1) ∙ mod-eq_of_lt fits)
 
 -- the zeros that were shifted out come back
@@ -95,12 +95,12 @@ shifted_back rest k fits below even = elim (cases_lt rest (2 ^ 63)) [
       let whole : rest / 2 ^ k * 2 ^ k ≡ rest = omega (arith, mod-add-div' rest (2 ^ k), even) in
       ap (λ z. unsigned 64 (int_shr z k) * 2 ^ k % 2 ^ 64) (signed-low 64 rest h)
       ∙ (ap (λ m. m * 2 ^ k % 2 ^ 64) small ∙ (ap (λ m. m % 2 ^ 64) whole ∙ mod-eq_of_lt fits))
-    )
+      )
   | inr h ↦ (
       let a = 2 ^ 64 - rest - 1 in
       let size : 2 ^ 64 - rest ≡ suc a = omega arith in
       let small : a / 2 ^ k % 2 ^ 64 ≡ a / 2 ^ k = mod-eq_of_lt (omega (arith, shr_le a k)) in
       ap (λ z. unsigned 64 (int_shr z k) * 2 ^ k % 2 ^ 64) (signed-high 64 rest h ∙ ap (λ m. neg_ℤ (pos m)) size)
       ∙ (ap (λ m. (2 ^ 64 - 1 - m) * 2 ^ k % 2 ^ 64) small ∙ negative_back rest k fits below even)
-    )
+      )
 ]

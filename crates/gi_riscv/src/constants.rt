@@ -166,6 +166,7 @@ pub fn materialise(target: Target, word: u128) -> Sequence
     requires fits { word < 2 ^ target.xlen }
     ensures count { result.count ≤ 8 }
     ensures steps { take result.count result.steps ≡ materialised target.xlen word }
+    ensures made { Make target.xlen 0 (take result.count result.steps) word }
 {
     let mut sequence = Sequence::empty();
     append(&mut sequence, target, 3, number_of(target, word));
