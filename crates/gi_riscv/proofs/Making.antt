@@ -7,7 +7,7 @@ use Rattle.gi_llt.specs.Bits.{signed, unsigned, sign_extended}
 use Rattle.gi_meaning.specs.Given.{one}
 use Rattle.gi_meaning.specs.Machine.{is_immediate}
 use Rattle.gi_meaning.proofs.Numbers.{unsigned_below, signed-low, signed-high, nat_abs-neg}
-use Rattle.gi_riscv.specs.Materialised.{low_part, high_part, fits_32, is_zero, unless_zero, upper_and_lower, rest_of, zeros_of, next_of, steps_in, materialised}
+use Rattle.gi_riscv.specs.Materialised.{low_part, high_part, fits_32, is_zero, unless_zero, upper_and_lower, without_low, zeros_of, next_of, steps_in, materialised}
 use Rattle.gi_riscv.specs.Steps.{Make, step_gives}
 use Rattle.gi_riscv.specs.declared.constants.Step.{Step}
 use Rattle.gi_riscv.specs.declared.constants.Step.TheVariants.{Lui, Addi, Addiw, Slli}
@@ -103,15 +103,15 @@ make_upper_64 v fits =
 make_round : (v : ℤ) → nat_abs v ≤ 2 ^ 63 → fits_32 v ≡ false
     → Make 64 (unsigned 64 (next_of v)) (Slli (zeros_of v) ∷ unless_zero (low_part v) (Addi (low_part v))) (unsigned 64 v)
 make_round v within wide =
-    let ends : Ends (rest_of v) (zeros_of v) = rest_ends v within wide in
-    let fits : rest_of v < 2 ^ 64 = unsigned_below 64 (v -ℤ low_part v) in
-    let back : unsigned 64 (next_of v) * 2 ^ zeros_of v % 2 ^ 64 ≡ rest_of v = shifted_back (rest_of v) (zeros_of v) fits ends.below ends.none_left in
-    let sum : (rest_of v + unsigned 64 (low_part v)) % 2 ^ 64 ≡ unsigned 64 v = sum_64 v (v -ℤ low_part v) (low_part v) (omega (arith, ints)) in (
-      rest_of v,
+    let ends : Ends (without_low v) (zeros_of v) = rest_ends v within wide in
+    let fits : without_low v < 2 ^ 64 = unsigned_below 64 (v -ℤ low_part v) in
+    let back : unsigned 64 (next_of v) * 2 ^ zeros_of v % 2 ^ 64 ≡ without_low v = shifted_back (without_low v) (zeros_of v) fits ends.below ends.none_left in
+    let sum : (without_low v + unsigned 64 (low_part v)) % 2 ^ 64 ≡ unsigned 64 v = sum_64 v (v -ℤ low_part v) (low_part v) (omega (arith, ints)) in (
+      without_low v,
       slli_gives (unsigned 64 (next_of v)) (zeros_of v) ends.below ∙ ap one back,
-      make_unless_zero 64 (rest_of v) (unsigned 64 v) (low_part v) (Addi (low_part v))
+      make_unless_zero 64 (without_low v) (unsigned 64 v) (low_part v) (Addi (low_part v))
           (λ e. omega (arith, sum, fits, ap (unsigned 64) e))
-          (addi_gives 64 (rest_of v) (low_part v) (immediate_low v) ∙ ap one sum),
+          (addi_gives 64 (without_low v) (low_part v) (immediate_low v) ∙ ap one sum),
     )
 
 steps_make_32 : (rounds : ℕ) (v : ℤ) → fits_32 v ≡ true → Make 32 0 (steps_in rounds 32 v) (unsigned 32 v)

@@ -11,7 +11,7 @@ use Rattle.std.proofs.lemmas.Nat.Bits.{bit_at-trailing_zeros}
 use Rattle.std.proofs.Math.Nat.{mul_assoc, mul-le-mul_left, div-mul-le_self, pow-le-pow_right}
 use Rattle.gi_llt.specs.Bits.{signed}
 use Rattle.gi_meaning.proofs.Numbers.{unsigned_below}
-use Rattle.gi_riscv.specs.Materialised.{low_part, high_part, lower, rest_of, zeros_of, next_of, fits_32, upper_and_lower, unless_zero, steps_in}
+use Rattle.gi_riscv.specs.Materialised.{low_part, high_part, lower, without_low, zeros_of, next_of, fits_32, upper_and_lower, unless_zero, steps_in}
 use Rattle.gi_meaning.specs.Machine.{is_immediate}
 use Rattle.gi_riscv.specs.declared.constants.Step.{Step}
 use Rattle.gi_riscv.specs.declared.constants.Step.TheVariants.{Lui, Addi, Slli}
@@ -55,8 +55,8 @@ ends n some fits = let (b, o, z) = bit_at-trailing_zeros w64 n some fits in
     record { below = b; none_left = no_bits_below n (trailing_zeros w64 n) z; at_least = λ e. bit_not_below n (trailing_zeros w64 n) e o }
 
 -- a number of more than 32 bits has a rest
-rest_some : (v : ℤ) → nat_abs v ≤ 2 ^ 63 → fits_32 v ≡ false → 0 < rest_of v
-rest_some v within wide = elim (cases_lt 0 (rest_of v)) [
+rest_some : (v : ℤ) → nat_abs v ≤ 2 ^ 63 → fits_32 v ≡ false → 0 < without_low v
+rest_some v within wide = elim (cases_lt 0 (without_low v)) [
   | inl h ↦ h
   | inr h ↦ absurd (
       let (q, e, a, b) = parts v in
@@ -68,8 +68,8 @@ rest_some v within wide = elim (cases_lt 0 (rest_of v)) [
       )
 ]
 
-pub rest_ends : (v : ℤ) → nat_abs v ≤ 2 ^ 63 → fits_32 v ≡ false → Ends (rest_of v) (zeros_of v)
-rest_ends v within wide = ends (rest_of v) (rest_some v within wide) (unsigned_below 64 (v -ℤ low_part v))
+pub rest_ends : (v : ℤ) → nat_abs v ≤ 2 ^ 63 → fits_32 v ≡ false → Ends (without_low v) (zeros_of v)
+rest_ends v within wide = ends (without_low v) (rest_some v within wide) (unsigned_below 64 (v -ℤ low_part v))
 
 pub twelve_zeros : (v : ℤ) → nat_abs v ≤ 2 ^ 63 → fits_32 v ≡ false → 12 ≤ zeros_of v
 twelve_zeros v within wide = let (q, e, a, b) = parts v in
@@ -91,8 +91,8 @@ next_within v m h l wide =
     let (q, e, a, b) = parts v in
     let within : nat_abs v ≤ 2 ^ 63 = omega arith in
     let d : nat_abs (v -ℤ low_part v) ≤ nat_abs v + 2048 = nat_abs-difference v (low_part v) a b in
-    let r : nat_abs (signed 64 (rest_of v)) ≤ m + 2048 = back_within (v -ℤ low_part v) (m + 2048) (omega arith) (omega arith) in
-    let s : nat_abs (next_of v) ≤ nat_abs (signed 64 (rest_of v)) / 4096 + 1 = shift_within (signed 64 (rest_of v)) (zeros_of v) (twelve_zeros v within wide) in
+    let r : nat_abs (signed 64 (without_low v)) ≤ m + 2048 = back_within (v -ℤ low_part v) (m + 2048) (omega arith) (omega arith) in
+    let s : nat_abs (next_of v) ≤ nat_abs (signed 64 (without_low v)) / 4096 + 1 = shift_within (signed 64 (without_low v)) (zeros_of v) (twelve_zeros v within wide) in
     omega arith
 
 -- a number of more than 32 bits has a round left
@@ -159,7 +159,7 @@ round_joined s s1 s2 s3 rounds x amount v low next p i f is_zeros is_low is_next
     ∙ ap (λ m. s ++ m) (sym (steps_of_more rounds x v p i f)))))
 
 -- the next number, as a program that shifts a word of 64 bits has it
-pub passed_next : (rest : ℤ) (amount : ℕ) (v : ℤ) → FitsSigned w64 rest → rest ≡ signed 64 (rest_of v) → amount ≡ zeros_of v
+pub passed_next : (rest : ℤ) (amount : ℕ) (v : ℤ) → FitsSigned w64 rest → rest ≡ signed 64 (without_low v) → amount ≡ zeros_of v
     → to_z w64 (of_z w64 (int_shr (to_z w64 (of_z w64 rest)) amount)) ≡ next_of v
 passed_next rest amount v fits is_rest is_zeros =
     let same : to_z w64 (of_z w64 rest) ≡ rest = to_z-of_z w64 rest fits in

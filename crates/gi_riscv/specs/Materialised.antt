@@ -37,16 +37,16 @@ abbrev pub upper_and_lower : (x : ℕ) → ℤ → List Step
 upper_and_lower x v = Lui (high_part v) ∷ unless_zero (low_part v) (lower x (low_part v))
 
 -- the number without its low part, as one of 64 bits
-abbrev pub rest_of : ℤ → ℕ
-rest_of v = unsigned 64 (v -ℤ low_part v)
+abbrev pub without_low : ℤ → ℕ
+without_low v = unsigned 64 (v -ℤ low_part v)
 
 -- how many zeros that ends with
 abbrev pub zeros_of : ℤ → ℕ
-zeros_of v = trailing_zeros w64 (rest_of v)
+zeros_of v = trailing_zeros w64 (without_low v)
 
 -- and what is above them, with the sign
 abbrev pub next_of : ℤ → ℤ
-next_of v = int_shr (signed 64 (rest_of v)) (zeros_of v)
+next_of v = int_shr (signed 64 (without_low v)) (zeros_of v)
 
 -- The steps for a number with a sign. One of more than 32 bits is what is above the zeros, shifted left again, and
 -- the low part. Each round takes 12 bits or more off, so three do for 64 bits.

@@ -3,7 +3,7 @@
 ghost use Rattle.std.specs.Prelude.{◌≡◌, ◌<◌, ◌≤◌, ◌+◌, ◌*◌, ◌^◌, ◌⊎◌, ◌∷◌, [], ◌++◌, take, nat_abs, IsTrue};
 ghost use Rattle.gi_llt.specs.Bits.{signed};
 ghost use Rattle.gi_meaning.specs.Machine as machine;
-ghost use Rattle.gi_riscv.specs.Materialised.{materialised, low_part, high_part, fits_32, unless_zero, lower, upper_and_lower, rest_of, zeros_of, steps_in};
+ghost use Rattle.gi_riscv.specs.Materialised.{materialised, low_part, high_part, fits_32, unless_zero, lower, upper_and_lower, without_low, zeros_of, steps_in};
 ghost use Rattle.gi_riscv.specs.Steps.{Make};
 
 use gi_llt::Target;
@@ -79,8 +79,8 @@ fn fits_32(number: i64) -> bool
 }
 
 // The number without its low part.
-fn rest_of(number: i64) -> i64
-    ensures { result ≡ signed 64 (rest_of number) }
+fn without_low(number: i64) -> i64
+    ensures { result ≡ signed 64 (without_low number) }
 {
     number.wrapping_sub(i64::from(low_part(number)))
 }
@@ -89,7 +89,7 @@ fn rest_of(number: i64) -> i64
 fn zeros_of(number: i64) -> u8
     ensures { result ≡ zeros_of number }
 {
-    rest_of(number).trailing_zeros() as u8
+    without_low(number).trailing_zeros() as u8
 }
 
 // Adds the step that adds a low part, where there is something to add.
@@ -141,7 +141,7 @@ fn append(sequence: &mut Sequence, target: Target, rounds: u8, number: i64)
     }
     let low = low_part(number);
     let zeros = zeros_of(number);
-    append(sequence, target, rounds - 1, rest_of(number) >> zeros);
+    append(sequence, target, rounds - 1, without_low(number) >> zeros);
     sequence.push(Step::Slli(zeros));
     append_low(sequence, low, Step::Addi(low));
 }
