@@ -5,3 +5,6 @@ mod constants;
 pub mod laws;
 
 pub use constants::{Sequence, Step, materialise};
+
+#[cfg(test)]
+mod tests;
