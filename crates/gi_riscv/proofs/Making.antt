@@ -1,5 +1,6 @@
 -- What sequences of steps make of zero.
 use Rattle.std.proofs.Common.{◌≡◌, ℕ, zero, suc, ◌+◌, ◌-◌, ◌*◌, ◌/◌, ◌%◌, ◌^◌, ◌<◌, ◌≤◌, ◌⊎◌, inl, inr, refl, sym, ap, ap₂, ◌∙◌, subst, arith, ℤ, pos, negsuc, neg_ℤ, nat_abs, ◌-ℤ◌, ◌≤ℤ◌, true, false, List, [], ◌∷◌, ◌++◌}
+use Rattle.std.specs.Ordering.{int_eq}
 use Rattle.std.proofs.lemmas.Bool.{lt-ltb, cases_Bool, cases_lt}
 use Rattle.std.proofs.lemmas.Int.{ints}
 use Rattle.std.proofs.Math.Nat.{mod-eq_of_lt}
@@ -7,7 +8,7 @@ use Rattle.gi_llt.specs.Bits.{signed, unsigned, sign_extended}
 use Rattle.gi_meaning.specs.Given.{one}
 use Rattle.gi_meaning.specs.Machine.{is_immediate}
 use Rattle.gi_meaning.proofs.Numbers.{unsigned_below, signed-low, signed-high, nat_abs-neg}
-use Rattle.gi_riscv.specs.Materialised.{low_part, high_part, fits_32, is_zero, unless_zero, upper_and_lower, without_low, zeros_of, next_of, steps_in, materialised}
+use Rattle.gi_riscv.specs.Materialised.{low_part, high_part, fits_32, unless_zero, upper_and_lower, without_low, zeros_of, next_of, steps_in, materialised}
 use Rattle.gi_riscv.specs.Steps.{Make, step_gives}
 use Rattle.gi_riscv.specs.declared.constants.Step.{Step}
 use Rattle.gi_riscv.specs.declared.constants.Step.TheVariants.{Lui, Addi, Addiw, Slli}
@@ -44,12 +45,12 @@ pub make_appended : (x w middle made : ℕ) (a b : List Step) → Make x w a mid
 make_appended x w middle made [] b e m = subst (λ v. Make x v b made) e m
 make_appended x w middle made (s ∷ a) b (next, g, m) n = (next, g, make_appended x next middle made a b m n)
 
-zero_number : (l : ℤ) → is_zero l ≡ true → l ≡ pos 0
+zero_number : (l : ℤ) → int_eq l (pos 0) ≡ true → l ≡ pos 0
 zero_number l h = grind (arith, ints)
 
 -- a step that adds a number, left out where there is nothing to add
 make_unless_zero : (x w made : ℕ) (l : ℤ) (step : Step) → (l ≡ pos 0 → made ≡ w) → step_gives x w step ≡ one made → Make x w (unless_zero l step) made
-make_unless_zero x w made l step none some = elim (cases_Bool (is_zero l)) [
+make_unless_zero x w made l step none some = elim (cases_Bool (int_eq l (pos 0))) [
   | inl h ↦ (rw h (none (zero_number l h)))
   | inr h ↦ (rw h (made, some, refl))
 ]

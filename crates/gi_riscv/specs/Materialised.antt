@@ -1,9 +1,9 @@
 -- The instructions that make a constant from zero.
 -- (RISC-V unprivileged ISA, "Integer Register-Immediate Instructions": LUI and ADDI make any constant of 32 bits. The
 -- way for 64 bits takes the low 12 bits and the zeros above them off again and again.)
-use Rattle.std.specs.Prelude.{ℕ, zero, suc, ◌/◌, ◌==◌, Bool, ◌&&◌, if◌then◌else◌, List, [], ◌∷◌, ◌++◌, ℤ, pos, negsuc, ◌-ℤ◌, ◌+ℤ◌, int_le}
-use Rattle.std.specs.Int.{int_shr, trailing_zeros}
-use mir.Syntax.{w64}
+use Rattle.std.specs.Prelude.{ℕ, zero, suc, ◌-◌, ◌/◌, ◌^◌, ◌==◌, Bool, ◌&&◌, if◌then◌else◌, List, [], ◌∷◌, ◌++◌, ℤ, pos, negsuc, ◌-ℤ◌, ◌+ℤ◌, int_le}
+use Rattle.std.specs.Int.{int_shr, trailing_zeros, w64}
+use Rattle.std.specs.Ordering.{int_eq}
 use Rattle.gi_llt.specs.Bits.{signed, unsigned}
 use Rattle.gi_meaning.specs.Machine.{is_immediate}
 use Rattle.gi_riscv.specs.declared.constants.Step.{Step}
@@ -17,16 +17,13 @@ low_part v = signed 12 (unsigned 12 v)
 abbrev pub high_part : ℤ → ℕ
 high_part v = unsigned 32 (v +ℤ pos 2048) / 4096
 
--- a number of 32 bits with a sign
+-- a number of 32 bits with a sign, from -2 ^ 31 on
 abbrev pub fits_32 : ℤ → Bool
-fits_32 v = int_le (negsuc 2147483647) v && int_le v (pos 2147483647)
-
-abbrev pub is_zero : ℤ → Bool
-is_zero v = int_le (pos 0) v && int_le v (pos 0)
+fits_32 v = int_le (negsuc (2 ^ 31 - 1)) v && int_le v (pos (2 ^ 31 - 1))
 
 -- nothing where there is nothing to add
 abbrev pub unless_zero : ℤ → Step → List Step
-unless_zero low step = if is_zero low then [] else step ∷ []
+unless_zero low step = if int_eq low (pos 0) then [] else step ∷ []
 
 -- adds the low part to what LUI gives; on RV64 in the low halves of words, since LUI extends its sign
 abbrev pub lower : (x : ℕ) → ℤ → Step
