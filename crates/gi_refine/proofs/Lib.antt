@@ -4,7 +4,6 @@ pub mod CallRule
 pub mod CallRuns
 pub mod Choosing
 pub mod Classed
-pub mod Computing
 pub mod ConstantsHeld
 pub mod Covering
 pub mod Doing
