@@ -1,5 +1,7 @@
 -- What is worked out is what a run comes to, and nothing else.
 use Rattle.std.proofs.Common.{◌≡◌, ℕ, zero, suc, ◌+◌, ◌/◌, ◌%◌, ◌^◌, ◌<◌, Bool, true, false, not, cond, ◌&&◌, nat_lt, List, [], ◌∷◌, map, Option, Some, None, slice_get, ⊎_elim, refl, sym, ap, ap₂, ◌∙◌, subst}
+use Rattle.std.proofs.lemmas.Bool.{and_parts, not-true}
+use Rattle.std.proofs.lemmas.Option.{none-some}
 use Rattle.gi_llt.specs.Bits.{wrapped, unsigned}
 use Rattle.gi_llt.specs.Llt.{width_of}
 use Rattle.gi_mir.specs.Data.{InstrData, BlockData, FunctionData}
@@ -15,7 +17,7 @@ use Rattle.gi_meaning.specs.Runs.{Setting, setting_of, arguments_of, written_pla
 use Rattle.gi_refine.specs.Evaluation.{exact, exact_words, are_whole, store_there, store_at, generic_store, machine_store, answered, progress_by, step_from, step_of, then_on, steps_of, followed_by, after_phis_of, block_of_run, entered, outcome_of}
 use Rattle.gi_refine.specs.Outcomes.{ComesTo}
 use Rattle.gi_refine.specs.Refinement.{IsRefinement}
-use Rattle.gi_refine.proofs.Basics.{both_true, none_some, not_true, some_is}
+use Rattle.gi_refine.proofs.Basics.{some_is}
 use Rattle.gi_refine.proofs.Doing.{ActsSo, Does, does_from, DoesAll, does_none, does_next, does_leave, does_end}
 use Rattle.gi_refine.proofs.Failing.{fails_from_may}
 
@@ -38,7 +40,7 @@ exact_so : (g : Given) (outside : Outside) (a : Answer) → exact g outside ≡ 
 exact_so (Exactly results) outside a h =
     let same : a ≡ Results results outside = some_is (Results results outside) a h in
     record { can = (results, refl, same); only = λ other given. given.2 ∙ ap (λ rs. Results rs outside) given.1 ∙ sym same }
-exact_so (LowBits known width value) outside a h = absurd (none_some a h)
+exact_so (LowBits known width value) outside a h = absurd (none-some a h)
 exact_so Undefined outside a h =
     let same : a ≡ Breaks = some_is Breaks a h in record { can = same; only = λ other given. given ∙ sym same }
 
@@ -46,7 +48,7 @@ exact_words_so : (x : ℕ) (widths : List ℕ) (g : Given) (outside : Outside) (
 exact_words_so x widths (Exactly words) outside a h =
     let same : a ≡ Results (all_fitted x widths words) outside = some_is (Results (all_fitted x widths words) outside) a h in
     record { can = (words, refl, same); only = λ other given. given.2 ∙ ap (λ ws. Results (all_fitted x widths ws) outside) given.1 ∙ sym same }
-exact_words_so x widths (LowBits known width value) outside a h = absurd (none_some a h)
+exact_words_so x widths (LowBits known width value) outside a h = absurd (none-some a h)
 exact_words_so x widths Undefined outside a h =
     let same : a ≡ Breaks = some_is Breaks a h in record { can = same; only = λ other given. given ∙ sym same }
 
@@ -55,10 +57,10 @@ exact_words_so x widths Undefined outside a h =
 reads_whole : (x : ℕ) (arguments : List Argument) → are_whole x arguments ≡ true → AllReadAs x arguments arguments
 reads_whole x [] h = refl
 reads_whole x (Value width value ∷ arguments) h =
-    let each : (not (nat_lt width x) ≡ true) × (are_whole x arguments ≡ true) = both_true (not (nat_lt width x)) (are_whole x arguments) h in (
+    let each : (not (nat_lt width x) ≡ true) × (are_whole x arguments ≡ true) = and_parts (not (nat_lt width x)) (are_whole x arguments) h in (
       Value width value,
       arguments,
-      subst (λ b. cond b ((word : ℕ) × (word < 2 ^ x) × (word % 2 ^ width ≡ value) × (Value width value ≡ Value x word)) (Value width value ≡ Value width value)) (sym (not_true (nat_lt width x) each.0)) refl,
+      subst (λ b. cond b ((word : ℕ) × (word < 2 ^ x) × (word % 2 ^ width ≡ value) × (Value width value ≡ Value x word)) (Value width value ≡ Value width value)) (sym (not-true (nat_lt width x) each.0)) refl,
       reads_whole x arguments each.1,
       refl,
     )
@@ -68,9 +70,9 @@ reads_whole x (a ∷ arguments) h = (a, arguments, refl, reads_whole x arguments
 reads_only : (x : ℕ) (arguments words : List Argument) → are_whole x arguments ≡ true → AllReadAs x arguments words → words ≡ arguments
 reads_only x [] words h reads = reads
 reads_only x (Value width value ∷ arguments) words h reads =
-    let each : (not (nat_lt width x) ≡ true) × (are_whole x arguments ≡ true) = both_true (not (nat_lt width x)) (are_whole x arguments) h in
+    let each : (not (nat_lt width x) ≡ true) × (are_whole x arguments ≡ true) = and_parts (not (nat_lt width x)) (are_whole x arguments) h in
     reads.4 ∙ ap₂ (λ k ks. k ∷ ks)
-    (subst (λ b. cond b ((word : ℕ) × (word < 2 ^ x) × (word % 2 ^ width ≡ value) × (reads.0 ≡ Value x word)) (reads.0 ≡ Value width value)) (not_true (nat_lt width x) each.0) reads.2)
+    (subst (λ b. cond b ((word : ℕ) × (word < 2 ^ x) × (word % 2 ^ width ≡ value) × (reads.0 ≡ Value x word)) (reads.0 ≡ Value width value)) (not-true (nat_lt width x) each.0) reads.2)
     (reads_only x arguments reads.1 each.1 reads.3)
 reads_only x (Number z ∷ arguments) words h reads = reads.4 ∙ ap₂ (λ k ks. k ∷ ks) reads.2 (reads_only x arguments reads.1 h reads.3)
 reads_only x (a ∷ arguments) words h reads = reads.4 ∙ ap₂ (λ k ks. k ∷ ks) reads.2 (reads_only x arguments reads.1 h reads.3)
@@ -86,7 +88,7 @@ whole_so x arguments P answer a so h = at (are_whole x arguments) refl h
       can = (arguments, reads_whole x arguments whole, (so a there).can);
       only = λ other given. (so a there).only other (subst (λ words. P words other) (reads_only x arguments given.0 whole given.1) given.2);
     }
-    at false whole there = absurd (none_some a there)
+    at false whole there = absurd (none-some a there)
 
 -- ══ Stores ══
 
@@ -145,7 +147,7 @@ one_way x w Branching mem widths arguments outside a h = named Answer (branch ar
 one_way x w (MachineBranching test) mem widths arguments outside a h =
     whole_so x arguments (λ words other. other ≡ machine_branch x test words outside) (Some (machine_branch x test arguments outside)) a
     (λ b is. named Answer (machine_branch x test arguments outside) b (some_is (machine_branch x test arguments outside) b is)) h
-one_way x w Calling mem widths arguments outside a h = absurd (none_some a h)
+one_way x w Calling mem widths arguments outside a h = absurd (none-some a h)
 one_way x w Returning mem widths arguments outside a h = named Answer (Returns (returned arguments)) a (some_is (Returns (returned arguments)) a h)
 one_way x w Nothing mem widths arguments outside a h = named Answer (Results [] outside) a (some_is (Results [] outside) a h)
 one_way x w Joining mem widths arguments outside a h = named Answer Breaks a (some_is Breaks a h)
@@ -173,7 +175,7 @@ step_so s w i state p h = from (arguments_of s w state i.1.operands) refl h
     by : (arguments : List Argument) → arguments_of s w state i.1.operands ≡ Some arguments → (answer : Option Answer)
         → answered s.x m i.1.mem (map (width_of_place s) (written_places m i.1.operands)) arguments (outside_of state) ≡ answer
         → progress_by state s i.1 answer ≡ Some p → Does s w i state p
-    by arguments read None is there = absurd (none_some p there)
+    by arguments read None is there = absurd (none-some p there)
     by arguments read (Some a) is there =
         does_from s w i state arguments a p read
         (answered_so s.x w m i.1.mem (map (width_of_place s) (written_places m i.1.operands)) arguments (outside_of state) a is)
@@ -185,7 +187,7 @@ step_so s w i state p h = from (arguments_of s w state i.1.operands) refl h
 
 steps_next : (s : Setting) (w : World) (i : ℕ × InstrData) (is : List (ℕ × InstrData)) (state : State) (first : Option Progress) (p : Progress)
     → ((middle : State) → steps_of s w is middle ≡ Some p → DoesAll s w is middle p) → step_of s w i.1 state ≡ first → then_on first (steps_of s w is) ≡ Some p → DoesAll s w (i ∷ is) state p
-steps_next s w i is state None p rest here h = absurd (none_some p h)
+steps_next s w i is state None p rest here h = absurd (none-some p h)
 steps_next s w i is state (Some (On middle)) p rest here h = does_next s w i is state middle p (step_so s w i state (On middle) here) (rest middle h)
 steps_next s w i is state (Some (Left b middle)) p rest here h =
     subst (DoesAll s w (i ∷ is) state) (sym (some_is (Left b middle) p h)) (does_leave s w i is state b middle (step_so s w i state (Left b middle) here))
@@ -215,7 +217,7 @@ follows_so enters worked so b successors (Over over) o h = named Outcome over o 
 
 body_so : (s : Setting) (w : World) (enters : Entering) (worked : Option ℕ → ℕ → State → Option Outcome) → EvaluatesTo enters worked → (b : ℕ) (block : BlockData) (state : State) (o : Outcome)
     → (p : Option Progress) → steps_of s w (after_phis block.instrs) state ≡ p → followed_by b block.successors worked p ≡ Some o → Only Outcome (RunsAfterPhis s w b block enters (Some state)) o
-body_so s w enters worked so b block state o None is h = absurd (none_some o h)
+body_so s w enters worked so b block state o None is h = absurd (none-some o h)
 body_so s w enters worked so b block state o (Some p) is h =
     let does : DoesAll s w (after_phis block.instrs) state p = steps_so s w (after_phis block.instrs) state p is in
     let follows : Only Outcome (Follows b block.successors enters p) o = follows_so enters worked so b block.successors p o h in

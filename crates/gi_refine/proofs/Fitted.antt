@@ -2,9 +2,10 @@
 use Rattle.gi_refine.specs.Lifting.{Reads, AreSized}
 use Rattle.gi_refine.specs.Values.{Environment}
 use Rattle.std.proofs.Common.{◌≡◌, ℕ, zero, suc, ◌+◌, ◌*◌, ◌/◌, ◌^◌, ◌<◌, ◌==◌, Bool, true, false, cond, ◌&&◌, List, [], ◌∷◌, ◌++◌, map, Option, Some, None, option_map, slice_get, ⊎_elim, refl, sym, subst, eqb-true, ◌%◌, ◌||◌, not}
+use Rattle.std.proofs.lemmas.Option.{same_Some}
 use Rattle.std.specs.Prelude.{IfSome, nat_lt, nat_le, pos, int_div, int_rem, nat_abs, not}
 use Rattle.std.proofs.lemmas.Nat.{pow_pos, mod_below}
-use Rattle.std.proofs.lemmas.Bool.{ltb-true}
+use Rattle.std.proofs.lemmas.Bool.{ltb-true, and_parts, or_cases}
 use Rattle.gi_llt.specs.Bits.{wrapped, signed, unsigned}
 use Rattle.gi_mir.specs.Data.{InstrData, BlockData, FunctionData}
 use Rattle.gi_mir.specs.declared.opcode.Opcode.{Opcode}
@@ -25,7 +26,6 @@ use Rattle.gi_refine.specs.Invariant.{GoesOnWith, AllKeep, BlockKeeps}
 use Rattle.gi_refine.specs.Reached.{IsReached}
 use Rattle.gi_refine.proofs.Invariants.{invariant_holds}
 use Rattle.gi_meaning.proofs.Numbers.{unsigned_below}
-use Rattle.gi_refine.proofs.Tests.{both_left, both_right, either, same_some}
 
 -- ══ What operations give ══
 
@@ -318,7 +318,7 @@ constant_fits : (s : Setting) (w : World) (flags : Flags) (o : Opcode) (os : Lis
     → ActsFit s w (record { op = o; flags = flags; operands = os; mem = mem; line = line })
 constant_fits s w flags op.GenericConstant (operand.Def r kind ∷ operand.Constant n v ∷ []) mem line h = λ state fit arguments read small answer act.
     answers_fit (s.width r.0 ∷ []) (one v) (outside_of state) answer (one_fits (s.width r.0) v (ltb-true v (2 ^ s.width r.0) h))
-    (subst (λ list. Answers (constant (s.width r.0 ∷ []) list) (outside_of state) answer) (same_some arguments (Bits n v ∷ []) (sym read)) act)
+    (subst (λ list. Answers (constant (s.width r.0 ∷ []) list) (outside_of state) answer) (same_Some arguments (Bits n v ∷ []) (sym read)) act)
 constant_fits s w flags _ _ mem line h = cc
 
 other_fits : (s : Setting) (w : World) (i : InstrData) (m : Meaning) → meaning_of i.flags i.op ≡ m → MeaningFits m → has_no_words m ≡ true → ActsFit s w i
@@ -330,7 +330,7 @@ instruction_fits s w i (Generic gives) is keeps =
     ⊎_elim
     (λ always. meaning_fits s w i (opcode_fits i.flags i.op always) (subst (λ k. has_no_words k ≡ true) (sym is) refl))
     (λ constant. constant_fits s w i.flags i.op i.operands i.mem i.line constant)
-    (either (always_fits i.op) (is_fitting_constant s.width i.op i.operands) keeps)
+    (or_cases (always_fits i.op) (is_fitting_constant s.width i.op i.operands) keeps)
 instruction_fits s w i Jumping is keeps = other_fits s w i Jumping is tt refl
 instruction_fits s w i Branching is keeps = other_fits s w i Branching is tt refl
 instruction_fits s w i (MachineBranching test) is keeps = other_fits s w i (MachineBranching test) is tt refl
@@ -342,8 +342,8 @@ instructions_fit : (s : Setting) (w : World) → IsWorld s.x w → (is : List (�
 instructions_fit s w is_world [] h = tt
 instructions_fit s w is_world (i ∷ is) h = (
   step_fit s w is_world i.1
-      (instruction_fits s w i.1 (meaning_of i.1.flags i.1.op) refl (both_left (keeps_fit s.width (meaning_of i.1.flags i.1.op) i.1.op i.1.operands) (all_keep_fit s.width is) h)),
-  instructions_fit s w is_world is (both_right (keeps_fit s.width (meaning_of i.1.flags i.1.op) i.1.op i.1.operands) (all_keep_fit s.width is) h),
+      (instruction_fits s w i.1 (meaning_of i.1.flags i.1.op) refl (and_parts (keeps_fit s.width (meaning_of i.1.flags i.1.op) i.1.op i.1.operands) (all_keep_fit s.width is) h).0),
+  instructions_fit s w is_world is (and_parts (keeps_fit s.width (meaning_of i.1.flags i.1.op) i.1.op i.1.operands) (all_keep_fit s.width is) h).1,
 )
 
 -- ══ Phis ══
@@ -366,9 +366,9 @@ entry_fits : (width : ℕ → ℕ) (values : ℕ → Option ℕ) (n from : ℕ) 
     → IfSome (at_register values (entry_for from os)) (λ v. v < 2 ^ n)
 entry_fits width values n from fit [] h = tt
 entry_fits width values n from fit (operand.Use r ∷ operand.Block b ∷ os) h =
-    chosen_fits width values n fit (b == from) r.0 (entry_for from (operand.Block b ∷ os)) (eqb-true (width r.0) n (both_left (width r.0 == n) (uses_have width n os) h))
-    (entry_fits width values n from fit (operand.Block b ∷ os) (both_right (width r.0 == n) (uses_have width n os) h))
-entry_fits width values n from fit (operand.Use r ∷ os) h = entry_fits width values n from fit os (both_right (width r.0 == n) (uses_have width n os) h)
+    chosen_fits width values n fit (b == from) r.0 (entry_for from (operand.Block b ∷ os)) (eqb-true (width r.0) n (and_parts (width r.0 == n) (uses_have width n os) h).0)
+    (entry_fits width values n from fit (operand.Block b ∷ os) (and_parts (width r.0 == n) (uses_have width n os) h).1)
+entry_fits width values n from fit (operand.Use r ∷ os) h = entry_fits width values n from fit os (and_parts (width r.0 == n) (uses_have width n os) h).1
 entry_fits width values n from fit (o ∷ os) h = entry_fits width values n from fit os h
 
 taken_fits : (s : Setting) (state : State) → IsFit s state → (n : ℕ) (from : Option ℕ) (os : List Operand) → uses_have s.width n os ≡ true → IfSome (value_at state (from_block from os)) (λ v. v < 2 ^ n)
@@ -389,8 +389,8 @@ phis_joined_fit : (s : Setting) (state : State) → IsFit s state → (from : Op
 phis_joined_fit s state fit from [] h = fit
 phis_joined_fit s state fit from (i ∷ is) h =
     put_value_fits s (joined state from is) (places_of i.1.operands) (value_at state (from_block from i.1.operands))
-    (phis_joined_fit s state fit from is (both_right (phi_fits s (places_of i.1.operands) i.1.operands) (phis_fit s is) h))
-    (phi_taken_fits s state fit from (places_of i.1.operands) i.1.operands (both_left (phi_fits s (places_of i.1.operands) i.1.operands) (phis_fit s is) h))
+    (phis_joined_fit s state fit from is (and_parts (phi_fits s (places_of i.1.operands) i.1.operands) (phis_fit s is) h).1)
+    (phi_taken_fits s state fit from (places_of i.1.operands) i.1.operands (and_parts (phi_fits s (places_of i.1.operands) i.1.operands) (phis_fit s is) h).0)
 
 -- ══ Functions ══
 
@@ -403,12 +403,12 @@ block_keeps_fit s w is_world block phis body = record {
 blocks_keep_fit : (s : Setting) (w : World) → IsWorld s.x w → (blocks : List BlockData) → blocks_fit s blocks ≡ true → (b : ℕ) (block : BlockData) → slice_get blocks b ≡ Some block → BlockKeeps s w (IsFit s) block
 blocks_keep_fit s w is_world [] h b block here = cc
 blocks_keep_fit s w is_world (k ∷ blocks) h zero block here =
-    subst (BlockKeeps s w (IsFit s)) (same_some k block here)
+    subst (BlockKeeps s w (IsFit s)) (same_Some k block here)
     (block_keeps_fit s w is_world k
-    (both_left (phis_fit s (phis_of k.instrs)) (all_keep_fit s.width (after_phis k.instrs)) (both_left (phis_fit s (phis_of k.instrs) && all_keep_fit s.width (after_phis k.instrs)) (blocks_fit s blocks) h))
-    (both_right (phis_fit s (phis_of k.instrs)) (all_keep_fit s.width (after_phis k.instrs)) (both_left (phis_fit s (phis_of k.instrs) && all_keep_fit s.width (after_phis k.instrs)) (blocks_fit s blocks) h)))
+    (and_parts (phis_fit s (phis_of k.instrs)) (all_keep_fit s.width (after_phis k.instrs)) (and_parts (phis_fit s (phis_of k.instrs) && all_keep_fit s.width (after_phis k.instrs)) (blocks_fit s blocks) h).0).0
+    (and_parts (phis_fit s (phis_of k.instrs)) (all_keep_fit s.width (after_phis k.instrs)) (and_parts (phis_fit s (phis_of k.instrs) && all_keep_fit s.width (after_phis k.instrs)) (blocks_fit s blocks) h).0).1)
 blocks_keep_fit s w is_world (k ∷ blocks) h (suc b) block here =
-    blocks_keep_fit s w is_world blocks (both_right (phis_fit s (phis_of k.instrs) && all_keep_fit s.width (after_phis k.instrs)) (blocks_fit s blocks) h) b block here
+    blocks_keep_fit s w is_world blocks (and_parts (phis_fit s (phis_of k.instrs) && all_keep_fit s.width (after_phis k.instrs)) (blocks_fit s blocks) h).1 b block here
 
 -- wherever runs reach, values fit their widths
 pub fit_where_reached : (x : ℕ) (names : List (List ℕ)) (f : FunctionData) (w : World) → IsWorld x w → blocks_fit (setting_of x names f) f.blocks ≡ true

@@ -1,5 +1,6 @@
 -- For each premise of rewriting piece by piece a case in which all others hold and the new function returns something else.
 use Rattle.std.proofs.Common.{◌≡◌, ℕ, zero, suc, Bool, false, List, [], ◌∷◌, ◌++◌, Option, Some, None, slice_get, refl, ap, lit<}
+use Rattle.std.proofs.lemmas.Bool.{false≢true, eqb-false}
 use Rattle.gi_mir.specs.Data.{InstrData, BlockData, FunctionData}
 use Rattle.gi_mir.specs.declared.opcode.Opcode.TheVariants as op
 use Rattle.gi_mir.specs.declared.operand.Operand.TheVariants as operand
@@ -14,7 +15,6 @@ use Rattle.gi_refine.specs.OnePlace.{only_virtual}
 use Rattle.gi_refine.specs.Reached.{WhereReached}
 use Rattle.gi_refine.specs.Rewriting.{Piece, Kept, Changed, old_of, Covers, PieceFollows, PiecesFollow, PhisFollow, RewrittenAt, IsRewritten}
 use Rattle.gi_refine.proofs.RewritingFollows.{covers_so, hides_so}
-use Rattle.gi_refine.proofs.Basics.{apart_by, never_true}
 use Rattle.gi_refine.proofs.IdlePlaces.{seen_by, alone_holds, world, is_world_of, returned_is, is_return, hidden_written, none, only_1, zero_by_one, return_10, other_word, phi_of}
 use Rattle.gi_refine.proofs.Keeping.{agree_but}
 use Rattle.gi_refine.proofs.Staying.{kept_reused}
@@ -102,8 +102,8 @@ kept_places zero = record {
   splits = refl;
   new_splits = refl;
   phis = λ w is_world. no_phis_follow kept_old kept_new 0 all_seen w;
-  body = λ w is_world. (record { kept = tt; seen = seen_by (setting_of 32 names kept_old) (setting_of 32 names kept_new) none (λ r. r) ((copy_in 0 10 s32).1.operands) refl; holds = λ state reached. alone_holds (λ r. r) state ((copy_in 0 10 s32).1.operands) refl; hides = hides_so all_seen (written_places (meaning_of (copy_in 0 10 s32).1.flags (copy_in 0 10 s32).1.op) ((copy_in 0 10 s32).1.operands)); leaves = λ c h. absurd (never_true h) }, (record { kept = tt; seen = seen_by (setting_of 32 names kept_old) (setting_of 32 names kept_new) none (λ r. r) ((copy_out 10 0).1.operands) refl; holds = λ state reached. alone_holds (λ r. r) state ((copy_out 10 0).1.operands) refl; hides = hides_so all_seen (written_places (meaning_of (copy_out 10 0).1.flags (copy_out 10 0).1.op) ((copy_out 10 0).1.operands)); leaves = λ c h. absurd (never_true h) }, (record { kept = tt; seen = seen_by (setting_of 32 names kept_old) (setting_of 32 names kept_new) none (λ r. r) ((return_10).1.operands) refl; holds = λ state reached. alone_holds (λ r. r) state ((return_10).1.operands) refl; hides = hides_so all_seen (written_places (meaning_of (return_10).1.flags (return_10).1.op) ((return_10).1.operands)); leaves = λ c h. absurd (never_true h) }, tt)));
-  falls = λ among. absurd (never_true among);
+  body = λ w is_world. (record { kept = tt; seen = seen_by (setting_of 32 names kept_old) (setting_of 32 names kept_new) none (λ r. r) ((copy_in 0 10 s32).1.operands) refl; holds = λ state reached. alone_holds (λ r. r) state ((copy_in 0 10 s32).1.operands) refl; hides = hides_so all_seen (written_places (meaning_of (copy_in 0 10 s32).1.flags (copy_in 0 10 s32).1.op) ((copy_in 0 10 s32).1.operands)); leaves = λ c h. absurd (false≢true h) }, (record { kept = tt; seen = seen_by (setting_of 32 names kept_old) (setting_of 32 names kept_new) none (λ r. r) ((copy_out 10 0).1.operands) refl; holds = λ state reached. alone_holds (λ r. r) state ((copy_out 10 0).1.operands) refl; hides = hides_so all_seen (written_places (meaning_of (copy_out 10 0).1.flags (copy_out 10 0).1.op) ((copy_out 10 0).1.operands)); leaves = λ c h. absurd (false≢true h) }, (record { kept = tt; seen = seen_by (setting_of 32 names kept_old) (setting_of 32 names kept_new) none (λ r. r) ((return_10).1.operands) refl; holds = λ state reached. alone_holds (λ r. r) state ((return_10).1.operands) refl; hides = hides_so all_seen (written_places (meaning_of (return_10).1.flags (return_10).1.op) ((return_10).1.operands)); leaves = λ c h. absurd (false≢true h) }, tt)));
+  falls = λ among. absurd (false≢true among);
 }
 kept_places (suc b) = tt
 
@@ -112,7 +112,7 @@ kept_not_idle = record {
   old = kept_old;
   new = kept_new;
   owes = record { entries = (λ b. all_seen); rename = (λ r. r); places = kept_places };
-  refuted = refutes 32 names kept_old kept_new (world 1 2) (is_world_of 1 2 (lit< tt) (lit< tt)) 4 (Returned (1 ∷ []) counting 0) (Returned (2 ∷ []) counting 0) refl refl (λ e. apart_by 2 1 refl (returned_is 2 1 e)) (λ e. never_true (ap is_return e));
+  refuted = refutes 32 names kept_old kept_new (world 1 2) (is_world_of 1 2 (lit< tt) (lit< tt)) 4 (Returned (1 ∷ []) counting 0) (Returned (2 ∷ []) counting 0) refl refl (λ e. eqb-false 2 1 refl (returned_is 2 1 e)) (λ e. false≢true (ap is_return e));
 }
 
 -- ══ An instruction that stays reads what is hidden ══
@@ -131,8 +131,8 @@ seen_places zero = record {
   splits = refl;
   new_splits = refl;
   phis = λ w is_world. no_phis_follow seen_old seen_new 0 all_seen w;
-  body = λ w is_world. (record { kept = kept_reused (λ r. r) ((copy_in 1 10 s32).1) ((copy_in 1 10 s32).1) refl; seen = tt; holds = λ state reached. alone_holds (λ r. r) state ((copy_in 1 10 s32).1.operands) refl; hides = hides_so all_seen (written_places (meaning_of (copy_in 1 10 s32).1.flags (copy_in 1 10 s32).1.op) ((copy_in 1 10 s32).1.operands)); leaves = λ c h. absurd (never_true h) }, (hides_1 seen_old seen_new (λ b. all_seen) w 0 (copy_in 1 10 s32 ∷ []) all_seen all_seen_so (λ state. refl), (record { kept = kept_reused (λ r. r) ((copy_out 10 1).1) ((copy_out 10 1).1) refl; seen = tt; holds = λ state reached. alone_holds (λ r. r) state ((copy_out 10 1).1.operands) refl; hides = hides_so one_hidden (written_places (meaning_of (copy_out 10 1).1.flags (copy_out 10 1).1.op) ((copy_out 10 1).1.operands)); leaves = λ c h. absurd (never_true h) }, (record { kept = kept_reused (λ r. r) ((return_10).1) ((return_10).1) refl; seen = tt; holds = λ state reached. alone_holds (λ r. r) state ((return_10).1.operands) refl; hides = hides_so one_hidden (written_places (meaning_of (return_10).1.flags (return_10).1.op) ((return_10).1.operands)); leaves = λ c h. absurd (never_true h) }, tt))));
-  falls = λ among. absurd (never_true among);
+  body = λ w is_world. (record { kept = kept_reused (λ r. r) ((copy_in 1 10 s32).1) ((copy_in 1 10 s32).1) refl; seen = tt; holds = λ state reached. alone_holds (λ r. r) state ((copy_in 1 10 s32).1.operands) refl; hides = hides_so all_seen (written_places (meaning_of (copy_in 1 10 s32).1.flags (copy_in 1 10 s32).1.op) ((copy_in 1 10 s32).1.operands)); leaves = λ c h. absurd (false≢true h) }, (hides_1 seen_old seen_new (λ b. all_seen) w 0 (copy_in 1 10 s32 ∷ []) all_seen all_seen_so (λ state. refl), (record { kept = kept_reused (λ r. r) ((copy_out 10 1).1) ((copy_out 10 1).1) refl; seen = tt; holds = λ state reached. alone_holds (λ r. r) state ((copy_out 10 1).1.operands) refl; hides = hides_so one_hidden (written_places (meaning_of (copy_out 10 1).1.flags (copy_out 10 1).1.op) ((copy_out 10 1).1.operands)); leaves = λ c h. absurd (false≢true h) }, (record { kept = kept_reused (λ r. r) ((return_10).1) ((return_10).1) refl; seen = tt; holds = λ state reached. alone_holds (λ r. r) state ((return_10).1.operands) refl; hides = hides_so one_hidden (written_places (meaning_of (return_10).1.flags (return_10).1.op) ((return_10).1.operands)); leaves = λ c h. absurd (false≢true h) }, tt))));
+  falls = λ among. absurd (false≢true among);
 }
 seen_places (suc b) = tt
 
@@ -141,7 +141,7 @@ seen_not_idle = record {
   old = seen_old;
   new = seen_new;
   owes = record { entries = (λ b. all_seen); rename = (λ r. r); places = seen_places };
-  refuted = refutes 32 names seen_old seen_new (world 1 2) (is_world_of 1 2 (lit< tt) (lit< tt)) 4 (Returned (1 ∷ []) counting 0) (Returned (2 ∷ []) counting 0) refl refl (λ e. apart_by 2 1 refl (returned_is 2 1 e)) (λ e. never_true (ap is_return e));
+  refuted = refutes 32 names seen_old seen_new (world 1 2) (is_world_of 1 2 (lit< tt) (lit< tt)) 4 (Returned (1 ∷ []) counting 0) (Returned (2 ∷ []) counting 0) refl refl (λ e. eqb-false 2 1 refl (returned_is 2 1 e)) (λ e. false≢true (ap is_return e));
 }
 
 -- ══ What replaces a register holds another value ══
@@ -160,8 +160,8 @@ held_places zero = record {
   splits = refl;
   new_splits = refl;
   phis = λ w is_world. no_phis_follow held_old held_new 0 all_seen w;
-  body = λ w is_world. (record { kept = kept_reused zero_by_one ((copy_in 0 10 s32).1) ((copy_in 0 10 s32).1) refl; seen = seen_by (setting_of 32 names held_old) (setting_of 32 names held_new) none zero_by_one ((copy_in 0 10 s32).1.operands) refl; holds = tt; hides = hides_so all_seen (written_places (meaning_of (copy_in 0 10 s32).1.flags (copy_in 0 10 s32).1.op) ((copy_in 0 10 s32).1.operands)); leaves = λ c h. absurd (never_true h) }, (record { kept = kept_reused zero_by_one ((copy_in 1 11 s32).1) ((copy_in 1 11 s32).1) refl; seen = seen_by (setting_of 32 names held_old) (setting_of 32 names held_new) none zero_by_one ((copy_in 1 11 s32).1.operands) refl; holds = tt; hides = hides_so all_seen (written_places (meaning_of (copy_in 1 11 s32).1.flags (copy_in 1 11 s32).1.op) ((copy_in 1 11 s32).1.operands)); leaves = λ c h. absurd (never_true h) }, (record { kept = kept_reused zero_by_one ((copy_out 10 0).1) ((copy_out 10 1).1) refl; seen = seen_by (setting_of 32 names held_old) (setting_of 32 names held_new) none zero_by_one ((copy_out 10 0).1.operands) refl; holds = tt; hides = hides_so all_seen (written_places (meaning_of (copy_out 10 0).1.flags (copy_out 10 0).1.op) ((copy_out 10 0).1.operands)); leaves = λ c h. absurd (never_true h) }, (record { kept = kept_reused zero_by_one ((return_10).1) ((return_10).1) refl; seen = seen_by (setting_of 32 names held_old) (setting_of 32 names held_new) none zero_by_one ((return_10).1.operands) refl; holds = tt; hides = hides_so all_seen (written_places (meaning_of (return_10).1.flags (return_10).1.op) ((return_10).1.operands)); leaves = λ c h. absurd (never_true h) }, tt))));
-  falls = λ among. absurd (never_true among);
+  body = λ w is_world. (record { kept = kept_reused zero_by_one ((copy_in 0 10 s32).1) ((copy_in 0 10 s32).1) refl; seen = seen_by (setting_of 32 names held_old) (setting_of 32 names held_new) none zero_by_one ((copy_in 0 10 s32).1.operands) refl; holds = tt; hides = hides_so all_seen (written_places (meaning_of (copy_in 0 10 s32).1.flags (copy_in 0 10 s32).1.op) ((copy_in 0 10 s32).1.operands)); leaves = λ c h. absurd (false≢true h) }, (record { kept = kept_reused zero_by_one ((copy_in 1 11 s32).1) ((copy_in 1 11 s32).1) refl; seen = seen_by (setting_of 32 names held_old) (setting_of 32 names held_new) none zero_by_one ((copy_in 1 11 s32).1.operands) refl; holds = tt; hides = hides_so all_seen (written_places (meaning_of (copy_in 1 11 s32).1.flags (copy_in 1 11 s32).1.op) ((copy_in 1 11 s32).1.operands)); leaves = λ c h. absurd (false≢true h) }, (record { kept = kept_reused zero_by_one ((copy_out 10 0).1) ((copy_out 10 1).1) refl; seen = seen_by (setting_of 32 names held_old) (setting_of 32 names held_new) none zero_by_one ((copy_out 10 0).1.operands) refl; holds = tt; hides = hides_so all_seen (written_places (meaning_of (copy_out 10 0).1.flags (copy_out 10 0).1.op) ((copy_out 10 0).1.operands)); leaves = λ c h. absurd (false≢true h) }, (record { kept = kept_reused zero_by_one ((return_10).1) ((return_10).1) refl; seen = seen_by (setting_of 32 names held_old) (setting_of 32 names held_new) none zero_by_one ((return_10).1.operands) refl; holds = tt; hides = hides_so all_seen (written_places (meaning_of (return_10).1.flags (return_10).1.op) ((return_10).1.operands)); leaves = λ c h. absurd (false≢true h) }, tt))));
+  falls = λ among. absurd (false≢true among);
 }
 held_places (suc b) = tt
 
@@ -170,7 +170,7 @@ held_not_idle = record {
   old = held_old;
   new = held_new;
   owes = record { entries = (λ b. all_seen); rename = zero_by_one; places = held_places };
-  refuted = refutes 32 names held_old held_new (world 1 2) (is_world_of 1 2 (lit< tt) (lit< tt)) 4 (Returned (1 ∷ []) counting 0) (Returned (2 ∷ []) counting 0) refl refl (λ e. apart_by 2 1 refl (returned_is 2 1 e)) (λ e. never_true (ap is_return e));
+  refuted = refutes 32 names held_old held_new (world 1 2) (is_world_of 1 2 (lit< tt) (lit< tt)) 4 (Returned (1 ∷ []) counting 0) (Returned (2 ∷ []) counting 0) refl refl (λ e. eqb-false 2 1 refl (returned_is 2 1 e)) (λ e. false≢true (ap is_return e));
 }
 
 -- ══ Less is hidden after an instruction than before, though it writes another place ══
@@ -189,8 +189,8 @@ hides_places zero = record {
   splits = refl;
   new_splits = refl;
   phis = λ w is_world. no_phis_follow hides_old hides_new 0 all_seen w;
-  body = λ w is_world. (record { kept = kept_reused (λ r. r) ((copy_in 1 10 s32).1) ((copy_in 1 10 s32).1) refl; seen = seen_by (setting_of 32 names hides_old) (setting_of 32 names hides_new) none (λ r. r) ((copy_in 1 10 s32).1.operands) refl; holds = λ state reached. alone_holds (λ r. r) state ((copy_in 1 10 s32).1.operands) refl; hides = tt; leaves = λ c h. absurd (never_true h) }, (hides_1 hides_old hides_new (λ b. all_seen) w 0 (copy_in 1 10 s32 ∷ []) all_seen all_seen_so (λ state. refl), (record { kept = kept_reused (λ r. r) ((copy_in 0 10 s32).1) ((copy_in 0 10 s32).1) refl; seen = seen_by (setting_of 32 names hides_old) (setting_of 32 names hides_new) only_1 (λ r. r) ((copy_in 0 10 s32).1.operands) refl; holds = λ state reached. alone_holds (λ r. r) state ((copy_in 0 10 s32).1.operands) refl; hides = tt; leaves = λ c h. absurd (never_true h) }, (record { kept = kept_reused (λ r. r) ((copy_out 10 1).1) ((copy_out 10 1).1) refl; seen = seen_by (setting_of 32 names hides_old) (setting_of 32 names hides_new) none (λ r. r) ((copy_out 10 1).1.operands) refl; holds = λ state reached. alone_holds (λ r. r) state ((copy_out 10 1).1.operands) refl; hides = tt; leaves = λ c h. absurd (never_true h) }, (record { kept = kept_reused (λ r. r) ((return_10).1) ((return_10).1) refl; seen = seen_by (setting_of 32 names hides_old) (setting_of 32 names hides_new) none (λ r. r) ((return_10).1.operands) refl; holds = λ state reached. alone_holds (λ r. r) state ((return_10).1.operands) refl; hides = tt; leaves = λ c h. absurd (never_true h) }, tt)))));
-  falls = λ among. absurd (never_true among);
+  body = λ w is_world. (record { kept = kept_reused (λ r. r) ((copy_in 1 10 s32).1) ((copy_in 1 10 s32).1) refl; seen = seen_by (setting_of 32 names hides_old) (setting_of 32 names hides_new) none (λ r. r) ((copy_in 1 10 s32).1.operands) refl; holds = λ state reached. alone_holds (λ r. r) state ((copy_in 1 10 s32).1.operands) refl; hides = tt; leaves = λ c h. absurd (false≢true h) }, (hides_1 hides_old hides_new (λ b. all_seen) w 0 (copy_in 1 10 s32 ∷ []) all_seen all_seen_so (λ state. refl), (record { kept = kept_reused (λ r. r) ((copy_in 0 10 s32).1) ((copy_in 0 10 s32).1) refl; seen = seen_by (setting_of 32 names hides_old) (setting_of 32 names hides_new) only_1 (λ r. r) ((copy_in 0 10 s32).1.operands) refl; holds = λ state reached. alone_holds (λ r. r) state ((copy_in 0 10 s32).1.operands) refl; hides = tt; leaves = λ c h. absurd (false≢true h) }, (record { kept = kept_reused (λ r. r) ((copy_out 10 1).1) ((copy_out 10 1).1) refl; seen = seen_by (setting_of 32 names hides_old) (setting_of 32 names hides_new) none (λ r. r) ((copy_out 10 1).1.operands) refl; holds = λ state reached. alone_holds (λ r. r) state ((copy_out 10 1).1.operands) refl; hides = tt; leaves = λ c h. absurd (false≢true h) }, (record { kept = kept_reused (λ r. r) ((return_10).1) ((return_10).1) refl; seen = seen_by (setting_of 32 names hides_old) (setting_of 32 names hides_new) none (λ r. r) ((return_10).1.operands) refl; holds = λ state reached. alone_holds (λ r. r) state ((return_10).1.operands) refl; hides = tt; leaves = λ c h. absurd (false≢true h) }, tt)))));
+  falls = λ among. absurd (false≢true among);
 }
 hides_places (suc b) = tt
 
@@ -199,7 +199,7 @@ hides_not_idle = record {
   old = hides_old;
   new = hides_new;
   owes = record { entries = (λ b. all_seen); rename = (λ r. r); places = hides_places };
-  refuted = refutes 32 names hides_old hides_new (world 1 2) (is_world_of 1 2 (lit< tt) (lit< tt)) 4 (Returned (1 ∷ []) counting 0) (Returned (2 ∷ []) counting 0) refl refl (λ e. apart_by 2 1 refl (returned_is 2 1 e)) (λ e. never_true (ap is_return e));
+  refuted = refutes 32 names hides_old hides_new (world 1 2) (is_world_of 1 2 (lit< tt) (lit< tt)) 4 (Returned (1 ∷ []) counting 0) (Returned (2 ∷ []) counting 0) refl refl (λ e. eqb-false 2 1 refl (returned_is 2 1 e)) (λ e. false≢true (ap is_return e));
 }
 
 -- ══ A branch goes to a block at whose entry less is hidden ══
@@ -219,7 +219,7 @@ leaves_places zero = record {
   new_splits = refl;
   phis = λ w is_world. no_phis_follow leaves_old leaves_new 0 all_seen w;
   body = λ w is_world. (record { kept = kept_reused (λ r. r) ((copy_in 1 10 s32).1) ((copy_in 1 10 s32).1) refl; seen = seen_by (setting_of 32 names leaves_old) (setting_of 32 names leaves_new) none (λ r. r) ((copy_in 1 10 s32).1.operands) refl; holds = λ state reached. alone_holds (λ r. r) state ((copy_in 1 10 s32).1.operands) refl; hides = hides_so all_seen (written_places (meaning_of (copy_in 1 10 s32).1.flags (copy_in 1 10 s32).1.op) ((copy_in 1 10 s32).1.operands)); leaves = tt }, (hides_1 leaves_old leaves_new (λ b. all_seen) w 0 (copy_in 1 10 s32 ∷ []) all_seen all_seen_so (λ state. refl), (record { kept = kept_reused (λ r. r) ((branch_2).1) ((branch_2).1) refl; seen = seen_by (setting_of 32 names leaves_old) (setting_of 32 names leaves_new) only_1 (λ r. r) ((branch_2).1.operands) refl; holds = λ state reached. alone_holds (λ r. r) state ((branch_2).1.operands) refl; hides = hides_so one_hidden (written_places (meaning_of (branch_2).1.flags (branch_2).1.op) ((branch_2).1.operands)); leaves = tt }, tt)));
-  falls = λ among. absurd (never_true among);
+  falls = λ among. absurd (false≢true among);
 }
 leaves_places (suc zero) = record {
   middle = all_seen;
@@ -229,7 +229,7 @@ leaves_places (suc zero) = record {
   new_splits = refl;
   phis = λ w is_world. no_phis_follow leaves_old leaves_new 1 all_seen w;
   body = λ w is_world. (record { kept = kept_reused (λ r. r) ((return_10).1) ((return_10).1) refl; seen = seen_by (setting_of 32 names leaves_old) (setting_of 32 names leaves_new) none (λ r. r) ((return_10).1.operands) refl; holds = λ state reached. alone_holds (λ r. r) state ((return_10).1.operands) refl; hides = hides_so all_seen (written_places (meaning_of (return_10).1.flags (return_10).1.op) ((return_10).1.operands)); leaves = tt }, tt);
-  falls = λ among. absurd (never_true among);
+  falls = λ among. absurd (false≢true among);
 }
 leaves_places (suc (suc zero)) = record {
   middle = all_seen;
@@ -239,7 +239,7 @@ leaves_places (suc (suc zero)) = record {
   new_splits = refl;
   phis = λ w is_world. no_phis_follow leaves_old leaves_new 2 all_seen w;
   body = λ w is_world. (record { kept = kept_reused (λ r. r) ((copy_out 10 1).1) ((copy_out 10 1).1) refl; seen = seen_by (setting_of 32 names leaves_old) (setting_of 32 names leaves_new) none (λ r. r) ((copy_out 10 1).1.operands) refl; holds = λ state reached. alone_holds (λ r. r) state ((copy_out 10 1).1.operands) refl; hides = hides_so all_seen (written_places (meaning_of (copy_out 10 1).1.flags (copy_out 10 1).1.op) ((copy_out 10 1).1.operands)); leaves = tt }, (record { kept = kept_reused (λ r. r) ((return_10).1) ((return_10).1) refl; seen = seen_by (setting_of 32 names leaves_old) (setting_of 32 names leaves_new) none (λ r. r) ((return_10).1.operands) refl; holds = λ state reached. alone_holds (λ r. r) state ((return_10).1.operands) refl; hides = hides_so all_seen (written_places (meaning_of (return_10).1.flags (return_10).1.op) ((return_10).1.operands)); leaves = tt }, tt));
-  falls = λ among. absurd (never_true among);
+  falls = λ among. absurd (false≢true among);
 }
 leaves_places (suc (suc (suc b))) = tt
 
@@ -248,7 +248,7 @@ leaves_not_idle = record {
   old = leaves_old;
   new = leaves_new;
   owes = record { entries = (λ b. all_seen); rename = (λ r. r); places = leaves_places };
-  refuted = refutes 32 names leaves_old leaves_new (world 1 2) (is_world_of 1 2 (lit< tt) (lit< tt)) 4 (Returned (1 ∷ []) counting 0) (Returned (2 ∷ []) counting 0) refl refl (λ e. apart_by 2 1 refl (returned_is 2 1 e)) (λ e. never_true (ap is_return e));
+  refuted = refutes 32 names leaves_old leaves_new (world 1 2) (is_world_of 1 2 (lit< tt) (lit< tt)) 4 (Returned (1 ∷ []) counting 0) (Returned (2 ∷ []) counting 0) refl refl (λ e. eqb-false 2 1 refl (returned_is 2 1 e)) (λ e. false≢true (ap is_return e));
 }
 
 -- ══ A changed piece does something else ══
@@ -267,8 +267,8 @@ changed_places zero = record {
   splits = refl;
   new_splits = refl;
   phis = λ w is_world. no_phis_follow changed_old changed_new 0 all_seen w;
-  body = λ w is_world. (tt, (record { kept = kept_reused (λ r. r) ((return_10).1) ((return_10).1) refl; seen = seen_by (setting_of 32 names changed_old) (setting_of 32 names changed_new) none (λ r. r) ((return_10).1.operands) refl; holds = λ state reached. alone_holds (λ r. r) state ((return_10).1.operands) refl; hides = hides_so all_seen (written_places (meaning_of (return_10).1.flags (return_10).1.op) ((return_10).1.operands)); leaves = λ c h. absurd (never_true h) }, tt));
-  falls = λ among. absurd (never_true among);
+  body = λ w is_world. (tt, (record { kept = kept_reused (λ r. r) ((return_10).1) ((return_10).1) refl; seen = seen_by (setting_of 32 names changed_old) (setting_of 32 names changed_new) none (λ r. r) ((return_10).1.operands) refl; holds = λ state reached. alone_holds (λ r. r) state ((return_10).1.operands) refl; hides = hides_so all_seen (written_places (meaning_of (return_10).1.flags (return_10).1.op) ((return_10).1.operands)); leaves = λ c h. absurd (false≢true h) }, tt));
+  falls = λ among. absurd (false≢true among);
 }
 changed_places (suc b) = tt
 
@@ -277,7 +277,7 @@ changed_not_idle = record {
   old = changed_old;
   new = changed_new;
   owes = record { entries = (λ b. all_seen); rename = (λ r. r); places = changed_places };
-  refuted = refutes 32 names changed_old changed_new (world 1 2) (is_world_of 1 2 (lit< tt) (lit< tt)) 4 (Returned (1 ∷ []) counting 0) (Returned (2 ∷ []) counting 0) refl refl (λ e. apart_by 2 1 refl (returned_is 2 1 e)) (λ e. never_true (ap is_return e));
+  refuted = refutes 32 names changed_old changed_new (world 1 2) (is_world_of 1 2 (lit< tt) (lit< tt)) 4 (Returned (1 ∷ []) counting 0) (Returned (2 ∷ []) counting 0) refl refl (λ e. eqb-false 2 1 refl (returned_is 2 1 e)) (λ e. false≢true (ap is_return e));
 }
 
 -- ══ A phi takes another register ══
@@ -296,7 +296,7 @@ phis_places zero = record {
   splits = refl;
   new_splits = refl;
   phis = tt;
-  body = λ w is_world. (record { kept = kept_reused (λ r. r) ((copy_in 0 10 s32).1) ((copy_in 0 10 s32).1) refl; seen = seen_by (setting_of 32 names phis_old) (setting_of 32 names phis_new) none (λ r. r) ((copy_in 0 10 s32).1.operands) refl; holds = λ state reached. alone_holds (λ r. r) state ((copy_in 0 10 s32).1.operands) refl; hides = hides_so all_seen (written_places (meaning_of (copy_in 0 10 s32).1.flags (copy_in 0 10 s32).1.op) ((copy_in 0 10 s32).1.operands)); leaves = λ c h. absurd (never_true h) }, (record { kept = kept_reused (λ r. r) ((copy_in 1 11 s32).1) ((copy_in 1 11 s32).1) refl; seen = seen_by (setting_of 32 names phis_old) (setting_of 32 names phis_new) none (λ r. r) ((copy_in 1 11 s32).1.operands) refl; holds = λ state reached. alone_holds (λ r. r) state ((copy_in 1 11 s32).1.operands) refl; hides = hides_so all_seen (written_places (meaning_of (copy_in 1 11 s32).1.flags (copy_in 1 11 s32).1.op) ((copy_in 1 11 s32).1.operands)); leaves = λ c h. absurd (never_true h) }, tt));
+  body = λ w is_world. (record { kept = kept_reused (λ r. r) ((copy_in 0 10 s32).1) ((copy_in 0 10 s32).1) refl; seen = seen_by (setting_of 32 names phis_old) (setting_of 32 names phis_new) none (λ r. r) ((copy_in 0 10 s32).1.operands) refl; holds = λ state reached. alone_holds (λ r. r) state ((copy_in 0 10 s32).1.operands) refl; hides = hides_so all_seen (written_places (meaning_of (copy_in 0 10 s32).1.flags (copy_in 0 10 s32).1.op) ((copy_in 0 10 s32).1.operands)); leaves = λ c h. absurd (false≢true h) }, (record { kept = kept_reused (λ r. r) ((copy_in 1 11 s32).1) ((copy_in 1 11 s32).1) refl; seen = seen_by (setting_of 32 names phis_old) (setting_of 32 names phis_new) none (λ r. r) ((copy_in 1 11 s32).1.operands) refl; holds = λ state reached. alone_holds (λ r. r) state ((copy_in 1 11 s32).1.operands) refl; hides = hides_so all_seen (written_places (meaning_of (copy_in 1 11 s32).1.flags (copy_in 1 11 s32).1.op) ((copy_in 1 11 s32).1.operands)); leaves = λ c h. absurd (false≢true h) }, tt));
   falls = λ among. covers_so all_seen;
 }
 phis_places (suc zero) = record {
@@ -306,8 +306,8 @@ phis_places (suc zero) = record {
   splits = refl;
   new_splits = refl;
   phis = tt;
-  body = λ w is_world. (record { kept = kept_reused (λ r. r) ((copy_out 10 2).1) ((copy_out 10 2).1) refl; seen = seen_by (setting_of 32 names phis_old) (setting_of 32 names phis_new) none (λ r. r) ((copy_out 10 2).1.operands) refl; holds = λ state reached. alone_holds (λ r. r) state ((copy_out 10 2).1.operands) refl; hides = hides_so all_seen (written_places (meaning_of (copy_out 10 2).1.flags (copy_out 10 2).1.op) ((copy_out 10 2).1.operands)); leaves = λ c h. absurd (never_true h) }, (record { kept = kept_reused (λ r. r) ((return_10).1) ((return_10).1) refl; seen = seen_by (setting_of 32 names phis_old) (setting_of 32 names phis_new) none (λ r. r) ((return_10).1.operands) refl; holds = λ state reached. alone_holds (λ r. r) state ((return_10).1.operands) refl; hides = hides_so all_seen (written_places (meaning_of (return_10).1.flags (return_10).1.op) ((return_10).1.operands)); leaves = λ c h. absurd (never_true h) }, tt));
-  falls = λ among. absurd (never_true among);
+  body = λ w is_world. (record { kept = kept_reused (λ r. r) ((copy_out 10 2).1) ((copy_out 10 2).1) refl; seen = seen_by (setting_of 32 names phis_old) (setting_of 32 names phis_new) none (λ r. r) ((copy_out 10 2).1.operands) refl; holds = λ state reached. alone_holds (λ r. r) state ((copy_out 10 2).1.operands) refl; hides = hides_so all_seen (written_places (meaning_of (copy_out 10 2).1.flags (copy_out 10 2).1.op) ((copy_out 10 2).1.operands)); leaves = λ c h. absurd (false≢true h) }, (record { kept = kept_reused (λ r. r) ((return_10).1) ((return_10).1) refl; seen = seen_by (setting_of 32 names phis_old) (setting_of 32 names phis_new) none (λ r. r) ((return_10).1.operands) refl; holds = λ state reached. alone_holds (λ r. r) state ((return_10).1.operands) refl; hides = hides_so all_seen (written_places (meaning_of (return_10).1.flags (return_10).1.op) ((return_10).1.operands)); leaves = λ c h. absurd (false≢true h) }, tt));
+  falls = λ among. absurd (false≢true among);
 }
 phis_places (suc (suc b)) = tt
 
@@ -316,7 +316,7 @@ phis_not_idle = record {
   old = phis_old;
   new = phis_new;
   owes = record { entries = (λ b. all_seen); rename = (λ r. r); places = phis_places };
-  refuted = refutes 32 names phis_old phis_new (world 1 2) (is_world_of 1 2 (lit< tt) (lit< tt)) 4 (Returned (1 ∷ []) counting 0) (Returned (2 ∷ []) counting 0) refl refl (λ e. apart_by 2 1 refl (returned_is 2 1 e)) (λ e. never_true (ap is_return e));
+  refuted = refutes 32 names phis_old phis_new (world 1 2) (is_world_of 1 2 (lit< tt) (lit< tt)) 4 (Returned (1 ∷ []) counting 0) (Returned (2 ∷ []) counting 0) refl refl (λ e. eqb-false 2 1 refl (returned_is 2 1 e)) (λ e. false≢true (ap is_return e));
 }
 
 -- ══ The next block is entered where less is hidden ══
@@ -335,7 +335,7 @@ falls_places zero = record {
   splits = refl;
   new_splits = refl;
   phis = λ w is_world. no_phis_follow falls_old falls_new 0 all_seen w;
-  body = λ w is_world. (record { kept = kept_reused (λ r. r) ((copy_in 1 10 s32).1) ((copy_in 1 10 s32).1) refl; seen = seen_by (setting_of 32 names falls_old) (setting_of 32 names falls_new) none (λ r. r) ((copy_in 1 10 s32).1.operands) refl; holds = λ state reached. alone_holds (λ r. r) state ((copy_in 1 10 s32).1.operands) refl; hides = hides_so all_seen (written_places (meaning_of (copy_in 1 10 s32).1.flags (copy_in 1 10 s32).1.op) ((copy_in 1 10 s32).1.operands)); leaves = λ c h. absurd (never_true h) }, (hides_1 falls_old falls_new (λ b. all_seen) w 0 (copy_in 1 10 s32 ∷ []) all_seen all_seen_so (λ state. refl), tt));
+  body = λ w is_world. (record { kept = kept_reused (λ r. r) ((copy_in 1 10 s32).1) ((copy_in 1 10 s32).1) refl; seen = seen_by (setting_of 32 names falls_old) (setting_of 32 names falls_new) none (λ r. r) ((copy_in 1 10 s32).1.operands) refl; holds = λ state reached. alone_holds (λ r. r) state ((copy_in 1 10 s32).1.operands) refl; hides = hides_so all_seen (written_places (meaning_of (copy_in 1 10 s32).1.flags (copy_in 1 10 s32).1.op) ((copy_in 1 10 s32).1.operands)); leaves = λ c h. absurd (false≢true h) }, (hides_1 falls_old falls_new (λ b. all_seen) w 0 (copy_in 1 10 s32 ∷ []) all_seen all_seen_so (λ state. refl), tt));
   falls = tt;
 }
 falls_places (suc zero) = record {
@@ -345,7 +345,7 @@ falls_places (suc zero) = record {
   splits = refl;
   new_splits = refl;
   phis = λ w is_world. no_phis_follow falls_old falls_new 1 all_seen w;
-  body = λ w is_world. (record { kept = kept_reused (λ r. r) ((copy_out 10 1).1) ((copy_out 10 1).1) refl; seen = seen_by (setting_of 32 names falls_old) (setting_of 32 names falls_new) none (λ r. r) ((copy_out 10 1).1.operands) refl; holds = λ state reached. alone_holds (λ r. r) state ((copy_out 10 1).1.operands) refl; hides = hides_so all_seen (written_places (meaning_of (copy_out 10 1).1.flags (copy_out 10 1).1.op) ((copy_out 10 1).1.operands)); leaves = λ c h. absurd (never_true h) }, (record { kept = kept_reused (λ r. r) ((return_10).1) ((return_10).1) refl; seen = seen_by (setting_of 32 names falls_old) (setting_of 32 names falls_new) none (λ r. r) ((return_10).1.operands) refl; holds = λ state reached. alone_holds (λ r. r) state ((return_10).1.operands) refl; hides = hides_so all_seen (written_places (meaning_of (return_10).1.flags (return_10).1.op) ((return_10).1.operands)); leaves = λ c h. absurd (never_true h) }, tt));
+  body = λ w is_world. (record { kept = kept_reused (λ r. r) ((copy_out 10 1).1) ((copy_out 10 1).1) refl; seen = seen_by (setting_of 32 names falls_old) (setting_of 32 names falls_new) none (λ r. r) ((copy_out 10 1).1.operands) refl; holds = λ state reached. alone_holds (λ r. r) state ((copy_out 10 1).1.operands) refl; hides = hides_so all_seen (written_places (meaning_of (copy_out 10 1).1.flags (copy_out 10 1).1.op) ((copy_out 10 1).1.operands)); leaves = λ c h. absurd (false≢true h) }, (record { kept = kept_reused (λ r. r) ((return_10).1) ((return_10).1) refl; seen = seen_by (setting_of 32 names falls_old) (setting_of 32 names falls_new) none (λ r. r) ((return_10).1.operands) refl; holds = λ state reached. alone_holds (λ r. r) state ((return_10).1.operands) refl; hides = hides_so all_seen (written_places (meaning_of (return_10).1.flags (return_10).1.op) ((return_10).1.operands)); leaves = λ c h. absurd (false≢true h) }, tt));
   falls = tt;
 }
 falls_places (suc (suc b)) = tt
@@ -355,7 +355,7 @@ falls_not_idle = record {
   old = falls_old;
   new = falls_new;
   owes = record { entries = (λ b. all_seen); rename = (λ r. r); places = falls_places };
-  refuted = refutes 32 names falls_old falls_new (world 1 2) (is_world_of 1 2 (lit< tt) (lit< tt)) 4 (Returned (1 ∷ []) counting 0) (Returned (2 ∷ []) counting 0) refl refl (λ e. apart_by 2 1 refl (returned_is 2 1 e)) (λ e. never_true (ap is_return e));
+  refuted = refutes 32 names falls_old falls_new (world 1 2) (is_world_of 1 2 (lit< tt) (lit< tt)) 4 (Returned (1 ∷ []) counting 0) (Returned (2 ∷ []) counting 0) refl refl (λ e. eqb-false 2 1 refl (returned_is 2 1 e)) (λ e. false≢true (ap is_return e));
 }
 
 -- ══ A block has lost its successor ══
@@ -374,7 +374,7 @@ successors_places zero = record {
   splits = refl;
   new_splits = refl;
   phis = λ w is_world. no_phis_follow successors_old successors_new 0 all_seen w;
-  body = λ w is_world. (record { kept = kept_reused (λ r. r) ((copy_in 0 10 s32).1) ((copy_in 0 10 s32).1) refl; seen = seen_by (setting_of 32 names successors_old) (setting_of 32 names successors_new) none (λ r. r) ((copy_in 0 10 s32).1.operands) refl; holds = λ state reached. alone_holds (λ r. r) state ((copy_in 0 10 s32).1.operands) refl; hides = hides_so all_seen (written_places (meaning_of (copy_in 0 10 s32).1.flags (copy_in 0 10 s32).1.op) ((copy_in 0 10 s32).1.operands)); leaves = λ c h. absurd (never_true h) }, tt);
+  body = λ w is_world. (record { kept = kept_reused (λ r. r) ((copy_in 0 10 s32).1) ((copy_in 0 10 s32).1) refl; seen = seen_by (setting_of 32 names successors_old) (setting_of 32 names successors_new) none (λ r. r) ((copy_in 0 10 s32).1.operands) refl; holds = λ state reached. alone_holds (λ r. r) state ((copy_in 0 10 s32).1.operands) refl; hides = hides_so all_seen (written_places (meaning_of (copy_in 0 10 s32).1.flags (copy_in 0 10 s32).1.op) ((copy_in 0 10 s32).1.operands)); leaves = λ c h. absurd (false≢true h) }, tt);
   falls = λ among. covers_so all_seen;
 }
 successors_places (suc zero) = record {
@@ -384,8 +384,8 @@ successors_places (suc zero) = record {
   splits = refl;
   new_splits = refl;
   phis = λ w is_world. no_phis_follow successors_old successors_new 1 all_seen w;
-  body = λ w is_world. (record { kept = kept_reused (λ r. r) ((copy_out 10 0).1) ((copy_out 10 0).1) refl; seen = seen_by (setting_of 32 names successors_old) (setting_of 32 names successors_new) none (λ r. r) ((copy_out 10 0).1.operands) refl; holds = λ state reached. alone_holds (λ r. r) state ((copy_out 10 0).1.operands) refl; hides = hides_so all_seen (written_places (meaning_of (copy_out 10 0).1.flags (copy_out 10 0).1.op) ((copy_out 10 0).1.operands)); leaves = λ c h. absurd (never_true h) }, (record { kept = kept_reused (λ r. r) ((return_10).1) ((return_10).1) refl; seen = seen_by (setting_of 32 names successors_old) (setting_of 32 names successors_new) none (λ r. r) ((return_10).1.operands) refl; holds = λ state reached. alone_holds (λ r. r) state ((return_10).1.operands) refl; hides = hides_so all_seen (written_places (meaning_of (return_10).1.flags (return_10).1.op) ((return_10).1.operands)); leaves = λ c h. absurd (never_true h) }, tt));
-  falls = λ among. absurd (never_true among);
+  body = λ w is_world. (record { kept = kept_reused (λ r. r) ((copy_out 10 0).1) ((copy_out 10 0).1) refl; seen = seen_by (setting_of 32 names successors_old) (setting_of 32 names successors_new) none (λ r. r) ((copy_out 10 0).1.operands) refl; holds = λ state reached. alone_holds (λ r. r) state ((copy_out 10 0).1.operands) refl; hides = hides_so all_seen (written_places (meaning_of (copy_out 10 0).1.flags (copy_out 10 0).1.op) ((copy_out 10 0).1.operands)); leaves = λ c h. absurd (false≢true h) }, (record { kept = kept_reused (λ r. r) ((return_10).1) ((return_10).1) refl; seen = seen_by (setting_of 32 names successors_old) (setting_of 32 names successors_new) none (λ r. r) ((return_10).1.operands) refl; holds = λ state reached. alone_holds (λ r. r) state ((return_10).1.operands) refl; hides = hides_so all_seen (written_places (meaning_of (return_10).1.flags (return_10).1.op) ((return_10).1.operands)); leaves = λ c h. absurd (false≢true h) }, tt));
+  falls = λ among. absurd (false≢true among);
 }
 successors_places (suc (suc b)) = tt
 
@@ -394,7 +394,7 @@ successors_not_idle = record {
   old = successors_old;
   new = successors_new;
   owes = record { entries = (λ b. all_seen); rename = (λ r. r); places = successors_places };
-  refuted = refutes 32 names successors_old successors_new (world 1 2) (is_world_of 1 2 (lit< tt) (lit< tt)) 4 (Returned (1 ∷ []) counting 0) Fails refl refl (λ e. never_true (ap is_return e)) (λ e. never_true (ap is_return e));
+  refuted = refutes 32 names successors_old successors_new (world 1 2) (is_world_of 1 2 (lit< tt) (lit< tt)) 4 (Returned (1 ∷ []) counting 0) Fails refl refl (λ e. false≢true (ap is_return e)) (λ e. false≢true (ap is_return e));
 }
 
 pub no_piece_idle : (dropped : PiecePremise) → IsPieceNotIdle dropped

@@ -1,6 +1,6 @@
 -- For each premise of rewriting one place a case in which all others hold and the new function returns something else.
 use Rattle.std.proofs.Common.{◌≡◌, ℕ, zero, suc, ◌^◌, ◌<◌, Bool, true, false, not, ◌&&◌, ◌==◌, if◌then◌else◌, List, [], ◌∷◌, ◌++◌, Option, Some, None, slice_get, unwrap_or, refl, sym, ap, ◌∙◌, subst, lit<}
-use Rattle.std.proofs.lemmas.Bool.{eqb-true}
+use Rattle.std.proofs.lemmas.Bool.{eqb-true, and_parts, false≢true, not-true, eqb-false}
 use Rattle.std.proofs.Math.Nat.{mod-lt}
 use Rattle.gi_llt.specs.declared.Llt.TheVariants.{Scalar}
 use Rattle.gi_mir.specs.Data.{InstrData, BlockData, FunctionData}
@@ -20,7 +20,6 @@ use Rattle.gi_refine.specs.Kept.{AreSeenAs, AllSeenAs, HasSameValue, UsesHold, E
 use Rattle.gi_refine.specs.OnePlace.{OnePlace, only_virtual, StaysAt, RewritesOnePlace}
 use Rattle.gi_refine.specs.Reached.{IsReached, WhereReached}
 use Rattle.gi_refine.specs.Simulation.{IsFollowed}
-use Rattle.gi_refine.proofs.Basics.{apart_by, both_true, never_true, not_true}
 use Rattle.gi_refine.proofs.Evaluating.{refutes}
 use Rattle.gi_refine.proofs.Inserting.{inserted_follows}
 use Rattle.gi_refine.proofs.Reaching.{followed_within, nothing_followed}
@@ -82,12 +81,12 @@ are_seen s t hidden rename (i ∷ is) = is_seen s t hidden rename i.1.operands &
 pub seen_by : (s t : Setting) (hidden : ℕ → Bool) (rename : ℕ → ℕ) (os : List Operand) → is_seen s t hidden rename os ≡ true → AreSeenAs s t (only_virtual hidden) rename os
 seen_by s t hidden rename [] h = tt
 seen_by s t hidden rename (operand.Use r ∷ os) h =
-    let a : (not (hidden (rename r.0)) ≡ true) × (((s.width (rename r.0) == s.width r.0) && ((t.width (rename r.0) == s.width r.0) && is_seen s t hidden rename os)) ≡ true) = both_true (not (hidden (rename r.0))) _ h in
-    let b : ((s.width (rename r.0) == s.width r.0) ≡ true) × (((t.width (rename r.0) == s.width r.0) && is_seen s t hidden rename os) ≡ true) = both_true (s.width (rename r.0) == s.width r.0) _ a.1 in
-    let c : ((t.width (rename r.0) == s.width r.0) ≡ true) × (is_seen s t hidden rename os ≡ true) = both_true (t.width (rename r.0) == s.width r.0) _ b.1 in
-    (not_true (hidden (rename r.0)) a.0, eqb-true (s.width (rename r.0)) (s.width r.0) b.0, eqb-true (t.width (rename r.0)) (s.width r.0) c.0, seen_by s t hidden rename os c.1)
+    let a : (not (hidden (rename r.0)) ≡ true) × (((s.width (rename r.0) == s.width r.0) && ((t.width (rename r.0) == s.width r.0) && is_seen s t hidden rename os)) ≡ true) = and_parts (not (hidden (rename r.0))) _ h in
+    let b : ((s.width (rename r.0) == s.width r.0) ≡ true) × (((t.width (rename r.0) == s.width r.0) && is_seen s t hidden rename os) ≡ true) = and_parts (s.width (rename r.0) == s.width r.0) _ a.1 in
+    let c : ((t.width (rename r.0) == s.width r.0) ≡ true) × (is_seen s t hidden rename os ≡ true) = and_parts (t.width (rename r.0) == s.width r.0) _ b.1 in
+    (not-true (hidden (rename r.0)) a.0, eqb-true (s.width (rename r.0)) (s.width r.0) b.0, eqb-true (t.width (rename r.0)) (s.width r.0) c.0, seen_by s t hidden rename os c.1)
 seen_by s t hidden rename (operand.Def r k ∷ os) h =
-    let a : ((t.width r.0 == s.width r.0) ≡ true) × (is_seen s t hidden rename os ≡ true) = both_true (t.width r.0 == s.width r.0) _ h in
+    let a : ((t.width r.0 == s.width r.0) ≡ true) × (is_seen s t hidden rename os ≡ true) = and_parts (t.width r.0 == s.width r.0) _ h in
     (eqb-true (t.width r.0) (s.width r.0) a.0, seen_by s t hidden rename os a.1)
 seen_by s t hidden rename (operand.Phys n ∷ os) h = (refl, seen_by s t hidden rename os h)
 seen_by s t hidden rename (operand.ImplicitUse n ∷ os) h = (refl, seen_by s t hidden rename os h)
@@ -96,7 +95,7 @@ seen_by s t hidden rename (_ ∷ os) h = seen_by s t hidden rename os h
 pub all_seen_by : (s t : Setting) (hidden : ℕ → Bool) (rename : ℕ → ℕ) (is : List (ℕ × InstrData)) → are_seen s t hidden rename is ≡ true → AllSeenAs s t (only_virtual hidden) rename is
 all_seen_by s t hidden rename [] h = tt
 all_seen_by s t hidden rename (i ∷ is) h =
-    let a : (is_seen s t hidden rename i.1.operands ≡ true) × (are_seen s t hidden rename is ≡ true) = both_true (is_seen s t hidden rename i.1.operands) _ h in
+    let a : (is_seen s t hidden rename i.1.operands ≡ true) × (are_seen s t hidden rename is ≡ true) = and_parts (is_seen s t hidden rename i.1.operands) _ h in
     (seen_by s t hidden rename i.1.operands a.0, all_seen_by s t hidden rename is a.1)
 
 -- whether each register that is used is its own replacement
@@ -112,14 +111,14 @@ are_alone rename (i ∷ is) = is_alone rename i.1.operands && are_alone rename i
 pub alone_holds : (rename : ℕ → ℕ) (state : State) (os : List Operand) → is_alone rename os ≡ true → UsesHold rename state os
 alone_holds rename state [] h = tt
 alone_holds rename state (operand.Use r ∷ os) h =
-    let a : ((rename r.0 == r.0) ≡ true) × (is_alone rename os ≡ true) = both_true (rename r.0 == r.0) _ h in
+    let a : ((rename r.0 == r.0) ≡ true) × (is_alone rename os ≡ true) = and_parts (rename r.0 == r.0) _ h in
     (subst (λ q. HasSameValue (state.values r.0) (state.values q)) (sym (eqb-true (rename r.0) r.0 a.0)) (has_same_value (state.values r.0)), alone_holds rename state os a.1)
 alone_holds rename state (operand.Def r k ∷ os) h = alone_holds rename state os h
 alone_holds rename state (_ ∷ os) h = alone_holds rename state os h
 
 alone_at : (rename : ℕ → ℕ) (front : List (ℕ × InstrData)) (i : ℕ × InstrData) (back : List (ℕ × InstrData)) → are_alone rename (front ++ (i ∷ back)) ≡ true → is_alone rename i.1.operands ≡ true
-alone_at rename [] i back h = (both_true (is_alone rename i.1.operands) _ h).0
-alone_at rename (k ∷ front) i back h = alone_at rename front i back ((both_true (is_alone rename k.1.operands) _ h).1)
+alone_at rename [] i back h = (and_parts (is_alone rename i.1.operands) _ h).0
+alone_at rename (k ∷ front) i back h = alone_at rename front i back ((and_parts (is_alone rename k.1.operands) _ h).1)
 
 body_alone : (f : FunctionData) (b : ℕ) (rename : ℕ → ℕ) (before is : List (ℕ × InstrData)) → are_alone rename is ≡ true → BodyHolds 32 names f b rename before is
 body_alone f b rename before is h = record {
@@ -148,15 +147,15 @@ are_shown hidden rename (i ∷ is) = is_shown hidden rename i.1.operands && are_
 one_shown_by : (hidden : ℕ → Bool) (rename : ℕ → ℕ) (os : List Operand) → is_shown hidden rename os ≡ true → AreShown hidden rename os
 one_shown_by hidden rename [] h = tt
 one_shown_by hidden rename (operand.Use r ∷ os) h =
-    let a : (not (hidden (rename r.0)) ≡ true) × (is_shown hidden rename os ≡ true) = both_true (not (hidden (rename r.0))) _ h in
-    (not_true (hidden (rename r.0)) a.0, one_shown_by hidden rename os a.1)
+    let a : (not (hidden (rename r.0)) ≡ true) × (is_shown hidden rename os ≡ true) = and_parts (not (hidden (rename r.0))) _ h in
+    (not-true (hidden (rename r.0)) a.0, one_shown_by hidden rename os a.1)
 one_shown_by hidden rename (operand.Def r k ∷ os) h = one_shown_by hidden rename os h
 one_shown_by hidden rename (_ ∷ os) h = one_shown_by hidden rename os h
 
 shown_by : (hidden : ℕ → Bool) (rename : ℕ → ℕ) (is : List (ℕ × InstrData)) → are_shown hidden rename is ≡ true → AllShown hidden rename is
 shown_by hidden rename [] h = tt
 shown_by hidden rename (i ∷ is) h =
-    let a : (is_shown hidden rename i.1.operands ≡ true) × (are_shown hidden rename is ≡ true) = both_true (is_shown hidden rename i.1.operands) _ h in
+    let a : (is_shown hidden rename i.1.operands ≡ true) × (are_shown hidden rename is ≡ true) = and_parts (is_shown hidden rename i.1.operands) _ h in
     (one_shown_by hidden rename i.1.operands a.0, shown_by hidden rename is a.1)
 
 -- ══ What many cases share ══
@@ -179,7 +178,7 @@ is_world_of a b h l = record {
   words = λ n. word_small a b n h l;
   memory = λ address. mod-lt address (lit< tt);
   global = λ name. lit< tt;
-  reached = λ name wide. absurd (apart_by 32 64 refl wide);
+  reached = λ name wide. absurd (eqb-false 32 64 refl wide);
   stack = λ object. lit< tt;
   trace = tt;
 }
@@ -301,7 +300,7 @@ after_shown_not_idle = record {
     others = after_shown_others;
     follows = λ w is_world. hidden_written (setting_of 32 names after_shown_old) after_shown_new w (WhereReached (setting_of 32 names after_shown_old) w after_shown_old.blocks 0 (copy_in 1 10 s32 ∷ []) (Agree (setting_of 32 names after_shown_old) (setting_of 32 names after_shown_new) (only_virtual only_1))) only_1 (AgreeAt (setting_of 32 names after_shown_old) (setting_of 32 names after_shown_new) (λ c. only_virtual only_1)) (copy_in 1 11 s32) 1 (λ state. word_in state 11) refl (λ state. refl) (λ old new related. related.relates);
   };
-  refuted = refutes 32 names after_shown_old after_shown_new (world 1 2) (is_world_of 1 2 (lit< tt) (lit< tt)) 4 (Returned (1 ∷ []) counting 0) (Returned (2 ∷ []) counting 0) refl refl (λ e. apart_by 2 1 refl (returned_is 2 1 e)) (λ e. never_true (ap is_return e));
+  refuted = refutes 32 names after_shown_old after_shown_new (world 1 2) (is_world_of 1 2 (lit< tt) (lit< tt)) 4 (Returned (1 ∷ []) counting 0) (Returned (2 ∷ []) counting 0) refl refl (λ e. eqb-false 2 1 refl (returned_is 2 1 e)) (λ e. false≢true (ap is_return e));
 }
 
 -- ══ A hidden register is read before the place, which is in a loop ══
@@ -349,7 +348,7 @@ before_shown_not_idle = record {
     others = before_shown_others;
     follows = λ w is_world. hidden_written (setting_of 32 names before_shown_old) before_shown_new w (WhereReached (setting_of 32 names before_shown_old) w before_shown_old.blocks 1 (leave_if_equal 1 ∷ []) (Agree (setting_of 32 names before_shown_old) (setting_of 32 names before_shown_new) (only_virtual only_1))) only_1 (AgreeAt (setting_of 32 names before_shown_old) (setting_of 32 names before_shown_new) (λ c. only_virtual only_1)) (copy_in 1 11 s32) 1 (λ state. word_in state 11) refl (λ state. refl) (λ old new related. related.relates);
   };
-  refuted = refutes 32 names before_shown_old before_shown_new (world 1 2) (is_world_of 1 2 (lit< tt) (lit< tt)) 4 (Going counting 0) (Returned (1 ∷ []) counting 0) refl refl (λ e. never_true (ap is_going e)) (λ e. never_true (ap is_going e));
+  refuted = refutes 32 names before_shown_old before_shown_new (world 1 2) (is_world_of 1 2 (lit< tt) (lit< tt)) 4 (Going counting 0) (Returned (1 ∷ []) counting 0) refl refl (λ e. false≢true (ap is_going e)) (λ e. false≢true (ap is_going e));
 }
 
 -- ══ A hidden register is read by a phi of the block of the place ══
@@ -397,7 +396,7 @@ phis_shown_not_idle = record {
     others = phis_shown_others;
     follows = λ w is_world. hidden_written (setting_of 32 names phis_shown_old) phis_shown_new w (WhereReached (setting_of 32 names phis_shown_old) w phis_shown_old.blocks 1 (leave_if_equal 2 ∷ []) (Agree (setting_of 32 names phis_shown_old) (setting_of 32 names phis_shown_new) (only_virtual only_1))) only_1 (AgreeAt (setting_of 32 names phis_shown_old) (setting_of 32 names phis_shown_new) (λ c. only_virtual only_1)) (copy_in 1 11 s32) 1 (λ state. word_in state 11) refl (λ state. refl) (λ old new related. related.relates);
   };
-  refuted = refutes 32 names phis_shown_old phis_shown_new (world 1 2) (is_world_of 1 2 (lit< tt) (lit< tt)) 4 (Going counting 0) (Returned (1 ∷ []) counting 0) refl refl (λ e. never_true (ap is_going e)) (λ e. never_true (ap is_going e));
+  refuted = refutes 32 names phis_shown_old phis_shown_new (world 1 2) (is_world_of 1 2 (lit< tt) (lit< tt)) 4 (Going counting 0) (Returned (1 ∷ []) counting 0) refl refl (λ e. false≢true (ap is_going e)) (λ e. false≢true (ap is_going e));
 }
 
 -- ══ A register that is read behind the place has fewer bits in the new function ══
@@ -443,7 +442,7 @@ after_widths_not_idle = record {
     others = after_widths_others;
     follows = unchanged after_widths_old after_widths_new 0 ([]) none;
   };
-  refuted = refutes 32 names after_widths_old after_widths_new (world 65537 2) (is_world_of 65537 2 (lit< tt) (lit< tt)) 4 (Returned (65537 ∷ []) counting 0) (Returned (1 ∷ []) counting 0) refl refl (λ e. apart_by 1 65537 refl (returned_is 1 65537 e)) (λ e. never_true (ap is_return e));
+  refuted = refutes 32 names after_widths_old after_widths_new (world 65537 2) (is_world_of 65537 2 (lit< tt) (lit< tt)) 4 (Returned (65537 ∷ []) counting 0) (Returned (1 ∷ []) counting 0) refl refl (λ e. eqb-false 1 65537 refl (returned_is 1 65537 e)) (λ e. false≢true (ap is_return e));
 }
 
 -- ══ A register that is read before the place has fewer bits in the new function ══
@@ -489,7 +488,7 @@ before_widths_not_idle = record {
     others = before_widths_others;
     follows = unchanged before_widths_old before_widths_new 0 (copy_in 0 10 s32 ∷ extended ∷ []) none;
   };
-  refuted = refutes 32 names before_widths_old before_widths_new (world 65537 2) (is_world_of 65537 2 (lit< tt) (lit< tt)) 4 (Returned (65537 ∷ []) counting 0) (Returned (1 ∷ []) counting 0) refl refl (λ e. apart_by 1 65537 refl (returned_is 1 65537 e)) (λ e. never_true (ap is_return e));
+  refuted = refutes 32 names before_widths_old before_widths_new (world 65537 2) (is_world_of 65537 2 (lit< tt) (lit< tt)) 4 (Returned (65537 ∷ []) counting 0) (Returned (1 ∷ []) counting 0) refl refl (λ e. eqb-false 1 65537 refl (returned_is 1 65537 e)) (λ e. false≢true (ap is_return e));
 }
 
 -- ══ The register that replaces another behind the place holds another value ══
@@ -535,7 +534,7 @@ after_held_not_idle = record {
     others = after_held_others;
     follows = unchanged after_held_old after_held_new 0 (copy_in 0 10 s32 ∷ copy_in 1 11 s32 ∷ []) none;
   };
-  refuted = refutes 32 names after_held_old after_held_new (world 1 2) (is_world_of 1 2 (lit< tt) (lit< tt)) 4 (Returned (1 ∷ []) counting 0) (Returned (2 ∷ []) counting 0) refl refl (λ e. apart_by 2 1 refl (returned_is 2 1 e)) (λ e. never_true (ap is_return e));
+  refuted = refutes 32 names after_held_old after_held_new (world 1 2) (is_world_of 1 2 (lit< tt) (lit< tt)) 4 (Returned (1 ∷ []) counting 0) (Returned (2 ∷ []) counting 0) refl refl (λ e. eqb-false 2 1 refl (returned_is 2 1 e)) (λ e. false≢true (ap is_return e));
 }
 
 -- ══ The register that replaces another before the place holds another value ══
@@ -581,7 +580,7 @@ before_held_not_idle = record {
     others = before_held_others;
     follows = unchanged before_held_old before_held_new 0 (copy_in 0 10 s32 ∷ copy_in 1 11 s32 ∷ copy_out 10 0 ∷ []) none;
   };
-  refuted = refutes 32 names before_held_old before_held_new (world 1 2) (is_world_of 1 2 (lit< tt) (lit< tt)) 4 (Returned (1 ∷ []) counting 0) (Returned (2 ∷ []) counting 0) refl refl (λ e. apart_by 2 1 refl (returned_is 2 1 e)) (λ e. never_true (ap is_return e));
+  refuted = refutes 32 names before_held_old before_held_new (world 1 2) (is_world_of 1 2 (lit< tt) (lit< tt)) 4 (Returned (1 ∷ []) counting 0) (Returned (2 ∷ []) counting 0) refl refl (λ e. eqb-false 2 1 refl (returned_is 2 1 e)) (λ e. false≢true (ap is_return e));
 }
 
 -- ══ The register that replaces another in a phi holds another value ══
@@ -628,7 +627,7 @@ phis_held_not_idle = record {
     others = phis_held_others;
     follows = unchanged phis_held_old phis_held_new 1 ([]) none;
   };
-  refuted = refutes 32 names phis_held_old phis_held_new (world 1 2) (is_world_of 1 2 (lit< tt) (lit< tt)) 4 (Returned (1 ∷ []) counting 0) (Returned (2 ∷ []) counting 0) refl refl (λ e. apart_by 2 1 refl (returned_is 2 1 e)) (λ e. never_true (ap is_return e));
+  refuted = refutes 32 names phis_held_old phis_held_new (world 1 2) (is_world_of 1 2 (lit< tt) (lit< tt)) 4 (Returned (1 ∷ []) counting 0) (Returned (2 ∷ []) counting 0) refl refl (λ e. eqb-false 2 1 refl (returned_is 2 1 e)) (λ e. false≢true (ap is_return e));
 }
 
 -- ══ A phi takes another register ══
@@ -675,7 +674,7 @@ phis_kept_not_idle = record {
     others = phis_kept_others;
     follows = unchanged phis_kept_old phis_kept_new 1 ([]) none;
   };
-  refuted = refutes 32 names phis_kept_old phis_kept_new (world 1 2) (is_world_of 1 2 (lit< tt) (lit< tt)) 4 (Returned (1 ∷ []) counting 0) (Returned (2 ∷ []) counting 0) refl refl (λ e. apart_by 2 1 refl (returned_is 2 1 e)) (λ e. never_true (ap is_return e));
+  refuted = refutes 32 names phis_kept_old phis_kept_new (world 1 2) (is_world_of 1 2 (lit< tt) (lit< tt)) 4 (Returned (1 ∷ []) counting 0) (Returned (2 ∷ []) counting 0) refl refl (λ e. eqb-false 2 1 refl (returned_is 2 1 e)) (λ e. false≢true (ap is_return e));
 }
 
 -- ══ Another instruction stands before the place ══
@@ -721,7 +720,7 @@ before_kept_not_idle = record {
     others = before_kept_others;
     follows = unchanged before_kept_old before_kept_new 0 (copy_in 0 10 s32 ∷ []) none;
   };
-  refuted = refutes 32 names before_kept_old before_kept_new (world 1 2) (is_world_of 1 2 (lit< tt) (lit< tt)) 4 (Returned (1 ∷ []) counting 0) (Returned (2 ∷ []) counting 0) refl refl (λ e. apart_by 2 1 refl (returned_is 2 1 e)) (λ e. never_true (ap is_return e));
+  refuted = refutes 32 names before_kept_old before_kept_new (world 1 2) (is_world_of 1 2 (lit< tt) (lit< tt)) 4 (Returned (1 ∷ []) counting 0) (Returned (2 ∷ []) counting 0) refl refl (λ e. eqb-false 2 1 refl (returned_is 2 1 e)) (λ e. false≢true (ap is_return e));
 }
 
 -- ══ Another instruction stands behind the place ══
@@ -767,7 +766,7 @@ after_kept_not_idle = record {
     others = after_kept_others;
     follows = unchanged after_kept_old after_kept_new 0 ([]) none;
   };
-  refuted = refutes 32 names after_kept_old after_kept_new (world 1 2) (is_world_of 1 2 (lit< tt) (lit< tt)) 4 (Returned (1 ∷ []) counting 0) (Returned (2 ∷ []) counting 0) refl refl (λ e. apart_by 2 1 refl (returned_is 2 1 e)) (λ e. never_true (ap is_return e));
+  refuted = refutes 32 names after_kept_old after_kept_new (world 1 2) (is_world_of 1 2 (lit< tt) (lit< tt)) 4 (Returned (1 ∷ []) counting 0) (Returned (2 ∷ []) counting 0) refl refl (λ e. eqb-false 2 1 refl (returned_is 2 1 e)) (λ e. false≢true (ap is_return e));
 }
 
 -- ══ The block of the place has lost its successor ══
@@ -814,7 +813,7 @@ successors_not_idle = record {
     others = successors_others;
     follows = unchanged successors_old successors_new 0 (copy_in 0 10 s32 ∷ []) none;
   };
-  refuted = refutes 32 names successors_old successors_new (world 1 2) (is_world_of 1 2 (lit< tt) (lit< tt)) 4 (Returned (1 ∷ []) counting 0) Fails refl refl (λ e. never_true (ap is_return e)) (λ e. never_true (ap is_return e));
+  refuted = refutes 32 names successors_old successors_new (world 1 2) (is_world_of 1 2 (lit< tt) (lit< tt)) 4 (Returned (1 ∷ []) counting 0) Fails refl refl (λ e. false≢true (ap is_return e)) (λ e. false≢true (ap is_return e));
 }
 
 -- ══ Another block has changed ══
@@ -856,7 +855,7 @@ others_not_idle = record {
     others = tt;
     follows = unchanged others_old others_new 0 (copy_in 0 10 s32 ∷ []) none;
   };
-  refuted = refutes 32 names others_old others_new (world 1 2) (is_world_of 1 2 (lit< tt) (lit< tt)) 4 (Returned (1 ∷ []) counting 0) (Returned (2 ∷ []) counting 0) refl refl (λ e. apart_by 2 1 refl (returned_is 2 1 e)) (λ e. never_true (ap is_return e));
+  refuted = refutes 32 names others_old others_new (world 1 2) (is_world_of 1 2 (lit< tt) (lit< tt)) 4 (Returned (1 ∷ []) counting 0) (Returned (2 ∷ []) counting 0) refl refl (λ e. eqb-false 2 1 refl (returned_is 2 1 e)) (λ e. false≢true (ap is_return e));
 }
 
 -- ══ The place does something else ══
@@ -902,7 +901,7 @@ follows_not_idle = record {
     others = follows_others;
     follows = tt;
   };
-  refuted = refutes 32 names follows_old follows_new (world 1 2) (is_world_of 1 2 (lit< tt) (lit< tt)) 4 (Returned (1 ∷ []) counting 0) (Returned (2 ∷ []) counting 0) refl refl (λ e. apart_by 2 1 refl (returned_is 2 1 e)) (λ e. never_true (ap is_return e));
+  refuted = refutes 32 names follows_old follows_new (world 1 2) (is_world_of 1 2 (lit< tt) (lit< tt)) 4 (Returned (1 ∷ []) counting 0) (Returned (2 ∷ []) counting 0) refl refl (λ e. eqb-false 2 1 refl (returned_is 2 1 e)) (λ e. false≢true (ap is_return e));
 }
 
 -- ══ A phi writes a register of fewer bits in the new function ══
@@ -949,7 +948,7 @@ no_value_stands new v None is stands = never is
     never : None ≡ Some v → ⊥
     never e = cc
 no_value_stands None v (Some u) is stands = stands
-no_value_stands (Some k) v (Some u) is stands = apart_by 16 32 refl stands.0
+no_value_stands (Some k) v (Some u) is stands = eqb-false 16 32 refl stands.0
 
 phis_widths_follows : (w : World) → IsWorld 32 w
     → IsFollowed (setting_of 32 names phis_widths_old) (setting_of 32 names phis_widths_new) w (WhereReached (setting_of 32 names phis_widths_old) w phis_widths_old.blocks 1 [] (Agree (setting_of 32 names phis_widths_old) (setting_of 32 names phis_widths_new) (only_virtual none))) (Agree (setting_of 32 names phis_widths_old) (setting_of 32 names phis_widths_new) (only_virtual none)) (AgreeAt (setting_of 32 names phis_widths_old) (setting_of 32 names phis_widths_new) (λ c. only_virtual none)) [] (other_word ∷ [])
@@ -987,7 +986,7 @@ phis_widths_not_idle = record {
     others = phis_widths_others;
     follows = phis_widths_follows;
   };
-  refuted = refutes 32 names phis_widths_old phis_widths_new (world 1 2) (is_world_of 1 2 (lit< tt) (lit< tt)) 4 (Returned (1 ∷ []) counting 0) (Returned (2 ∷ []) counting 0) refl refl (λ e. apart_by 2 1 refl (returned_is 2 1 e)) (λ e. never_true (ap is_return e));
+  refuted = refutes 32 names phis_widths_old phis_widths_new (world 1 2) (is_world_of 1 2 (lit< tt) (lit< tt)) 4 (Returned (1 ∷ []) counting 0) (Returned (2 ∷ []) counting 0) refl refl (λ e. eqb-false 2 1 refl (returned_is 2 1 e)) (λ e. false≢true (ap is_return e));
 }
 
 pub none_idle : (dropped : Premise) → IsNotIdle dropped

@@ -10,6 +10,7 @@ use Rattle.gi_refine.proofs.Staying.{has_same_value}
 use Rattle.gi_refine.proofs.Agreeing.{same_value_stands}
 use Rattle.gi_llt.specs.Bits.{wrapped}
 use Rattle.std.proofs.Common.{◌≡◌, ℕ, ◌==◌, Bool, true, false, List, [], ◌∷◌, Option, Some, None, inl, ⊎_elim, refl, sym, ap, ◌∙◌, subst, arith, option_map, ◌+◌, cond}
+use Rattle.std.proofs.lemmas.Option.{same_Some}
 use Rattle.gi_mir.specs.Data.{InstrData}
 use Rattle.gi_mir.specs.Stated.{no_flags}
 use Rattle.gi_mir.specs.declared.opcode.Opcode.TheVariants as op
@@ -26,7 +27,6 @@ use Rattle.gi_refine.specs.Simulation.{Stands, IsFollowed}
 use Rattle.gi_refine.specs.TrialFunctions.{constant_in}
 use Rattle.gi_refine.specs.Values.{IsSound, Makes, MayMake, Environment, Operation, Correspond}
 use Rattle.gi_refine.proofs.Doing.{gives_one, does_from, does_next, does_none, DoesAll}
-use Rattle.gi_refine.proofs.Tests.{same_some}
 
 -- two runs that each have one way to go, to states that aren't related
 refuted : (s t : Setting) (w : World) (before after : State → State → Type 0) (exit : ℕ → State → State → Type 0) (old new : List (ℕ × InstrData)) (state state' final final' : State) → before state state'
@@ -348,7 +348,7 @@ two_choices_unsound sound =
     ⊎_elim
     (λ may.
     let old : (f : ℕ) × (Some may.0 ≡ zero_made f) = old_makes outside (Some may.0) may.1 in
-    let is : may.0 ≡ (32, old.0) ∷ (32, 0) ∷ [] = same_some may.0 ((32, old.0) ∷ (32, 0) ∷ []) old.1 in
+    let is : may.0 ≡ (32, old.0) ∷ (32, 0) ∷ [] = same_Some may.0 ((32, old.0) ∷ (32, 0) ∷ []) old.1 in
     let both : Correspond ((1, 2) ∷ []) ((32, old.0) ∷ (32, 0) ∷ []) ((32, 1) ∷ (32, 0) ∷ (32, 1) ∷ []) =
     subst (λ e. Correspond ((1, 2) ∷ []) e ((32, 1) ∷ (32, 0) ∷ (32, 1) ∷ [])) is may.2 in
     let same : entry 32 1 ≡ entry 32 0 = both.0 in

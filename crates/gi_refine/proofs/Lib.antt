@@ -36,7 +36,6 @@ pub mod Staying
 pub mod StraightUses
 pub mod Targets
 pub mod TestedUses
-pub mod Tests
 pub mod TrialArithmetic
 pub mod TrialBytes
 pub mod TrialDoubles

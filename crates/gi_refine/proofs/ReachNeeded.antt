@@ -1,5 +1,7 @@
 -- A replacement that follows from the states that are reached, and not from all that agree.
 use Rattle.std.proofs.Common.{◌≡◌, ℕ, zero, suc, Bool, true, false, ◌==◌, if◌then◌else◌, List, [], ◌∷◌, Option, Some, None, slice_get, ⊎_elim, refl, sym, ap, subst, lit<}
+use Rattle.std.proofs.lemmas.Bool.{false≢true, eqb-false}
+use Rattle.std.proofs.lemmas.Option.{none-some}
 use Rattle.gi_mir.specs.Data.{InstrData, BlockData}
 use Rattle.gi_meaning.specs.State.{World, IsWorld, State, start, Fails, Place, Virtual, word_in, put}
 use Rattle.gi_meaning.specs.Runs.{Setting, setting_of, Progress, On, Left, Over}
@@ -11,7 +13,6 @@ use Rattle.gi_refine.specs.OnePlace.{only_virtual}
 use Rattle.gi_refine.specs.Reached.{IsReached, WhereReached}
 use Rattle.gi_refine.specs.Replacing.{any_touches, IsReplaced}
 use Rattle.gi_refine.specs.Simulation.{Stands, IsFollowed}
-use Rattle.gi_refine.proofs.Basics.{apart_by, never_true, none_some}
 use Rattle.gi_refine.proofs.Doing.{DoesAll}
 use Rattle.gi_refine.proofs.Evaluating.{steps_so}
 use Rattle.gi_refine.proofs.IdlePlaces.{seen_by, none, world, is_world_of}
@@ -101,11 +102,11 @@ two_of _ = None
 
 stands_apart : (p p' : Progress) → two_of p ≡ Some 2 → two_of p' ≡ Some 1 → Stands (Agree old_setting new_setting nothing) (AgreeAt old_setting new_setting (λ b. nothing)) p p' → ⊥
 stands_apart (On old) (On new) is is' stands =
-    apart_by 1 2 refl (subst (λ v. ValueStands 32 32 32 v (Some 1)) is (subst (λ u. ValueStands 32 32 32 (old.values 2) u) is' (stands.values 2 refl)))
+    eqb-false 1 2 refl (subst (λ v. ValueStands 32 32 32 v (Some 1)) is (subst (λ u. ValueStands 32 32 32 (old.values 2) u) is' (stands.values 2 refl)))
 stands_apart (On old) (Left c new) is is' stands = stands
 stands_apart (On old) (Over o) is is' stands = stands
-stands_apart (Left c old) p' is is' stands = none_some 2 is
-stands_apart (Over o) p' is is' stands = none_some 2 is
+stands_apart (Left c old) p' is is' stands = none-some 2 is
+stands_apart (Over o) p' is is' stands = none-some 2 is
 
 abbrev is_over : Progress → Bool
 is_over (Over o) = true
@@ -119,7 +120,7 @@ not_everywhere followed =
     let new_does : DoesAll new_setting (world 1 2) (copied 2 0 ∷ []) apart_state come' = steps_so new_setting (world 1 2) (copied 2 0 ∷ []) apart_state come' refl in
     ⊎_elim
     (λ ran. stands_apart ran.0 come' (ap two_of (old_does.only ran.0 ran.1)) refl ran.2)
-    (λ fails. never_true (sym (ap is_over (old_does.only (Over Fails) fails))))
+    (λ fails. false≢true (sym (ap is_over (old_does.only (Over Fails) fails))))
     (followed.by apart_state apart_state agrees_itself come' new_does.can)
 
 pub by_reach : IsByReach

@@ -1,6 +1,6 @@
 -- An instruction leaves its block for one of the blocks among its operands, and for no other.
 use Rattle.std.proofs.Common.{◌≡◌, ℕ, Bool, true, false, cond, ◌&&◌, ◌||◌, ◌==◌, List, [], ◌∷◌, ◌++◌, length, map, Option, Some, None, option_map, ◌⊎◌, inl, inr, ⊎_elim, nat_lt, nat_le, ◌+◌, ◌%◌, ◌^◌, ◌<◌, refl, sym, subst}
-use Rattle.std.proofs.lemmas.Bool.{eq-eqb}
+use Rattle.std.proofs.lemmas.Bool.{eq-eqb, or_cases}
 use Rattle.gi_mir.specs.Data.{InstrData}
 use Rattle.gi_mir.specs.declared.operand.MemOp.{MemOp}
 use Rattle.gi_mir.specs.declared.operand.Operand.{Operand}
@@ -48,10 +48,6 @@ abbrev is_aimed_at : (c : ℕ) → Option (List Argument) → Bool
 is_aimed_at c None = false
 is_aimed_at c (Some arguments) = is_aimed c arguments
 
-either_true : (a b : Bool) → (a || b) ≡ true → (a ≡ true) ⊎ (b ≡ true)
-either_true true b h = inl refl
-either_true false b h = inr h
-
 first_true : (a b : Bool) → a ≡ true → (a || b) ≡ true
 first_true true b h = refl
 first_true false b h = cc
@@ -65,7 +61,7 @@ aimed_appended c [] ys h = inr h
 aimed_appended c (To b ∷ xs) ys h = ⊎_elim
     (λ here. inl (first_true (b == c) (is_aimed c xs) here))
     (λ later. ⊎_elim (λ first. inl (second_true (b == c) (is_aimed c xs) first)) (λ second. inr second) (aimed_appended c xs ys later))
-    (either_true (b == c) (is_aimed c (xs ++ ys)) h)
+    (or_cases (b == c) (is_aimed c (xs ++ ys)) h)
 aimed_appended c (Value n v ∷ xs) ys h = aimed_appended c xs ys h
 aimed_appended c (_ ∷ xs) ys h = aimed_appended c xs ys h
 
@@ -79,7 +75,7 @@ value_not_aimed c width None h = h
 value_not_aimed c width (Some v) h = h
 
 argument_target : (s : Setting) (w : World) (state : State) (c : ℕ) (o : Operand) (os : List Operand) → is_aimed_at c (argument_of s w state o) ≡ true → is_target c (o ∷ os) ≡ true
-argument_target s w state c (operand.Block b) os h = ⊎_elim (λ here. first_true (b == c) (is_target c os) here) (λ never. cc) (either_true (b == c) false h)
+argument_target s w state c (operand.Block b) os h = ⊎_elim (λ here. first_true (b == c) (is_target c os) here) (λ never. cc) (or_cases (b == c) false h)
 argument_target s w state c (operand.Use r) os h = absurd (true_is (value_not_aimed c (s.width r.0) (state.values r.0) h))
   where
     true_is : false ≡ true → ⊥
@@ -195,7 +191,7 @@ read_aimed x c (Value width value) word rest arguments reads goes aimed = goes (
 read_aimed x c (To b) word rest arguments reads goes aimed = ⊎_elim
     (λ here. first_true (b == c) (is_aimed c arguments) here)
     (λ later. second_true (b == c) (is_aimed c arguments) (goes later))
-    (either_true (b == c) (is_aimed c rest) (subst (λ u. is_aimed c (u ∷ rest) ≡ true) reads aimed))
+    (or_cases (b == c) (is_aimed c rest) (subst (λ u. is_aimed c (u ∷ rest) ≡ true) reads aimed))
 read_aimed x c (Number z) word rest arguments reads goes aimed = goes (subst (λ u. is_aimed c (u ∷ rest) ≡ true) reads aimed)
 read_aimed x c _ word rest arguments reads goes aimed = goes (subst (λ u. is_aimed c (u ∷ rest) ≡ true) reads aimed)
 

@@ -1,5 +1,6 @@
 -- Trial rules on a sum of parts of words, in whole functions: widened, and selected as ADDW.
 use Rattle.std.proofs.Common.{◌≡◌, ℕ, ◌+◌, ◌^◌, ◌==◌, ◌||◌, true, false, cond, List, [], ◌∷◌, None, refl, sym, ap, ◌∙◌, subst, eq-eqb}
+use Rattle.std.proofs.lemmas.Bool.{or_parts}
 use Rattle.std.proofs.lemmas.Nat.{pow_pos, mod_below}
 use Rattle.gi_llt.specs.Bits.{wrapped}
 use Rattle.gi_mir.specs.Data.{InstrData}
@@ -26,7 +27,6 @@ use Rattle.gi_refine.proofs.OneBlock.{reached_from_start}
 use Rattle.gi_refine.proofs.RuleSteps.{not_below_itself}
 use Rattle.gi_refine.proofs.StraightUses.{state_is, another_kind, straight_refines}
 use Rattle.gi_refine.proofs.TrialRulesMore.{widen_add_sound, select_add_word_sound}
-use Rattle.gi_refine.proofs.Tests.{neither_left, neither_right}
 
 -- ══ The parts ══
 
@@ -115,10 +115,10 @@ wide_used n y = record {
 
 wide_kinds : (x n q : ℕ) → wide_hidden q ≡ false → kind_in_instrs q (wide_sum x n) ≡ kind_in_instrs q (sum_of_parts n)
 wide_kinds x n q shown =
-    let first_two : ((6 == q) || (7 == q)) ≡ false = neither_left ((6 == q) || (7 == q)) (8 == q) shown in
-    another_kind (6 == q) (bits x) _ (neither_left (6 == q) (7 == q) first_two)
-    ∙ another_kind (7 == q) (bits x) _ (neither_right (6 == q) (7 == q) first_two)
-    ∙ another_kind (8 == q) (bits x) _ (neither_right ((6 == q) || (7 == q)) (8 == q) shown)
+    let first_two : ((6 == q) || (7 == q)) ≡ false = (or_parts ((6 == q) || (7 == q)) (8 == q) shown).0 in
+    another_kind (6 == q) (bits x) _ (or_parts (6 == q) (7 == q) first_two).0
+    ∙ another_kind (7 == q) (bits x) _ (or_parts (6 == q) (7 == q) first_two).1
+    ∙ another_kind (8 == q) (bits x) _ (or_parts ((6 == q) || (7 == q)) (8 == q) shown).1
 
 -- a sum of n bits by one of words of y + n bits
 pub widening_refines : (n y : ℕ) → IsRefinement (y + n) names (on_parts (y + n) n (sum_of_parts n)) (on_parts (y + n) n (wide_sum (y + n) n))

@@ -1,5 +1,6 @@
 -- Operations on values and the instructions that show them make the same, in states whose registers have the values.
 use Rattle.std.proofs.Common.{◌≡◌, ℕ, zero, suc, Bool, true, false, cond, ◌==◌, not, ◌||◌, List, [], ◌∷◌, ◌++◌, map, Option, Some, None, option_map, slice_get, refl, sym, ap, ap₂, ◌∙◌, subst, eqb-true, eq-eqb}
+use Rattle.std.proofs.lemmas.Bool.{and_parts, or_parts, not-true}
 use Rattle.gi_mir.specs.Data.{InstrData}
 use Rattle.gi_mir.specs.declared.operand.MemOp.{MemOp}
 use Rattle.gi_mir.specs.declared.operand.Operand.{Operand}
@@ -12,7 +13,6 @@ use Rattle.gi_meaning.specs.Act.{Answer, Results, Leaves, Returns, Asks, Breaks,
 use Rattle.gi_meaning.specs.Runs.{Setting, argument_of, arguments_of, joined_lists, places_of, written_places, width_of_place, put_all, Progress, On, Over, going_on, progress_of, StepsFrom, Steps, After, Executes, is_among}
 use Rattle.gi_refine.specs.Values.{Environment, Slot, At, Fixed, Operation, is_pure, are_pure, argument_at, arguments_at, ActsFrom, appended, answered, Then, Makes}
 use Rattle.gi_refine.specs.Lifting.{fixed_argument, ShowsSlot, ShowsSlots, ShowsOperands, Shows, grown, all_grown, AllShow, are_fresh, are_all_fresh, is_result, Reads}
-use Rattle.gi_refine.proofs.Tests.{neither_left, neither_right, both_left, both_right, not_true}
 
 -- ══ Reads ══
 
@@ -254,8 +254,8 @@ reads_put width values r v [] (entry ∷ env) fresh reads = absurd reads
 reads_put width values r v (q ∷ rs) [] fresh reads = absurd reads
 reads_put width values r v (q ∷ rs) (entry ∷ env) fresh reads = (
   reads.0,
-  value_seen (q == r) v (values q) (eqb_swapped r q (neither_left (r == q) (is_among r rs) fresh)) ∙ reads.1,
-  reads_put width values r v rs env (neither_right (r == q) (is_among r rs) fresh) reads.2,
+  value_seen (q == r) v (values q) (eqb_swapped r q (or_parts (r == q) (is_among r rs) fresh).0) ∙ reads.1,
+  reads_put width values r v rs env (or_parts (r == q) (is_among r rs) fresh).1 reads.2,
 )
 
 -- what became of a state that came of another by writes among those that are counted
@@ -280,11 +280,11 @@ put_all_settled width [] (v ∷ vs) rs env state fresh reads = refl
 put_all_settled width (r ∷ results) [] rs env state fresh reads = refl
 put_all_settled width (r ∷ results) (v ∷ vs) rs env state fresh reads =
     settled_moved width state (put state (Virtual r) v) (λ q. is_among q results) (λ q. is_among q (r ∷ results)) (grown (rs ++ r ∷ []) results)
-    (λ q h. value_seen (q == r) v (state.values q) (neither_left (q == r) (is_among q results) h)) refl refl
-    (λ q h. neither_right (q == r) (is_among q results) h) _ _
+    (λ q h. value_seen (q == r) v (state.values q) (or_parts (q == r) (is_among q results) h).0) refl refl
+    (λ q h. (or_parts (q == r) (is_among q results) h).1) _ _
     (put_all_settled width results vs (rs ++ r ∷ []) (env ++ (width r, v) ∷ []) (put state (Virtual r) v)
-    (both_right (not (is_among r rs)) (are_fresh (rs ++ r ∷ []) results) fresh)
-    (reads_put width state.values r v rs env (not_true (is_among r rs) (both_left (not (is_among r rs)) (are_fresh (rs ++ r ∷ []) results) fresh)) reads))
+    (and_parts (not (is_among r rs)) (are_fresh (rs ++ r ∷ []) results) fresh).1
+    (reads_put width state.values r v rs env (not-true (is_among r rs) (and_parts (not (is_among r rs)) (are_fresh (rs ++ r ∷ []) results) fresh).0) reads))
 
 settle_widths : (width : ℕ → ℕ) (results rs : List ℕ) (env : Environment) (state : State) (answer : Answer) → are_fresh rs results ≡ true → Reads width state.values rs env
     → IsPlain (outside_of state) answer
@@ -332,7 +332,7 @@ forward_next s w outside os rss is rs written state next p (Some env) settled he
       made = more.made;
       does = more.does;
       settled = settled_moved s.width state settled.0 (λ r. is_result r rss) (λ r. written r || is_result r rss) (all_grown rs rss)
-          (λ r h. became.kept r (neither_left (written r) (is_result r rss) h)) became.words became.outside (λ r h. neither_right (written r) (is_result r rss) h) p more.made more.settled;
+          (λ r h. became.kept r (or_parts (written r) (is_result r rss) h).0) became.words became.outside (λ r h. (or_parts (written r) (is_result r rss) h).1) p more.made more.settled;
     }
 
 -- what instructions do, their operations make of the values
@@ -349,19 +349,19 @@ forward s w outside [] (o ∷ os) is rs env state p shown pure fresh here reads 
 forward s w outside (results ∷ rss) [] is rs env state p shown pure fresh here reads run = absurd shown
 forward s w outside (results ∷ rss) (o ∷ os) [] rs env state p shown pure fresh here reads run = absurd shown
 forward s w outside (results ∷ rss) (o ∷ os) (i ∷ is) rs env state p shown pure fresh here reads run =
-    let pure_here : is_pure (meaning_of o.flags o.op) ≡ true = both_left (is_pure (meaning_of o.flags o.op)) (are_pure os) pure in
+    let pure_here : is_pure (meaning_of o.flags o.op) ≡ true = (and_parts (is_pure (meaning_of o.flags o.op)) (are_pure os) pure).0 in
     let shows : Shows s w rs results o i.1 = shown.0 in
     let step : Answering s w o results state (arguments_at env o.slots) run.0 =
     answering s w o results state (arguments_at env o.slots) run.0
     (steps_as_operation s w rs results env o i.1 state (parts s w rs results env o i.1 state pure_here shows reads) shows.mem run.0 run.1) in
     let settled : Settled s.width state (λ r. is_among r results) (grown rs results) run.0 (answered env o.widths step.answer) =
     subst (λ q. Settled s.width state (λ r. is_among r results) (grown rs results) q (answered env o.widths step.answer)) (sym step.made)
-    (settle s.width results rs o.widths env state step.answer shows.widths (both_left (are_fresh rs results) (are_all_fresh (grown rs results) rss) fresh) reads
+    (settle s.width results rs o.widths env state step.answer shows.widths (and_parts (are_fresh rs results) (are_all_fresh (grown rs results) rss) fresh).0 reads
     (acts_plain s.x w o (outside_of state) (arguments_at env o.slots) step.answer pure_here step.acts)) in
     let more : Forward s.width (Then (answered env o.widths step.answer) (Makes s.x w outside os)) state (λ r. is_among r results || is_result r rss) (all_grown (grown rs results) rss) p =
     forward_next s w outside os rss is (grown rs results) (λ r. is_among r results) state run.0 p (answered env o.widths step.answer) settled here
-    (λ middle env' there reads' run'. forward s w outside rss os is (grown rs results) env' middle p shown.1 (both_right (is_pure (meaning_of o.flags o.op)) (are_pure os) pure)
-    (both_right (are_fresh rs results) (are_all_fresh (grown rs results) rss) fresh) there reads' run')
+    (λ middle env' there reads' run'. forward s w outside rss os is (grown rs results) env' middle p shown.1 (and_parts (is_pure (meaning_of o.flags o.op)) (are_pure os) pure).1
+    (and_parts (are_fresh rs results) (are_all_fresh (grown rs results) rss) fresh).1 there reads' run')
     run.2 in
     record {
       made = more.made;
@@ -394,7 +394,7 @@ backward_next s w outside os rss is rs written state next (Some env) made settle
       progress = more.progress;
       run = subst (λ q. After q (Executes s w is) more.progress) (sym settled.1) more.run;
       settled = settled_moved s.width state settled.0 (λ r. is_result r rss) (λ r. written r || is_result r rss) (all_grown rs rss)
-          (λ r h. became.kept r (neither_left (written r) (is_result r rss) h)) became.words became.outside (λ r h. neither_right (written r) (is_result r rss) h) more.progress made more.settled;
+          (λ r h. became.kept r (or_parts (written r) (is_result r rss) h).0) became.words became.outside (λ r h. (or_parts (written r) (is_result r rss) h).1) more.progress made more.settled;
     }
 
 -- what operations make of the values, the instructions may do
@@ -411,16 +411,16 @@ backward s w outside [] (o ∷ os) is rs env state made shown pure fresh here re
 backward s w outside (results ∷ rss) [] is rs env state made shown pure fresh here reads makes = absurd shown
 backward s w outside (results ∷ rss) (o ∷ os) [] rs env state made shown pure fresh here reads makes = absurd shown
 backward s w outside (results ∷ rss) (o ∷ os) (i ∷ is) rs env state made shown pure fresh here reads makes =
-    let pure_here : is_pure (meaning_of o.flags o.op) ≡ true = both_left (is_pure (meaning_of o.flags o.op)) (are_pure os) pure in
+    let pure_here : is_pure (meaning_of o.flags o.op) ≡ true = (and_parts (is_pure (meaning_of o.flags o.op)) (are_pure os) pure).0 in
     let shows : Shows s w rs results o i.1 = shown.0 in
     let answer : Answer = makes.0 in
     let acts : ActsFrom s.x w o (outside_of state) (arguments_at env o.slots) answer = subst (λ out. ActsFrom s.x w o out (arguments_at env o.slots) answer) (sym here) makes.1 in
     let more : Backward s w (After (progress_of state (map Virtual results) answer) (Executes s w is)) state (λ r. is_among r results || is_result r rss) (all_grown (grown rs results) rss) made =
     backward_next s w outside os rss is (grown rs results) (λ r. is_among r results) state (progress_of state (map Virtual results) answer) (answered env o.widths answer) made
-    (settle s.width results rs o.widths env state answer shows.widths (both_left (are_fresh rs results) (are_all_fresh (grown rs results) rss) fresh) reads
+    (settle s.width results rs o.widths env state answer shows.widths (and_parts (are_fresh rs results) (are_all_fresh (grown rs results) rss) fresh).0 reads
     (acts_plain s.x w o (outside_of state) (arguments_at env o.slots) answer pure_here acts)) here
-    (λ middle env' there reads' makes'. backward s w outside rss os is (grown rs results) env' middle made shown.1 (both_right (is_pure (meaning_of o.flags o.op)) (are_pure os) pure)
-    (both_right (are_fresh rs results) (are_all_fresh (grown rs results) rss) fresh) there reads' makes')
+    (λ middle env' there reads' makes'. backward s w outside rss os is (grown rs results) env' middle made shown.1 (and_parts (is_pure (meaning_of o.flags o.op)) (are_pure os) pure).1
+    (and_parts (are_fresh rs results) (are_all_fresh (grown rs results) rss) fresh).1 there reads' makes')
     makes.2 in
     record {
       progress = more.progress;
