@@ -21,14 +21,11 @@ use Rattle.gi_meaning.specs.Runs.{Setting, arguments_of, places_of, written_plac
 use Rattle.gi_refine.specs.Constants.{is_virtual, writes, is_constant_of, keeps_constant, all_keep_constant, no_phi_writes, only_constant, HoldsOnly}
 use Rattle.gi_refine.specs.Invariant.{GoesOnWith, AllKeep, BlockKeeps}
 use Rattle.gi_refine.specs.Reached.{IsReached}
+use Rattle.gi_refine.proofs.Basics.{value_stays}
 use Rattle.gi_refine.proofs.Invariants.{invariant_holds}
 use Rattle.gi_refine.proofs.ValuesPlaced.{BothRead, both_read}
 
 -- ══ Writes to other places ══
-
-value_stays : (b : Bool) (v : ℕ) (old : Option ℕ) → b ≡ false → cond b (Some v) old ≡ old
-value_stays true v old h = cc
-value_stays false v old h = refl
 
 put_other : (r v : ℕ) (state : State) (p : Place) → is_virtual r p ≡ false → (put state p v).values r ≡ state.values r
 put_other r v state (Virtual q) h = value_stays (r == q) v (state.values r) h

@@ -24,6 +24,7 @@ use Rattle.gi_meaning.specs.Runs.{Setting, setting_of, argument_of, arguments_of
 use Rattle.gi_refine.specs.Fitting.{IsFit, always_fits, is_fitting_constant, keeps_fit, all_keep_fit, uses_have, phi_fits, phis_fit, blocks_fit}
 use Rattle.gi_refine.specs.Invariant.{GoesOnWith, AllKeep, BlockKeeps}
 use Rattle.gi_refine.specs.Reached.{IsReached}
+use Rattle.gi_refine.proofs.Basics.{either_fits}
 use Rattle.gi_refine.proofs.Invariants.{invariant_holds}
 use Rattle.gi_meaning.proofs.Numbers.{unsigned_below}
 
@@ -254,10 +255,6 @@ value_fit : (n : ℕ) (b : Bool) (v : ℕ) (old : Option ℕ) → (b ≡ true �
 value_fit n true v old h l = h refl
 value_fit n false v old h l = l
 
-put_word_fit : (x : ℕ) (b : Bool) (v old : ℕ) → v < 2 ^ x → old < 2 ^ x → cond b v old < 2 ^ x
-put_word_fit x true v old h l = h
-put_word_fit x false v old h l = l
-
 put_fit : (s : Setting) (state : State) (p : Place) (v : ℕ) → v < 2 ^ width_of_place s p → IsFit s state → IsFit s (put state p v)
 put_fit s state (Virtual q) v h fit = record {
   values = λ r. value_fit (s.width r) (r == q) v (state.values r) (λ same. subst (λ k. v < 2 ^ s.width k) (sym (eqb-true r q same)) h) (fit.values r);
@@ -265,7 +262,7 @@ put_fit s state (Virtual q) v h fit = record {
 }
 put_fit s state (Physical m) v h fit = record {
   values = fit.values;
-  words = λ n. put_word_fit s.x (n == m) v (state.words n) h (fit.words n);
+  words = λ n. either_fits s.x (n == m) v (state.words n) h (fit.words n);
 }
 
 abbrev IsThereFit : (s : Setting) → Option State → Type 0

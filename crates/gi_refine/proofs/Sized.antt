@@ -22,6 +22,7 @@ use Rattle.gi_meaning.specs.Routine.{first_routine, InTwoWords}
 use Rattle.gi_meaning.specs.Act.{Answer, Results, Leaves, Returns, Asks, Breaks, Answers, AnswersWords, all_fitted, copied, copy, extended, from_loaded, load, machine_load, StoresThere, Stores, MachineStores, jump, machine_branch, LeavesFree, CallsGlobal, Calls, Act, AllReadAs, are_routine_registers, result_registers, passed, words_of}
 use Rattle.gi_meaning.specs.Runs.{argument_of, arguments_of, joined_lists, written_places, width_of_place, put_all, Progress, On, Left, Over, going_on, progress_of, StepsFrom}
 use Rattle.gi_refine.specs.Agreement.{setting}
+use Rattle.gi_refine.proofs.Basics.{either_fits}
 use Rattle.gi_refine.proofs.Targets.{or_breaks}
 use Rattle.gi_refine.specs.Worded.{is_implicit_definition, may_have_words, is_worded, IsSized}
 use Rattle.gi_meaning.specs.State.{Event, World, IsWorld, State, Outside, outside_of, Place, Virtual, Physical, word_in, put, AreWords, AreBytes, AreEvents}
@@ -429,13 +430,9 @@ value_sized : (x : ℕ) (b : Bool) (v : ℕ) (old : Option ℕ) → v < 2 ^ x �
 value_sized x true v old h l = h
 value_sized x false v old h l = l
 
-word_sized : (x : ℕ) (b : Bool) (v old : ℕ) → v < 2 ^ x → old < 2 ^ x → cond b v old < 2 ^ x
-word_sized x true v old h l = h
-word_sized x false v old h l = l
-
 pub put_sized : (x : ℕ) (state : State) (p : Place) (v : ℕ) → v < 2 ^ x → IsSized x state → IsSized x (put state p v)
 put_sized x state (Virtual q) v h sized = record { values = λ r. value_sized x (r == q) v (state.values r) h (sized.values r); words = sized.words; memory = sized.memory }
-put_sized x state (Physical m) v h sized = record { values = sized.values; words = λ n. word_sized x (n == m) v (state.words n) h (sized.words n); memory = sized.memory }
+put_sized x state (Physical m) v h sized = record { values = sized.values; words = λ n. either_fits x (n == m) v (state.words n) h (sized.words n); memory = sized.memory }
 
 abbrev pub IsOptionSized : (x : ℕ) → Option State → Type 0
 IsOptionSized x None = Unit {0}
@@ -488,7 +485,7 @@ value_small x width None h = tt
 value_small x width (Some v) h = (h, tt)
 
 pub word_in_small : (x n : ℕ) (state : State) → IsSized x state → word_in state n < 2 ^ x
-word_in_small x n state sized = word_sized x (n == 0) 0 (state.words n) (pow_pos x) (sized.words n)
+word_in_small x n state sized = either_fits x (n == 0) 0 (state.words n) (pow_pos x) (sized.words n)
 
 argument_small : (x : ℕ) (names : List (List ℕ)) (width : ℕ → ℕ) (w : World) → IsWorld x w → (state : State) → IsSized x state → (o : Operand) → AreOptionSmall x (argument_of (setting x names width) w state o)
 argument_small x names width w is_world state sized (operand.Use r) = value_small x (width r.0) (state.values r.0) (sized.values r.0)

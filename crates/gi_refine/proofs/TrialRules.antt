@@ -14,7 +14,8 @@ use Rattle.gi_meaning.specs.Machine.{on_words, sum_word}
 use Rattle.gi_meaning.specs.Act.{Results, AnswersWords, fitted}
 use Rattle.gi_refine.specs.Values.{Makes, Correspond, MayMake, IsSound, IsCertain}
 use Rattle.gi_refine.specs.TrialRules.{subtract_self, add_constants, add_zero, select_add}
-use Rattle.gi_refine.proofs.RuleSteps.{answers_given, unless_given, exactly, constant_known, entry, entry_value, ReadTwo, read_two, whole_word, whole_fitted, words_exactly}
+use Rattle.gi_refine.proofs.Basics.{whole_fitted}
+use Rattle.gi_refine.proofs.RuleSteps.{answers_given, unless_given, exactly, constant_known, entry, entry_value, ReadTwo, read_two, whole_word, words_exactly}
 
 -- ══ Folds, and a use replaced ══
 

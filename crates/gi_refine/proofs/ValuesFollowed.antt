@@ -1,9 +1,8 @@
 -- A sound rule on values, placed on registers: what the new instructions do, the old do too, or they fail.
-use Rattle.std.proofs.Common.{◌≡◌, ℕ, ◌^◌, ◌<◌, Bool, true, false, cond, ◌==◌, not, ◌&&◌, ◌||◌, List, [], ◌∷◌, map, Option, Some, None, slice_get, ◌⊎◌, inl, inr, ⊎_elim, refl, sym, ap, ap₂, ◌∙◌, subst, eqb-true}
+use Rattle.std.proofs.Common.{◌≡◌, ℕ, ◌^◌, ◌<◌, Bool, true, false, cond, ◌==◌, not, ◌&&◌, ◌||◌, List, [], ◌∷◌, map, Option, Some, None, slice_get, ◌⊎◌, inl, inr, ⊎_elim, refl, sym, ap, ◌∙◌, subst, eqb-true}
 use Rattle.std.proofs.lemmas.Bool.{and_parts, or_parts, or_cases, not-true}
 use Rattle.std.proofs.lemmas.Option.{same_Some}
 use Rattle.gi_mir.specs.Data.{InstrData}
-use Rattle.gi_meaning.specs.Memory.{Memory}
 use Rattle.gi_meaning.specs.State.{World, State, Outside, outside_of, Fails, Place, Virtual, Physical}
 use Rattle.gi_meaning.specs.Runs.{Setting, Progress, On, Over, Executes}
 use Rattle.gi_refine.specs.Agreement.{Agree, ValueStands, setting}
@@ -11,7 +10,7 @@ use Rattle.gi_refine.specs.Kept.{HasSameValue}
 use Rattle.gi_refine.specs.Simulation.{Stands, IsFollowed}
 use Rattle.gi_refine.specs.Values.{Environment, Makes, AllHold, Rule, Correspond, MayMake, ForAllOf, IsSound}
 use Rattle.gi_refine.specs.Lifting.{all_grown, is_result, none_hidden, is_register, Placing, is_kept, left_hidden, IsPlaced, Reads, AreSized, AgreeReady}
-use Rattle.gi_refine.proofs.Agreeing.{same_value, same_value_stands}
+use Rattle.gi_refine.proofs.Agreeing.{same_value, same_value_stands, outside_same}
 use Rattle.gi_refine.proofs.ValuesPlaced.{BothRead, both_read, Became, Settled, Forward, forward, Backward, backward}
 
 -- ══ The inputs ══
@@ -45,9 +44,6 @@ reads_new x names width width' hidden old new agree (r ∷ rs) (entry ∷ env) s
       (agree.values r (not-true (hidden (Virtual r)) (and_parts (not (hidden (Virtual r))) (none_hidden hidden rs) seen).0)))),
   reads_new x names width width' hidden old new agree rs env (and_parts (not (hidden (Virtual r))) (none_hidden hidden rs) seen).1 (rest_of (width r) (width' r) (map width rs) (map width' rs) same) reads.2,
 )
-
-outside_same : (x : ℕ) (names : List (List ℕ)) (width width' : ℕ → ℕ) (hidden : Place → Bool) (old new : State) → Agree (setting x names width) (setting x names width') hidden old new → outside_of new ≡ outside_of old
-outside_same x names width width' hidden old new agree = ap₂ (λ (m : Memory) (t : ℕ). let o : Outside = record { memory = m; taken = t } in o) agree.memory agree.taken
 
 -- ══ The results ══
 
@@ -144,7 +140,7 @@ values_followed x names width width' w rule placing before after exit is is' sou
   by = λ old new related p' run.
       let env : Environment = related.ready.env in
       let made : Forward width' (Makes x w (outside_of old) rule.new env) new (λ r. is_result r placing.new) (all_grown placing.inputs placing.new) p' =
-      forward (setting x names width') w (outside_of old) placing.new rule.new is' placing.inputs env new p' placed.new_shown placed.new_pure placed.new_fresh (outside_same x names width width' before old new related.agree)
+      forward (setting x names width') w (outside_of old) placing.new rule.new is' placing.inputs env new p' placed.new_shown placed.new_pure placed.new_fresh (outside_same (setting x names width) (setting x names width') before old new related.agree)
       (reads_new x names width width' before old new related.agree placing.inputs env placed.seen (placed.old_widths ∙ sym placed.new_widths) related.ready.read) run in
       follow_made x names width width' w rule placing before after exit is old new env p' related.agree placed.covered
       (λ m makes. backward (setting x names width) w (outside_of old) placing.old rule.old is placing.inputs env old m placed.old_shown placed.old_pure placed.old_fresh refl related.ready.read makes)

@@ -1,6 +1,6 @@
 -- Operations on values and the instructions that show them make the same, in states whose registers have the values.
-use Rattle.std.proofs.Common.{◌≡◌, ℕ, zero, suc, Bool, true, false, cond, ◌==◌, not, ◌||◌, List, [], ◌∷◌, ◌++◌, map, Option, Some, None, option_map, slice_get, refl, sym, ap, ap₂, ◌∙◌, subst, eqb-true, eq-eqb}
-use Rattle.std.proofs.lemmas.Bool.{and_parts, or_parts, not-true}
+use Rattle.std.proofs.Common.{◌≡◌, ℕ, zero, suc, Bool, true, false, cond, ◌==◌, not, ◌||◌, List, [], ◌∷◌, ◌++◌, map, Option, Some, None, option_map, slice_get, refl, sym, ap, ap₂, ◌∙◌, subst, eq-eqb}
+use Rattle.std.proofs.lemmas.Bool.{and_parts, eqb-false, ne_eqb, not-true, or_parts}
 use Rattle.gi_mir.specs.Data.{InstrData}
 use Rattle.gi_mir.specs.declared.operand.MemOp.{MemOp}
 use Rattle.gi_mir.specs.declared.operand.Operand.{Operand}
@@ -13,6 +13,7 @@ use Rattle.gi_meaning.specs.Act.{Answer, Results, Leaves, Returns, Asks, Breaks,
 use Rattle.gi_meaning.specs.Runs.{Setting, argument_of, arguments_of, joined_lists, places_of, written_places, width_of_place, put_all, Progress, On, Over, going_on, progress_of, StepsFrom, Steps, After, Executes, is_among}
 use Rattle.gi_refine.specs.Values.{Environment, Slot, At, Fixed, Operation, is_pure, are_pure, argument_at, arguments_at, ActsFrom, appended, answered, Then, Makes}
 use Rattle.gi_refine.specs.Lifting.{fixed_argument, ShowsSlot, ShowsSlots, ShowsOperands, Shows, grown, all_grown, AllShow, are_fresh, are_all_fresh, is_result, Reads}
+use Rattle.gi_refine.proofs.Basics.{value_stays}
 
 -- ══ Reads ══
 
@@ -236,17 +237,6 @@ abbrev pub Settled : (width : ℕ → ℕ) (state : State) (is_written : ℕ →
 Settled width state is_written registers p None = p ≡ Over Fails
 Settled width state is_written registers p (Some env) = (final : State) × (p ≡ On final) × Became width state is_written registers env final
 
-value_seen : (b : Bool) (v : ℕ) (old : Option ℕ) → b ≡ false → cond b (Some v) old ≡ old
-value_seen true v old h = cc
-value_seen false v old h = refl
-
-swapped : (a b : ℕ) (c : Bool) → (b == a) ≡ c → (a == b) ≡ false → (b == a) ≡ false
-swapped a b false is h = is
-swapped a b true is h = let e : (a == b) ≡ true = eq-eqb a b (sym (eqb-true b a is)) in cc
-
-eqb_swapped : (a b : ℕ) → (a == b) ≡ false → (b == a) ≡ false
-eqb_swapped a b h = swapped a b (b == a) refl h
-
 reads_put : (width : ℕ → ℕ) (values : ℕ → Option ℕ) (r v : ℕ) (rs : List ℕ) (env : Environment) → is_among r rs ≡ false → Reads width values rs env
     → Reads width (λ q. cond (q == r) (Some v) (values q)) (rs ++ r ∷ []) (env ++ (width r, v) ∷ [])
 reads_put width values r v [] [] fresh reads = (refl, ap (λ b. cond b (Some v) (values r)) (eq-eqb r r refl), tt)
@@ -254,7 +244,7 @@ reads_put width values r v [] (entry ∷ env) fresh reads = absurd reads
 reads_put width values r v (q ∷ rs) [] fresh reads = absurd reads
 reads_put width values r v (q ∷ rs) (entry ∷ env) fresh reads = (
   reads.0,
-  value_seen (q == r) v (values q) (eqb_swapped r q (or_parts (r == q) (is_among r rs) fresh).0) ∙ reads.1,
+  value_stays (q == r) v (values q) (ne_eqb q r (λ e. eqb-false r q (or_parts (r == q) (is_among r rs) fresh).0 (sym e))) ∙ reads.1,
   reads_put width values r v rs env (or_parts (r == q) (is_among r rs) fresh).1 reads.2,
 )
 
@@ -280,7 +270,7 @@ put_all_settled width [] (v ∷ vs) rs env state fresh reads = refl
 put_all_settled width (r ∷ results) [] rs env state fresh reads = refl
 put_all_settled width (r ∷ results) (v ∷ vs) rs env state fresh reads =
     settled_moved width state (put state (Virtual r) v) (λ q. is_among q results) (λ q. is_among q (r ∷ results)) (grown (rs ++ r ∷ []) results)
-    (λ q h. value_seen (q == r) v (state.values q) (or_parts (q == r) (is_among q results) h).0) refl refl
+    (λ q h. value_stays (q == r) v (state.values q) (or_parts (q == r) (is_among q results) h).0) refl refl
     (λ q h. (or_parts (q == r) (is_among q results) h).1) _ _
     (put_all_settled width results vs (rs ++ r ∷ []) (env ++ (width r, v) ∷ []) (put state (Virtual r) v)
     (and_parts (not (is_among r rs)) (are_fresh (rs ++ r ∷ []) results) fresh).1

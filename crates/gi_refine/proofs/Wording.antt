@@ -20,6 +20,7 @@ use Rattle.gi_meaning.specs.Act.{Answer, Results, Leaves, Returns, Asks, Breaks,
 use Rattle.gi_meaning.specs.Runs.{Setting, argument_of, arguments_of, joined_lists, width_of_place}
 use Rattle.gi_refine.specs.Agreement.{setting, StandsFor, ValueStands, Agree}
 use Rattle.gi_refine.specs.Worded.{is_worded, AreWorded, IsSized}
+use Rattle.gi_refine.proofs.Basics.{copied_whole, not_below_itself, whole_fitted}
 use Rattle.gi_refine.proofs.Agreeing.{alike_stands, stands_alike, word_stands, PlaceStands, ResultsStand, AnswerStands}
 use Rattle.gi_refine.proofs.Targets.{machine_stores_have}
 use Rattle.gi_refine.proofs.Sized.{machine_load_small, IsPlain, plain_or_free, AreSmall, GivesWords, IsBounded, meaning_bounded, reads_small, word_in_small}
@@ -47,9 +48,6 @@ low_stands x m v u less small low = by (eqb_tells m x)
     by : ((m == x) ≡ true) × (m ≡ x) ⊎ ((m == x) ≡ false) × (m ≡ x → ⊥) → StandsFor x m x v u
     by (inl same) = absurd (omega (arith, same.1, less))
     by (inr other) = subst (λ b. cond b (u ≡ v) ((x ≡ x) × (m < x) × (u < 2 ^ x) × (u % 2 ^ m ≡ v))) (sym other.0) (refl, less, small, low)
-
-not_less : (x : ℕ) → nat_lt x x ≡ false
-not_less x = le-ltb x x (omega arith)
 
 -- to cut twice is to cut once
 pub cut_twice : (u n m : ℕ) → m ≤ n → u % 2 ^ n % 2 ^ m ≡ u % 2 ^ m
@@ -134,7 +132,7 @@ read_worded x (Value m v) b h = by (as_word x m v h.0 h.1)
   where
     by : AsWord x m v h.0 → ReadsAs x (Value m v) b
     by (Whole e same) =
-        subst (λ c. cond c ((word : ℕ) × (word < 2 ^ x) × (word % 2 ^ m ≡ v) × (b ≡ Value x word)) (b ≡ Value m v)) (sym (subst (λ k. nat_lt k x ≡ false) (sym e) (not_less x)))
+        subst (λ c. cond c ((word : ℕ) × (word < 2 ^ x) × (word % 2 ^ m ≡ v) × (b ≡ Value x word)) (b ≡ Value m v)) (sym (subst (λ k. nat_lt k x ≡ false) (sym e) (not_below_itself x)))
         (h.3 ∙ ap₂ Value (sym e) same)
     by (Low less small low) =
         subst (λ c. cond c ((word : ℕ) × (word < 2 ^ x) × (word % 2 ^ m ≡ v) × (b ≡ Value x word)) (b ≡ Value m v)) (sym (lt-ltb m x less)) (h.0, h.2, low, h.3)
@@ -149,7 +147,7 @@ all_read_worded x (a ∷ olds) (b ∷ news) h = (b, news, read_worded x a b h.0,
 
 -- the new one reads them as they are
 word_itself : (x u : ℕ) (word : Argument) → ReadsAs x (Value x u) word → word ≡ Value x u
-word_itself x u word reads = subst (λ c. cond c ((v : ℕ) × (v < 2 ^ x) × (v % 2 ^ x ≡ u) × (word ≡ Value x v)) (word ≡ Value x u)) (not_less x) reads
+word_itself x u word reads = subst (λ c. cond c ((v : ℕ) × (v < 2 ^ x) × (v % 2 ^ x ≡ u) × (word ≡ Value x v)) (word ≡ Value x u)) (not_below_itself x) reads
 
 reads_itself : (x : ℕ) (a b word : Argument) → ArgumentWorded x a b → ReadsAs x b word → word ≡ b
 reads_itself x (Value m v) b word h reads = word_itself x h.0 word (subst (λ k. ReadsAs x k word) h.3 reads) ∙ sym h.3
@@ -171,9 +169,6 @@ PlacesWorded s t [] = Unit {0}
 PlacesWorded s t (Virtual r ∷ ps) = (s.width r ≤ s.x) × (t.width r ≡ s.x) × PlacesWorded s t ps
 PlacesWorded s t (Physical n ∷ ps) = PlacesWorded s t ps
 
-fitted_whole : (x v : ℕ) → fitted x x v ≡ v
-fitted_whole x v = subst (λ b. (if b then wrapped x v else v) ≡ v) (sym (not_less x)) refl
-
 -- a word stands for what fits into m bits of it
 fitted_stands : (x m v : ℕ) → m ≤ x → v < 2 ^ x → StandsFor x m x (fitted x m v) (fitted x x v)
 fitted_stands x m v within small = by (eqb_tells m x)
@@ -182,7 +177,7 @@ fitted_stands x m v within small = by (eqb_tells m x)
     by (inl same) = subst (λ k. StandsFor x k x (fitted x k v) (fitted x x v)) (sym same.1) (alike_stands x x (fitted x x v) (fitted x x v) refl)
     by (inr other) =
         let less : m < x = omega (arith, within, other.1) in
-        subst (λ u. StandsFor x m x (fitted x m v) u) (sym (fitted_whole x v))
+        subst (λ u. StandsFor x m x (fitted x m v) u) (sym (whole_fitted x v))
         (subst (λ b. StandsFor x m x (if b then wrapped m v else v) v) (sym (lt-ltb m x less)) (low_stands x m (wrapped m v) v less small refl))
 
 results_worded : (x : ℕ) (names : List (List ℕ)) (width width' : ℕ → ℕ) (ps : List Place) (vs : List ℕ) → PlacesWorded (setting x names width) (setting x names width') ps → AreWords x vs
@@ -258,14 +253,14 @@ wider x m n v u less within small word = (
   fitted x n u,
   subst (λ b. IsGiven (if b then LowBits m n v else if m == n then one v else one (wrapped n v)) (fitted x n u ∷ [])) (sym (lt-ltb m n less))
       (fitted x n u, fitted_below x n u within small, fitted_low x n m u (omega (arith, less)) ∙ low_of x m n v u less within word, refl),
-  subst (λ k. StandsFor x n x (fitted x n u) k) (fitted_whole x u) (fitted_stands x n u within small),
+  subst (λ k. StandsFor x n x (fitted x n u) k) (whole_fitted x u) (fitted_stands x n u within small),
 )
 
 same_width : (x m n v u : ℕ) → m ≡ n → StandsFor x m x v u → CopyChosen x m n v u
 same_width x m n v u e stands = (
   v,
   subst (λ k. IsGiven (copied m k v) (v ∷ [])) e
-      (subst (λ b. IsGiven (if b then LowBits m m v else if m == m then one v else one (wrapped m v)) (v ∷ [])) (sym (not_less m))
+      (subst (λ b. IsGiven (if b then LowBits m m v else if m == m then one v else one (wrapped m v)) (v ∷ [])) (sym (not_below_itself m))
       (subst (λ b. IsGiven (if b then one v else one (wrapped m v)) (v ∷ [])) (sym (eq-eqb m m refl)) refl)),
   subst (λ k. StandsFor x k x v u) e stands,
 )
@@ -294,11 +289,6 @@ choose_copy x m n v u within small stands = by (less_tells m n) (eqb_tells m n)
     by (inr other) (inl same) = same_width x m n v u same.1 stands
     by (inr other) (inr apart) =
         narrower x m n v u (omega (arith, other.1, apart.1)) (at_most x m v u (as_word x m v u stands)) small other.0 apart.0 (as_word x m v u stands)
-
-copied_whole : (x u : ℕ) → copied x x u ≡ one u
-copied_whole x u =
-    subst (λ b. (if b then LowBits x x u else if x == x then one u else one (wrapped x u)) ≡ one u) (sym (not_less x))
-    (subst (λ b. (if b then one u else one (wrapped x u)) ≡ one u) (sym (eq-eqb x x refl)) refl)
 
 -- a place has a word in the new function, and at most a word in the old one
 place_within : (x : ℕ) (names : List (List ℕ)) (width width' : ℕ → ℕ) (p : Place) → PlacesWorded (setting x names width) (setting x names width') (p ∷ []) → width_of_place (setting x names width) p ≤ x
@@ -366,7 +356,7 @@ free_worded x names width width' (p ∷ []) worded [] [] args outside answer' ac
     let small : given.0 < 2 ^ x = subst (λ k. given.0 < 2 ^ k) (place_whole x names width width' p worded) given.1 in
     one_answered x names width width' p worded (free n) outside answer' given.0 (act.2 ∙ ap (λ us. Results us outside) given.3) (fitted x n given.0)
     (fitted x n given.0, fitted_below x n given.0 within small, no_remainder (fitted x n given.0) ∙ sym (no_remainder 0), refl)
-    (subst (λ k. StandsFor x n x (fitted x n given.0) k) (fitted_whole x given.0) (fitted_stands x n given.0 within small))
+    (subst (λ k. StandsFor x n x (fitted x n given.0) k) (whole_fitted x given.0) (fitted_stands x n given.0 within small))
 
 -- ══ The meanings ══
 
