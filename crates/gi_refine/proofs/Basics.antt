@@ -1,5 +1,6 @@
 -- Small facts that the other files share.
-use Rattle.std.proofs.Common.{◌≡◌, ℕ, ◌^◌, ◌<◌, Bool, true, false, cond, nat_lt, ◌==◌, Option, Some, unwrap_or, refl, sym, ap, ◌∙◌, arith}
+use Rattle.std.proofs.Common.{◌≡◌, ℕ, Bool, true, false, cond, nat_lt, ◌==◌, Option, Some, unwrap_or, refl, sym, ap, ◌∙◌, arith}
+use Rattle.std.specs.Prelude.{IfSome}
 use Rattle.std.proofs.lemmas.Bool.{eq-eqb}
 use Rattle.gi_llt.specs.Bits.{wrapped}
 use Rattle.gi_meaning.specs.Act.{copied, fitted}
@@ -24,9 +25,13 @@ copied_whole x v =
 
 -- ══ A value that is put in a place ══
 
-pub either_fits : (x : ℕ) (b : Bool) (v old : ℕ) → v < 2 ^ x → old < 2 ^ x → cond b v old < 2 ^ x
-either_fits x true v old h l = h
-either_fits x false v old h l = l
+pub word_holds : (P : ℕ → Type 0) (b : Bool) (v old : ℕ) → P v → P old → P (cond b v old)
+word_holds P true v old h l = h
+word_holds P false v old h l = l
+
+pub value_holds : (P : ℕ → Type 0) (b : Bool) (v : ℕ) (old : Option ℕ) → (b ≡ true → P v) → IfSome old P → IfSome (cond b (Some v) old) P
+value_holds P true v old h l = h refl
+value_holds P false v old h l = l
 
 pub value_stays : (b : Bool) (v : ℕ) (old : Option ℕ) → b ≡ false → cond b (Some v) old ≡ old
 value_stays true v old h = cc

@@ -2,7 +2,7 @@
 use Rattle.gi_refine.specs.TrialRules.{constant}
 use Rattle.gi_refine.specs.Lifting.{Reads}
 use Rattle.gi_refine.specs.Values.{Environment, Holds, Defines}
-use Rattle.std.proofs.Common.{◌≡◌, ℕ, zero, suc, Bool, true, false, cond, not, ◌&&◌, ◌==◌, List, [], ◌∷◌, ◌++◌, Option, Some, None, slice_get, ⊎_elim, refl, sym, ap, ◌∙◌, subst, eqb-true}
+use Rattle.std.proofs.Common.{◌≡◌, ℕ, zero, suc, true, false, not, ◌&&◌, ◌==◌, List, [], ◌∷◌, ◌++◌, Option, Some, None, slice_get, ⊎_elim, refl, sym, ap, ◌∙◌, subst, eqb-true}
 use Rattle.std.proofs.lemmas.Bool.{and_parts, or_parts, or_cases, not-true}
 use Rattle.std.proofs.lemmas.Option.{same_Some}
 use Rattle.std.specs.Prelude.{IfSome}
@@ -21,7 +21,7 @@ use Rattle.gi_meaning.specs.Runs.{Setting, arguments_of, places_of, written_plac
 use Rattle.gi_refine.specs.Constants.{is_virtual, writes, is_constant_of, keeps_constant, all_keep_constant, no_phi_writes, only_constant, HoldsOnly}
 use Rattle.gi_refine.specs.Invariant.{GoesOnWith, AllKeep, BlockKeeps}
 use Rattle.gi_refine.specs.Reached.{IsReached}
-use Rattle.gi_refine.proofs.Basics.{value_stays}
+use Rattle.gi_refine.proofs.Basics.{value_stays, value_holds}
 use Rattle.gi_refine.proofs.Invariants.{invariant_holds}
 use Rattle.gi_refine.proofs.ValuesPlaced.{BothRead, both_read}
 
@@ -63,17 +63,13 @@ other_holds s w r value i h state holds (Some arguments) p step =
 
 -- ══ The constant ══
 
-value_put : (b : Bool) (v value : ℕ) (old : Option ℕ) → v ≡ value → IfSome old (λ u. u ≡ value) → IfSome (cond b (Some v) old) (λ u. u ≡ value)
-value_put true v value old is holds = is
-value_put false v value old is holds = holds
-
 constant_holds : (s : Setting) (w : World) (r value : ℕ) (flags : Flags) (o : Opcode) (os : List Operand) (mem : Option MemOp) (line : ℕ) → is_constant_of r value o os ≡ true → (state : State) → HoldsOnly r value state
     → (p : Progress) → Steps s w (record { op = o; flags = flags; operands = os; mem = mem; line = line }) state p → GoesOnWith (HoldsOnly r value) p
 constant_holds s w r value flags op.GenericConstant (operand.Def q kind ∷ operand.Constant n v ∷ []) mem line h state holds p step =
     let answered : step.0 ≡ Results (v ∷ []) (outside_of state) = step.1.2 ∙ ap (λ rs. Results rs (outside_of state)) step.1.1 in
     let made : p ≡ On (put state (Virtual q.0) v) = step.2 ∙ ap (progress_of state (Virtual q.0 ∷ [])) answered in
     let here : HoldsOnly r value (put state (Virtual q.0) v) =
-    record { is = value_put (r == q.0) v value (state.values r) (eqb-true v value (and_parts (q.0 == r) (v == value) h).1) holds.is } in
+    record { is = value_holds (λ u. u ≡ value) (r == q.0) v (state.values r) (λ same. eqb-true v value (and_parts (q.0 == r) (v == value) h).1) holds.is } in
     subst (GoesOnWith (HoldsOnly r value)) (sym made) here
 constant_holds s w r value flags _ _ mem line h state holds p step = cc
 

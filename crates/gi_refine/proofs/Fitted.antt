@@ -24,7 +24,7 @@ use Rattle.gi_meaning.specs.Runs.{Setting, setting_of, argument_of, arguments_of
 use Rattle.gi_refine.specs.Fitting.{IsFit, always_fits, is_fitting_constant, keeps_fit, all_keep_fit, uses_have, phi_fits, phis_fit, blocks_fit}
 use Rattle.gi_refine.specs.Invariant.{GoesOnWith, AllKeep, BlockKeeps}
 use Rattle.gi_refine.specs.Reached.{IsReached}
-use Rattle.gi_refine.proofs.Basics.{either_fits}
+use Rattle.gi_refine.proofs.Basics.{value_holds, word_holds}
 use Rattle.gi_refine.proofs.Invariants.{invariant_holds}
 use Rattle.gi_meaning.proofs.Numbers.{unsigned_below}
 
@@ -110,13 +110,9 @@ use_fit : (width : ℕ) (value : Option ℕ) → IfSome value (λ v. v < 2 ^ wid
 use_fit width None h = tt
 use_fit width (Some v) h = (h, tt)
 
-word_fit : (x word : ℕ) (b : Bool) → word < 2 ^ x → cond b 0 word < 2 ^ x
-word_fit x word true h = pow_pos x
-word_fit x word false h = h
-
 argument_fit : (s : Setting) (w : World) → IsWorld s.x w → (state : State) → IsFit s state → (o : Operand) → AreThereFit (argument_of s w state o)
 argument_fit s w is_world state fit (operand.Use r) = use_fit (s.width r.0) (state.values r.0) (fit.values r.0)
-argument_fit s w is_world state fit (operand.Phys n) = (word_fit s.x (state.words n) (n == 0) (fit.words n), tt)
+argument_fit s w is_world state fit (operand.Phys n) = (word_holds (λ u. u < 2 ^ s.x) (n == 0) 0 (state.words n) (pow_pos s.x) (fit.words n), tt)
 argument_fit s w is_world state fit (operand.Frame object) = (is_world.stack object, tt)
 argument_fit s w is_world state fit (operand.Def r kind) = tt
 argument_fit s w is_world state fit (operand.PhysDef n) = tt
@@ -251,18 +247,14 @@ act_fits x w _ mem widths arguments outside answer fits h small act = cc
 
 -- ══ States ══
 
-value_fit : (n : ℕ) (b : Bool) (v : ℕ) (old : Option ℕ) → (b ≡ true → v < 2 ^ n) → IfSome old (λ u. u < 2 ^ n) → IfSome (cond b (Some v) old) (λ u. u < 2 ^ n)
-value_fit n true v old h l = h refl
-value_fit n false v old h l = l
-
 put_fit : (s : Setting) (state : State) (p : Place) (v : ℕ) → v < 2 ^ width_of_place s p → IsFit s state → IsFit s (put state p v)
 put_fit s state (Virtual q) v h fit = record {
-  values = λ r. value_fit (s.width r) (r == q) v (state.values r) (λ same. subst (λ k. v < 2 ^ s.width k) (sym (eqb-true r q same)) h) (fit.values r);
+  values = λ r. value_holds (λ u. u < 2 ^ s.width r) (r == q) v (state.values r) (λ same. subst (λ k. v < 2 ^ s.width k) (sym (eqb-true r q same)) h) (fit.values r);
   words = fit.words;
 }
 put_fit s state (Physical m) v h fit = record {
   values = fit.values;
-  words = λ n. either_fits s.x (n == m) v (state.words n) h (fit.words n);
+  words = λ n. word_holds (λ u. u < 2 ^ s.x) (n == m) v (state.words n) h (fit.words n);
 }
 
 abbrev IsThereFit : (s : Setting) → Option State → Type 0

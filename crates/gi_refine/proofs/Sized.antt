@@ -22,7 +22,7 @@ use Rattle.gi_meaning.specs.Routine.{first_routine, InTwoWords}
 use Rattle.gi_meaning.specs.Act.{Answer, Results, Leaves, Returns, Asks, Breaks, Answers, AnswersWords, all_fitted, copied, copy, extended, from_loaded, load, machine_load, StoresThere, Stores, MachineStores, jump, machine_branch, LeavesFree, CallsGlobal, Calls, Act, AllReadAs, are_routine_registers, result_registers, passed, words_of}
 use Rattle.gi_meaning.specs.Runs.{argument_of, arguments_of, joined_lists, written_places, width_of_place, put_all, Progress, On, Left, Over, going_on, progress_of, StepsFrom}
 use Rattle.gi_refine.specs.Agreement.{setting}
-use Rattle.gi_refine.proofs.Basics.{either_fits}
+use Rattle.gi_refine.proofs.Basics.{value_holds, word_holds}
 use Rattle.gi_refine.proofs.Targets.{or_breaks}
 use Rattle.gi_refine.specs.Worded.{is_implicit_definition, may_have_words, is_worded, IsSized}
 use Rattle.gi_meaning.specs.State.{Event, World, IsWorld, State, Outside, outside_of, Place, Virtual, Physical, word_in, put, AreWords, AreBytes, AreEvents}
@@ -273,15 +273,11 @@ machine_load_small x exists bytes extension (Value l base ∷ Number offset ∷ 
     word_if_both x (exists x) (is_immediate offset) _ (λ there. load_small x bytes _ extension memory (within there) are_bytes)
 machine_load_small x exists bytes extension _ memory within are_bytes = no_word x
 
-byte_put : (b : Bool) (byte : ℕ) (old : Option ℕ) → byte < 256 → IfSome old (λ v. v < 256) → IfSome (if b then Some byte else old) (λ v. v < 256)
-byte_put true byte old h l = h
-byte_put false byte old h l = l
-
 pub stored_bytes : (x bytes : ℕ) (memory : Memory) (address value : ℕ) → AreBytes memory → AreBytes (stored x bytes memory address value)
 stored_bytes x zero memory address value are_bytes = are_bytes
 stored_bytes x (suc k) memory address value are_bytes =
     stored_bytes x k (with_byte_at memory (wrapped x address) (value % 256)) (address + 1) (value / 256)
-    (λ a. byte_put (a == wrapped x address) (value % 256) (memory a) (mod-lt value (lit< tt)) (are_bytes a))
+    (λ a. value_holds (λ v. v < 256) (a == wrapped x address) (value % 256) (memory a) (λ same. mod-lt value (lit< tt)) (are_bytes a))
 
 stores_there_sized : (x bytes address value : ℕ) (old : Option ℕ) (outside : Outside) (a : Answer) → AreBytes outside.memory → StoresThere old x bytes address value outside a → IsAnswerSized x a
 stores_there_sized x bytes address value None outside a are_bytes h = subst (IsAnswerSized x) (sym h) tt
@@ -426,13 +422,9 @@ act_sized x wide w is_world flags o os mem widths arguments outside a worded wit
 
 -- ══ States ══
 
-value_sized : (x : ℕ) (b : Bool) (v : ℕ) (old : Option ℕ) → v < 2 ^ x → IfSome old (λ u. u < 2 ^ x) → IfSome (cond b (Some v) old) (λ u. u < 2 ^ x)
-value_sized x true v old h l = h
-value_sized x false v old h l = l
-
 pub put_sized : (x : ℕ) (state : State) (p : Place) (v : ℕ) → v < 2 ^ x → IsSized x state → IsSized x (put state p v)
-put_sized x state (Virtual q) v h sized = record { values = λ r. value_sized x (r == q) v (state.values r) h (sized.values r); words = sized.words; memory = sized.memory }
-put_sized x state (Physical m) v h sized = record { values = sized.values; words = λ n. either_fits x (n == m) v (state.words n) h (sized.words n); memory = sized.memory }
+put_sized x state (Virtual q) v h sized = record { values = λ r. value_holds (λ u. u < 2 ^ x) (r == q) v (state.values r) (λ same. h) (sized.values r); words = sized.words; memory = sized.memory }
+put_sized x state (Physical m) v h sized = record { values = sized.values; words = λ n. word_holds (λ u. u < 2 ^ x) (n == m) v (state.words n) h (sized.words n); memory = sized.memory }
 
 abbrev pub IsOptionSized : (x : ℕ) → Option State → Type 0
 IsOptionSized x None = Unit {0}
@@ -485,7 +477,7 @@ value_small x width None h = tt
 value_small x width (Some v) h = (h, tt)
 
 pub word_in_small : (x n : ℕ) (state : State) → IsSized x state → word_in state n < 2 ^ x
-word_in_small x n state sized = either_fits x (n == 0) 0 (state.words n) (pow_pos x) (sized.words n)
+word_in_small x n state sized = word_holds (λ u. u < 2 ^ x) (n == 0) 0 (state.words n) (pow_pos x) (sized.words n)
 
 argument_small : (x : ℕ) (names : List (List ℕ)) (width : ℕ → ℕ) (w : World) → IsWorld x w → (state : State) → IsSized x state → (o : Operand) → AreOptionSmall x (argument_of (setting x names width) w state o)
 argument_small x names width w is_world state sized (operand.Use r) = value_small x (width r.0) (state.values r.0) (sized.values r.0)
