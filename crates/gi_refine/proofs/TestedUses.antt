@@ -40,11 +40,11 @@ tested_use x names f g now next rule placing block before old new tested = recor
   placed = tested.placed;
   known = λ w is_world state reached.
       let s : Setting = setting_of x names f in
-      let fit : IsFit s state = fit_where_reached x names f w is_world tested.fit block tested.data_of before tested.back tested.here tested.splits state reached in
+      let fit : IsFit s state = fit_where_reached x names f w is_world tested.fit block tested.block_data before tested.back tested.here tested.splits state reached in
       record {
         there = taken_there (first_slots rule.old) state.values 0 placing.inputs tested.taken;
         sized = fit_sized s state fit placing.inputs;
         facts = λ env reads. subst (AllHold x w (outside_of state) env) (sym tested.facts)
-            (constants_held s w f.blocks block tested.data_of before tested.back tested.here tested.splits state reached placing.inputs env reads tested.constants tested.hold);
+            (constants_held s w f.blocks block tested.block_data before tested.back tested.here tested.splits state reached placing.inputs env reads tested.constants tested.hold);
       };
 }

@@ -41,9 +41,11 @@ passing = parts 10 11 4 ∷ parts 12 13 5 ∷ copy_out 10 10 ∷ copy_out 11 11 
 abbrev pub taking : List (ℕ × InstrData)
 taking = copy_in 14 10 s32 ∷ copy_in 15 11 s32 ∷ joins 6 14 15 ∷ []
 
+-- all that stands for the product
 abbrev pub called : List (ℕ × InstrData)
 called = passing ++ (routine_call ∷ taking)
 
+-- the two operands, each of two words, from x10 to x13
 abbrev pub reading : List (ℕ × InstrData)
 reading = copy_in 0 10 s32 ∷ copy_in 1 11 s32 ∷ copy_in 2 12 s32 ∷ copy_in 3 13 s32 ∷ joins 4 0 1 ∷ joins 5 2 3 ∷ []
 
@@ -51,9 +53,11 @@ reading = copy_in 0 10 s32 ∷ copy_in 1 11 s32 ∷ copy_in 2 12 s32 ∷ copy_in
 abbrev pub return_both : ℕ × InstrData
 return_both = made op.PseudoReturn (operand.ImplicitUse 10 ∷ operand.ImplicitUse 11 ∷ []) None
 
+-- the words of the product
 abbrev pub returning : List (ℕ × InstrData)
 returning = parts 7 8 6 ∷ copy_out 10 7 ∷ copy_out 11 8 ∷ return_both ∷ []
 
+-- the function by the product, and by the call
 abbrev pub multiplies : FunctionData
 multiplies = function_of (block_of [] (reading ++ (product ∷ returning)) ∷ [])
 

@@ -73,6 +73,7 @@ answered x _ mem widths arguments outside = None
 
 -- ══ Instructions ══
 
+-- how far an instruction comes by its answer
 abbrev pub progress_by : State → Setting → InstrData → Option Answer → Option Progress
 progress_by state s i None = None
 progress_by state s i (Some answer) = Some (progress_of state (written_places (meaning_of i.flags i.op) i.operands) answer)
@@ -86,6 +87,7 @@ step_from s i state (Some arguments) =
 abbrev pub step_of : Setting → World → InstrData → State → Option Progress
 step_of s w i state = step_from s i state (arguments_of s w state i.operands)
 
+-- and then the rest, where the run goes on
 abbrev pub then_on : Option Progress → (State → Option Progress) → Option Progress
 then_on None rest = None
 then_on (Some (On state)) rest = rest state
@@ -113,6 +115,7 @@ abbrev pub block_of_run : Setting → World → (enters : Option ℕ → ℕ →
 block_of_run s w enters None from b state = Some Fails
 block_of_run s w enters (Some block) from b state = after_phis_of s w b block enters (joined state from (phis_of block.instrs))
 
+-- entries of blocks, as many as are left
 abbrev pub entered : Setting → World → List BlockData → ℕ → (from : Option ℕ) → (b : ℕ) → State → Option Outcome
 entered s w blocks zero from b state = Some (Going state.memory state.taken)
 entered s w blocks (suc n) from b state = block_of_run s w (entered s w blocks n) (slice_get blocks b) from b state

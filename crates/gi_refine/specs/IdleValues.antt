@@ -112,7 +112,7 @@ free_placed = record { inputs = []; old = (0 ∷ []) ∷ (2 ∷ []) ∷ []; new 
 abbrev pub first_two : ℕ → Bool
 first_two r = (r == 0) || (r == 1)
 
--- `%r = IMPLICIT_DEF`, `%2 = G_SUB %a, %b`
+-- `%r = G_IMPLICIT_DEF`, `%2 = G_SUB %a, %b`
 abbrev pub free_in : ℕ → ℕ × InstrData
 free_in r = made op.GenericImplicitDef (Def (reg_of r) s32 ∷ []) None
 

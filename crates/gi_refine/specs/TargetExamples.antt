@@ -144,6 +144,7 @@ s8 = Generic (Scalar 8)
 abbrev pub extends_anyhow : List (ℕ × InstrData)
 extends_anyhow = copy_in 0 10 s8 ∷ made op.GenericAnyExtend (Def (reg_of 2) s32 ∷ use_of 0 ∷ []) None ∷ copy_out 10 2 ∷ return_of 10 ∷ []
 
+-- any word
 abbrev pub takes_anything : List (ℕ × InstrData)
 takes_anything = made op.GenericImplicitDef (Def (reg_of 2) s32 ∷ []) None ∷ copy_out 10 2 ∷ return_of 10 ∷ []
 
@@ -157,6 +158,7 @@ adds_without_wrapping =
     ∷ return_of 10
     ∷ []
 
+-- x10 by x11 to the left
 abbrev pub shifts : List (ℕ × InstrData)
 shifts = copy_in 0 10 s32 ∷ copy_in 1 11 s32 ∷ on_two op.GenericShiftLeft s32 2 0 1 ∷ copy_out 10 2 ∷ return_of 10 ∷ []
 
@@ -164,7 +166,7 @@ shifts = copy_in 0 10 s32 ∷ copy_in 1 11 s32 ∷ on_two op.GenericShiftLeft s3
 abbrev pub copies_low_half : List (ℕ × InstrData)
 copies_low_half = copy_in 0 10 s32 ∷ copy_out 10 0 ∷ return_of 10 ∷ []
 
--- machine instructions that read registers of 32 bits: the sum of low halves, and the upper half
+-- instructions of RV64 that read registers of 32 bits: the sum of low halves, and the upper half
 abbrev pub adds_low_halves : List (ℕ × InstrData)
 adds_low_halves = copy_in 0 10 s32 ∷ copy_in 1 11 s32 ∷ on_two op.AddWord Class 2 0 1 ∷ copy_out 10 2 ∷ return_of 10 ∷ []
 
