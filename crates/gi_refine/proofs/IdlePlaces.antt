@@ -2,19 +2,17 @@
 use Rattle.std.proofs.Common.{◌≡◌, ℕ, zero, suc, ◌^◌, ◌<◌, Bool, true, false, not, ◌&&◌, ◌==◌, if◌then◌else◌, List, [], ◌∷◌, ◌++◌, Option, Some, None, slice_get, unwrap_or, refl, sym, ap, ◌∙◌, subst, lit<}
 use Rattle.std.proofs.lemmas.Bool.{eqb-true, and_parts, false≢true, not-true, eqb-false}
 use Rattle.std.proofs.Math.Nat.{mod-lt}
-use Rattle.gi_llt.specs.declared.Llt.TheVariants.{Scalar}
 use Rattle.gi_mir.specs.Data.{InstrData, BlockData, FunctionData}
 use Rattle.gi_mir.specs.Stated.{reg_of}
 use Rattle.gi_mir.specs.declared.opcode.Opcode.TheVariants as op
 use Rattle.gi_mir.specs.declared.operand.Kind.{Kind}
-use Rattle.gi_mir.specs.declared.operand.Kind.TheVariants.{Generic}
 use Rattle.gi_mir.specs.declared.operand.Operand.{Operand}
 use Rattle.gi_mir.specs.declared.operand.Operand.TheVariants as operand
 use Rattle.gi_meaning.specs.State.{World, IsWorld, State, Outcome, Returned, Going, Fails, Virtual, word_in, put}
 use Rattle.gi_meaning.specs.Runs.{Setting, setting_of, Progress, On, phis_of, joined, value_at, from_block, put_value}
 use Rattle.gi_refine.specs.Agreement.{Agree, AgreeAt, ValueStands}
 use Rattle.gi_refine.specs.Evaluation.{steps_of}
-use Rattle.gi_refine.specs.Examples.{made, block_of, function_of, s32, use_of, copy_in, copy_out, return_of, names, counting, words_of_three, world_of}
+use Rattle.gi_refine.specs.Examples.{made, block_of, function_of, s32, use_of, copy_in, copy_out, return_of, names, counting, words_of_three, world_of, s16}
 use Rattle.gi_refine.specs.Idle.{Premise, Successors, PhisKept, BeforeKept, AfterKept, PhisShown, BeforeShown, AfterShown, PhisWidths, BeforeWidths, AfterWidths, PhisHeld, BeforeHeld, AfterHeld, Others, Follows, AreShown, AllShown, OwesAllBut, IsNotIdle}
 use Rattle.gi_refine.specs.Kept.{AreSeenAs, AllSeenAs, HasSameValue, UsesHold, EntriesHold, PhisHold, BodyHolds}
 use Rattle.gi_refine.specs.OnePlace.{OnePlace, only_virtual, StaysAt, RewritesOnePlace}
@@ -227,9 +225,6 @@ only_1 r = r == 1
 -- 1 replaces 0
 abbrev pub zero_by_one : ℕ → ℕ
 zero_by_one r = if r == 0 then 1 else r
-
-abbrev s16 : Kind
-s16 = Generic (Scalar 16)
 
 abbrev pub return_10 : ℕ × InstrData
 return_10 = return_of 10

@@ -15,9 +15,9 @@ use Rattle.gi_meaning.specs.Meaning.{Machine}
 use Rattle.gi_meaning.specs.State.{World, State, outside_of, start, Returned, Virtual, put}
 use Rattle.gi_meaning.specs.Act.{Results, AllReadAs, AnswersWords, all_fitted}
 use Rattle.gi_meaning.specs.Runs.{Setting, progress_of, On, Over}
-use Rattle.gi_refine.specs.Examples.{counting, names, world_of}
+use Rattle.gi_refine.specs.Examples.{counting, names, world_of, one_block}
 use Rattle.gi_refine.specs.Outcomes.{ComesTo, ReturnsAny, has_low_bits}
-use Rattle.gi_refine.specs.TargetExamples.{on_number, adds_low_halves, takes_upper_half, one_block}
+use Rattle.gi_refine.specs.TargetExamples.{on_number, adds_low_halves, takes_upper_half}
 use Rattle.gi_refine.proofs.Doing.{ActsSo, does_from, DoesAll, does_next, EntersSo, enters_over}
 use Rattle.gi_refine.proofs.Evaluating.{step_so, steps_so}
 use Rattle.gi_refine.proofs.Choosing.{Chooses, choose, before_choice, returns_any}
@@ -114,7 +114,7 @@ half_below v small = grind (arith, nat_tests, small, mod-one v)
 abbrev halved : ℕ → List Argument → Given
 halved = by_amount (λ x. x) right_word
 
-pub chooses_upper : Chooses (set_of 64 takes_upper_half) upper_world (on_number op.ShiftRightLogicalImmediate Class 2 0 (pos 32)) upper_state (Virtual 2 ∷ []) (has_low_bits 0 32 0)
+pub chooses_upper : Chooses (set_of 64 takes_upper_half) upper_world (on_number op.ShiftRightLogicalImmediate 2 Class 0 (pos 32)) upper_state (Virtual 2 ∷ []) (has_low_bits 0 32 0)
 chooses_upper = record {
   can = λ v h.
       let small : v < 4294967296 = below_half v h in

@@ -13,10 +13,10 @@ use Rattle.gi_meaning.specs.Act.{Results, Leaves, machine_branch}
 use Rattle.gi_meaning.specs.Runs.{Setting, setting_of, written_places, Progress, On, progress_of, StepsFrom, Steps, arguments_of, Executes, phis_of, joined, joined_lists, value_at, from_block, put_value}
 use Rattle.gi_refine.specs.Agreement.{ValueStands, Agree, AgreeAt, all_shown}
 use Rattle.gi_refine.specs.Evaluation.{step_from, then_on, steps_of}
-use Rattle.gi_refine.specs.Examples.{names, s32, copy_in, copy_out, return_of, block_of}
+use Rattle.gi_refine.specs.Examples.{names, s32, copy_in, copy_out, return_of, block_of, s16}
 use Rattle.gi_refine.specs.Kept.{HasSameValue}
 use Rattle.gi_refine.specs.OnePlace.{only_virtual}
-use Rattle.gi_refine.specs.Trials.{s16, extension, truncation, phi_of, choice, on_to_2, narrow_phi, with_extensions, with_wide_phi, with_truncation, wide_phi}
+use Rattle.gi_refine.specs.Trials.{extension, truncation, phi_of, choice, on_to_2, narrow_phi, with_extensions, with_wide_phi, with_truncation, wide_phi}
 use Rattle.gi_refine.specs.Reached.{Arrives, IsReached, WhereReached}
 use Rattle.gi_refine.specs.Refinement.{IsRefinement}
 use Rattle.gi_refine.specs.Rewriting.{Kept, Changed, Covers, PieceFollows, PhisFollow, RewrittenAt, shown_by_phis}

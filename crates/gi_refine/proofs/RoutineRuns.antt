@@ -9,9 +9,9 @@ use Rattle.gi_meaning.specs.Routine.{InTwoWords}
 use Rattle.gi_meaning.specs.State.{World, outside_of, start, Outcome, Returned, Place, Physical, AreWords}
 use Rattle.gi_meaning.specs.Act.{Results, clobbered, routine_given, LeavesFree}
 use Rattle.gi_meaning.specs.Runs.{Setting, progress_of, Progress, Over, Steps, After, Executes}
-use Rattle.gi_refine.specs.Examples.{made, counting, names, world_of}
+use Rattle.gi_refine.specs.Examples.{made, counting, names, world_of, one_block}
 use Rattle.gi_refine.specs.Outcomes.{ComesTo, ReturnsAny, has_low_bits}
-use Rattle.gi_refine.specs.TargetExamples.{one_block, routine_call, divides_by_routine}
+use Rattle.gi_refine.specs.TargetExamples.{routine_call, divides_by_routine}
 use Rattle.gi_refine.proofs.Doing.{DoesAll, EntersSo, enters_over}
 use Rattle.gi_refine.specs.Evaluation.{then_on, steps_of}
 use Rattle.gi_refine.proofs.Choosing.{low_bits_of, has_low, one_after, ReturnsAll, returns_any}

@@ -11,13 +11,13 @@ use Rattle.gi_meaning.specs.Argument.{Value}
 use Rattle.gi_meaning.specs.State.{World, IsWorld, State, outside_of, start, Virtual, put}
 use Rattle.gi_meaning.specs.Act.{Results}
 use Rattle.gi_meaning.specs.Runs.{Setting, setting_of, On}
-use Rattle.gi_refine.specs.Examples.{names}
+use Rattle.gi_refine.specs.Examples.{names, bits}
 use Rattle.gi_refine.specs.Lifting.{IsKnown}
 use Rattle.gi_refine.specs.OnePlace.{only_virtual}
 use Rattle.gi_refine.specs.Reached.{IsReached}
 use Rattle.gi_refine.specs.Refinement.{IsRefinement}
 use Rattle.gi_refine.specs.RuleUse.{IsRuleUse}
-use Rattle.gi_refine.specs.TrialFunctions.{bits, two_doubles, double_returned, sum_of_doubles, sum_by_words, on_doubles, is_one_of, word_registers, double_placed}
+use Rattle.gi_refine.specs.TrialFunctions.{two_doubles, double_returned, sum_of_doubles, sum_by_words, on_doubles, is_one_of, word_registers, double_placed}
 use Rattle.gi_refine.specs.TrialRules.{narrow_add}
 use Rattle.gi_refine.proofs.Covering.{covered_by, known_at}
 use Rattle.gi_refine.proofs.Doing.{gives_one, does_from, does_next, does_none, DoesAll}

@@ -11,13 +11,13 @@ use Rattle.gi_meaning.specs.Meaning.{Copying}
 use Rattle.gi_meaning.specs.State.{World, State, Outside, outside_of, start, Virtual, put}
 use Rattle.gi_meaning.specs.Act.{Results, Answers}
 use Rattle.gi_meaning.specs.Runs.{Setting, setting_of, On}
-use Rattle.gi_refine.specs.Examples.{names}
+use Rattle.gi_refine.specs.Examples.{names, bits}
 use Rattle.gi_refine.specs.Lifting.{IsKnown}
 use Rattle.gi_refine.specs.OnePlace.{only_virtual}
 use Rattle.gi_refine.specs.Reached.{IsReached}
 use Rattle.gi_refine.specs.Refinement.{IsRefinement}
 use Rattle.gi_refine.specs.RuleUse.{IsRuleUse}
-use Rattle.gi_refine.specs.TrialFunctions.{bits, two_parts, part_returned, sum_of_parts, wide_sum, word_sum, on_parts, wide_hidden, wide_placed, word_placed}
+use Rattle.gi_refine.specs.TrialFunctions.{two_parts, part_returned, sum_of_parts, wide_sum, word_sum, on_parts, wide_hidden, wide_placed, word_placed}
 use Rattle.gi_refine.specs.TrialRules.{widen_add, select_add_word}
 use Rattle.gi_refine.specs.Values.{Rule, AllHold}
 use Rattle.gi_refine.proofs.Basics.{copied_whole}

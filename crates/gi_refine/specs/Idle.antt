@@ -2,7 +2,6 @@
 -- a case in which all others hold and the new function isn't a refinement.
 use Rattle.std.specs.Prelude.{◌≡◌, ℕ, ◌+◌, Bool, true, false, cond, ◌==◌, List, [], ◌∷◌, ◌++◌, Option, Some, None, slice_get}
 use Rattle.gi_mir.specs.Data.{InstrData, BlockData, FunctionData}
-use Rattle.gi_mir.specs.Stated.{reg_of}
 use Rattle.gi_mir.specs.declared.opcode.Opcode.TheVariants as op
 use Rattle.gi_mir.specs.declared.operand.Operand.{Operand}
 use Rattle.gi_mir.specs.declared.operand.Operand.TheVariants as operand
@@ -10,7 +9,7 @@ use Rattle.gi_meaning.specs.State.{World, IsWorld, State, Place}
 use Rattle.gi_meaning.specs.Meaning.{meaning_of}
 use Rattle.gi_meaning.specs.Runs.{setting_of, written_places, phis_of, after_phis, is_among}
 use Rattle.gi_refine.specs.Agreement.{Agree, AgreeAt, all_shown}
-use Rattle.gi_refine.specs.Examples.{made, block_of, function_of, s32, use_of, copy_in, copy_out, return_of, names, world_of}
+use Rattle.gi_refine.specs.Examples.{of_one, block_of, function_of, s32, copy_in, copy_out, return_of, names, world_of}
 use Rattle.gi_refine.specs.Kept.{IsKept, AreKept, AreSeenAs, AllSeenAs, UsesHold, PhisHold, BodyHolds}
 use Rattle.gi_refine.specs.OnePlace.{OnePlace, only_virtual, StaysAt}
 use Rattle.gi_refine.specs.Reached.{IsReached, WhereReached}
@@ -197,7 +196,7 @@ pub record IsPieceNotIdle (dropped : PiecePremise) : Type 0 where
 
 -- `%d:s32 = COPY %r`
 abbrev pub copied : (d r : ℕ) → ℕ × InstrData
-copied d r = made op.Copy (operand.Def (reg_of d) s32 ∷ use_of r ∷ []) None
+copied d r = of_one op.Copy d s32 r
 
 -- a copy of a copy, and the copy of the value itself
 abbrev pub copies_copy : FunctionData

@@ -7,11 +7,10 @@ use Rattle.gi_mir.specs.declared.opcode.Opcode.TheVariants as op
 use Rattle.gi_meaning.specs.State.{World, State, Place, outside_of}
 use Rattle.gi_meaning.specs.Runs.{Setting}
 use Rattle.gi_refine.specs.Agreement.{Agree, AgreeAt, setting}
-use Rattle.gi_refine.specs.Examples.{counting, names, s32, world_of, made}
+use Rattle.gi_refine.specs.Examples.{counting, names, s32, world_of, made, of_one, of_two}
 use Rattle.gi_refine.specs.Lifting.{Placing, AgreeReady, Reads, AllShow, are_all_fresh, none_hidden, left_hidden, IsPlaced}
 use Rattle.gi_refine.specs.OnePlace.{only_virtual}
 use Rattle.gi_refine.specs.Simulation.{IsFollowed}
-use Rattle.gi_refine.specs.TrialFunctions.{of_one, of_two}
 use Rattle.gi_refine.specs.TrialRules.{constant, on_one, on_two}
 use Rattle.gi_refine.specs.Values.{Operation, Defines, Rule, Environment, AllHold, IsSound, are_pure}
 

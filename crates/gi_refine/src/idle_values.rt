@@ -2,7 +2,7 @@
 
 ghost use Rattle.std.specs.Prelude.{◌∷◌, []};
 ghost use Rattle.gi_refine.specs.Agreement.{Agree, AgreeAt};
-ghost use Rattle.gi_refine.specs.Examples.{names, s32};
+ghost use Rattle.gi_refine.specs.Examples.{names, s32, constant_in};
 ghost use Rattle.gi_refine.specs.IdleValues.{
   AgreeOfAnySize,
   AllButFresh,
@@ -37,7 +37,6 @@ ghost use Rattle.gi_refine.specs.IdleValues.{
 ghost use Rattle.gi_refine.specs.Lifting.{IsPlaced};
 ghost use Rattle.gi_refine.specs.OnePlace.{only_virtual};
 ghost use Rattle.gi_refine.specs.Simulation.{IsFollowed};
-ghost use Rattle.gi_refine.specs.TrialFunctions.{constant_in};
 
 /// No premise of `values_follow` is idle.
 pub fn no_premise_of_values_is_idle()

@@ -1,7 +1,7 @@
 use Rattle.std.proofs.Common.{suc, [], ◌∷◌, refl}
 use Rattle.gi_meaning.specs.State.{Returned}
-use Rattle.gi_refine.specs.Examples.{counting, names, world_of}
-use Rattle.gi_refine.specs.TargetExamples.{adds_without_wrapping, one_block}
+use Rattle.gi_refine.specs.Examples.{counting, names, world_of, one_block}
+use Rattle.gi_refine.specs.TargetExamples.{adds_without_wrapping}
 use Rattle.gi_refine.proofs.Evaluating.{outcome_so}
 use Rattle.gi_refine.proofs.FreeRuns.{extends_anyhow_returns, takes_anything_returns, broken_promise_returns, shift_returns, low_half_returns}
 use Rattle.gi_refine.proofs.NarrowRuns.{low_halves_come_to, upper_half_returns}
