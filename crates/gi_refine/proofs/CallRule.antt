@@ -22,7 +22,7 @@ use Rattle.gi_refine.specs.Rewriting.{Kept, Changed, Covers, is_target, Stays, R
 use Rattle.gi_refine.proofs.Agreeing.{same_value, alike_stands, put_agree}
 use Rattle.gi_refine.proofs.Evaluating.{steps_so}
 use Rattle.gi_refine.proofs.Inserting.{all_aside, put_aside, put_front}
-use Rattle.gi_refine.proofs.IdlePlaces.{all_seen_by}
+use Rattle.gi_refine.proofs.StayingTested.{all_seen_by}
 use Rattle.gi_refine.proofs.Keeping.{agree_but, all_shown_less}
 use Rattle.gi_refine.proofs.RewritingFollows.{covers_so, hides_so, rewriting_refines}
 use Rattle.gi_refine.proofs.Simulating.{Split, split}

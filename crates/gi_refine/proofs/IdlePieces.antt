@@ -15,7 +15,8 @@ use Rattle.gi_refine.specs.OnePlace.{only_virtual}
 use Rattle.gi_refine.specs.Reached.{WhereReached}
 use Rattle.gi_refine.specs.Rewriting.{Piece, Kept, Changed, old_of, Covers, PieceFollows, PiecesFollow, PhisFollow, RewrittenAt, IsRewritten}
 use Rattle.gi_refine.proofs.RewritingFollows.{covers_so, hides_so}
-use Rattle.gi_refine.proofs.IdlePlaces.{seen_by, alone_holds, world, is_world_of, returned_is, is_return, hidden_written, none, only_1, zero_by_one, return_10, other_word, phi_of}
+use Rattle.gi_refine.proofs.IdleCases.{world, is_world_of, returned_is, is_return, hidden_written, none, only_1, zero_by_one, return_10, other_word, phi_of}
+use Rattle.gi_refine.proofs.StayingTested.{seen_by, alone_holds}
 use Rattle.gi_refine.proofs.Keeping.{agree_but}
 use Rattle.gi_refine.proofs.Staying.{kept_reused}
 use Rattle.gi_refine.proofs.Evaluating.{refutes}

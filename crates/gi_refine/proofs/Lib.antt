@@ -12,9 +12,15 @@ pub mod ExampleRuns
 pub mod Failing
 pub mod Fitted
 pub mod FreeRuns
+pub mod IdleBlocks
+pub mod IdleCases
+pub mod IdleHeld
+pub mod IdleKept
 pub mod IdlePieces
 pub mod IdlePlaces
+pub mod IdleReads
 pub mod IdleValues
+pub mod IdleWidths
 pub mod Inserting
 pub mod Invariants
 pub mod Keeping
@@ -33,6 +39,7 @@ pub mod SameBlocks
 pub mod Simulating
 pub mod Sized
 pub mod Staying
+pub mod StayingTested
 pub mod StraightUses
 pub mod Targets
 pub mod TestedUses

@@ -24,7 +24,7 @@ use Rattle.gi_refine.specs.Simulation.{PhisStand}
 use Rattle.gi_refine.proofs.Basics.{some_is}
 use Rattle.gi_refine.proofs.Agreeing.{same_value}
 use Rattle.gi_refine.proofs.Evaluating.{steps_so}
-use Rattle.gi_refine.proofs.IdlePlaces.{seen_by, all_seen_by, alone_holds}
+use Rattle.gi_refine.proofs.StayingTested.{seen_by, all_seen_by, alone_holds}
 use Rattle.gi_refine.proofs.Inserting.{hide_put, hide_put_old, inserted_follows, put_has, IsAt, arrives_from}
 use Rattle.gi_refine.proofs.Keeping.{RegisterSeen, taken_same, from_seen, all_shown_less, phis_stand, phis_within, put_values_stand, agree_but, shown_by_phis_less}
 use Rattle.gi_refine.proofs.Refining.{refines_through}

@@ -15,7 +15,8 @@ use Rattle.gi_refine.specs.Replacing.{any_touches, IsReplaced}
 use Rattle.gi_refine.specs.Simulation.{Stands, IsFollowed}
 use Rattle.gi_refine.proofs.Doing.{DoesAll}
 use Rattle.gi_refine.proofs.Evaluating.{steps_so}
-use Rattle.gi_refine.proofs.IdlePlaces.{seen_by, none, world, is_world_of}
+use Rattle.gi_refine.proofs.IdleCases.{none, world, is_world_of}
+use Rattle.gi_refine.proofs.StayingTested.{seen_by}
 use Rattle.gi_refine.proofs.Keeping.{agree_but, all_shown_less, kept_followed}
 use Rattle.gi_refine.proofs.Reaching.{followed_within}
 use Rattle.gi_refine.proofs.Staying.{kept_reused, has_same_value}
