@@ -6,11 +6,11 @@ use Rattle.gi_meaning.specs.State.{Returned, Fails}
 use Rattle.gi_meaning.specs.Runs.{setting_of}
 use Rattle.gi_refine.specs.Examples.{block_of, function_of, s32, copy_in, copy_out, names, counting}
 use Rattle.gi_refine.specs.Idle.{Successors, Others, Follows, IsNotIdle}
-use Rattle.gi_refine.specs.OnePlace.{OnePlace, StaysAt}
+use Rattle.gi_refine.specs.OnePlace.{OnePlace, StaysAt, nothing}
 use Rattle.gi_refine.proofs.Evaluating.{refutes}
 use Rattle.gi_refine.proofs.Staying.{all_kept_reused}
 use Rattle.gi_refine.proofs.StayingTested.{all_seen_by, body_alone, no_phis, shown_by}
-use Rattle.gi_refine.proofs.IdleCases.{world, is_world_of, returned_is, is_return, unchanged, none, return_10, other_word}
+use Rattle.gi_refine.proofs.IdleCases.{world, is_world_of, returned_is, is_return, unchanged, return_10, other_word}
 
 -- ══ The block of the place has lost its successor ══
 
@@ -21,11 +21,11 @@ abbrev successors_new : FunctionData
 successors_new = function_of (block_of ([]) (copy_in 0 10 s32 ∷ []) ∷ block_of ([]) (copy_out 10 0 ∷ return_10 ∷ []) ∷ [])
 
 abbrev successors_place : OnePlace
-successors_place = record { block = 0; before = copy_in 0 10 s32 ∷ []; old = []; after = []; new_before = copy_in 0 10 s32 ∷ []; new = []; new_after = []; hidden = none; rename = (λ r. r) }
+successors_place = record { block = 0; before = copy_in 0 10 s32 ∷ []; old = []; after = []; new_before = copy_in 0 10 s32 ∷ []; new = []; new_after = []; hidden = nothing; rename = (λ r. r) }
 
-successors_others : (b : ℕ) → (b ≡ 0 → ⊥) → StaysAt 32 names successors_old successors_new none (λ r. r) b (slice_get successors_old.blocks b) (slice_get successors_new.blocks b)
+successors_others : (b : ℕ) → (b ≡ 0 → ⊥) → StaysAt 32 names successors_old successors_new nothing (λ r. r) b (slice_get successors_old.blocks b) (slice_get successors_new.blocks b)
 successors_others zero other = absurd (other refl)
-successors_others (suc zero) other = record { successors = refl; kept = all_kept_reused (λ r. r) (copy_out 10 0 ∷ return_10 ∷ []); seen = all_seen_by (setting_of 32 names successors_old) (setting_of 32 names successors_new) none (λ r. r) (copy_out 10 0 ∷ return_10 ∷ []) refl; phis = no_phis successors_old 1 (λ r. r); body = body_alone successors_old 1 (λ r. r) [] (copy_out 10 0 ∷ return_10 ∷ []) refl }
+successors_others (suc zero) other = record { successors = refl; kept = all_kept_reused (λ r. r) (copy_out 10 0 ∷ return_10 ∷ []); seen = all_seen_by (setting_of 32 names successors_old) (setting_of 32 names successors_new) nothing (λ r. r) (copy_out 10 0 ∷ return_10 ∷ []) refl; phis = no_phis successors_old 1 (λ r. r); body = body_alone successors_old 1 (λ r. r) [] (copy_out 10 0 ∷ return_10 ∷ []) refl }
 successors_others (suc (suc b)) other = tt
 
 pub successors_not_idle : IsNotIdle Successors
@@ -44,17 +44,17 @@ successors_not_idle = record {
     phis_kept = all_kept_reused (λ r. r) ([]);
     before_kept = all_kept_reused (λ r. r) (copy_in 0 10 s32 ∷ []);
     after_kept = all_kept_reused (λ r. r) ([]);
-    phis_shown = shown_by none (λ r. r) ([]) refl;
-    before_shown = shown_by none (λ r. r) (copy_in 0 10 s32 ∷ []) refl;
-    after_shown = shown_by none (λ r. r) ([]) refl;
-    phis_widths = all_seen_by (setting_of 32 names successors_old) (setting_of 32 names successors_new) none (λ r. r) ([]) refl;
-    before_widths = all_seen_by (setting_of 32 names successors_old) (setting_of 32 names successors_new) none (λ r. r) (copy_in 0 10 s32 ∷ []) refl;
-    after_widths = all_seen_by (setting_of 32 names successors_old) (setting_of 32 names successors_new) none (λ r. r) ([]) refl;
+    phis_shown = shown_by nothing (λ r. r) ([]) refl;
+    before_shown = shown_by nothing (λ r. r) (copy_in 0 10 s32 ∷ []) refl;
+    after_shown = shown_by nothing (λ r. r) ([]) refl;
+    phis_widths = all_seen_by (setting_of 32 names successors_old) (setting_of 32 names successors_new) nothing (λ r. r) ([]) refl;
+    before_widths = all_seen_by (setting_of 32 names successors_old) (setting_of 32 names successors_new) nothing (λ r. r) (copy_in 0 10 s32 ∷ []) refl;
+    after_widths = all_seen_by (setting_of 32 names successors_old) (setting_of 32 names successors_new) nothing (λ r. r) ([]) refl;
     phis_hold = no_phis successors_old 0 (λ r. r);
     before_holds = body_alone successors_old 0 (λ r. r) ([]) (copy_in 0 10 s32 ∷ []) refl;
     after_holds = body_alone successors_old 0 (λ r. r) (copy_in 0 10 s32 ∷ []) ([]) refl;
     others = successors_others;
-    follows = unchanged successors_old successors_new 0 (copy_in 0 10 s32 ∷ []) none;
+    follows = unchanged successors_old successors_new 0 (copy_in 0 10 s32 ∷ []) nothing;
   };
   refuted = refutes 32 names successors_old successors_new (world 1 2) (is_world_of 1 2 (lit< tt) (lit< tt)) 4 (Returned (1 ∷ []) counting 0) Fails refl refl (λ e. false≢true (ap is_return e)) (λ e. false≢true (ap is_return e));
 }
@@ -68,7 +68,7 @@ abbrev others_new : FunctionData
 others_new = function_of (block_of (1 ∷ []) (copy_in 0 10 s32 ∷ []) ∷ block_of ([]) (other_word ∷ return_10 ∷ []) ∷ [])
 
 abbrev others_place : OnePlace
-others_place = record { block = 0; before = copy_in 0 10 s32 ∷ []; old = []; after = []; new_before = copy_in 0 10 s32 ∷ []; new = []; new_after = []; hidden = none; rename = (λ r. r) }
+others_place = record { block = 0; before = copy_in 0 10 s32 ∷ []; old = []; after = []; new_before = copy_in 0 10 s32 ∷ []; new = []; new_after = []; hidden = nothing; rename = (λ r. r) }
 
 pub others_not_idle : IsNotIdle Others
 others_not_idle = record {
@@ -86,17 +86,17 @@ others_not_idle = record {
     phis_kept = all_kept_reused (λ r. r) ([]);
     before_kept = all_kept_reused (λ r. r) (copy_in 0 10 s32 ∷ []);
     after_kept = all_kept_reused (λ r. r) ([]);
-    phis_shown = shown_by none (λ r. r) ([]) refl;
-    before_shown = shown_by none (λ r. r) (copy_in 0 10 s32 ∷ []) refl;
-    after_shown = shown_by none (λ r. r) ([]) refl;
-    phis_widths = all_seen_by (setting_of 32 names others_old) (setting_of 32 names others_new) none (λ r. r) ([]) refl;
-    before_widths = all_seen_by (setting_of 32 names others_old) (setting_of 32 names others_new) none (λ r. r) (copy_in 0 10 s32 ∷ []) refl;
-    after_widths = all_seen_by (setting_of 32 names others_old) (setting_of 32 names others_new) none (λ r. r) ([]) refl;
+    phis_shown = shown_by nothing (λ r. r) ([]) refl;
+    before_shown = shown_by nothing (λ r. r) (copy_in 0 10 s32 ∷ []) refl;
+    after_shown = shown_by nothing (λ r. r) ([]) refl;
+    phis_widths = all_seen_by (setting_of 32 names others_old) (setting_of 32 names others_new) nothing (λ r. r) ([]) refl;
+    before_widths = all_seen_by (setting_of 32 names others_old) (setting_of 32 names others_new) nothing (λ r. r) (copy_in 0 10 s32 ∷ []) refl;
+    after_widths = all_seen_by (setting_of 32 names others_old) (setting_of 32 names others_new) nothing (λ r. r) ([]) refl;
     phis_hold = no_phis others_old 0 (λ r. r);
     before_holds = body_alone others_old 0 (λ r. r) ([]) (copy_in 0 10 s32 ∷ []) refl;
     after_holds = body_alone others_old 0 (λ r. r) (copy_in 0 10 s32 ∷ []) ([]) refl;
     others = tt;
-    follows = unchanged others_old others_new 0 (copy_in 0 10 s32 ∷ []) none;
+    follows = unchanged others_old others_new 0 (copy_in 0 10 s32 ∷ []) nothing;
   };
   refuted = refutes 32 names others_old others_new (world 1 2) (is_world_of 1 2 (lit< tt) (lit< tt)) 4 (Returned (1 ∷ []) counting 0) (Returned (2 ∷ []) counting 0) refl refl (λ e. eqb-false 2 1 refl (returned_is 2 1 e)) (λ e. false≢true (ap is_return e));
 }
@@ -110,9 +110,9 @@ abbrev follows_new : FunctionData
 follows_new = function_of (block_of ([]) (other_word ∷ return_10 ∷ []) ∷ [])
 
 abbrev follows_place : OnePlace
-follows_place = record { block = 0; before = []; old = []; after = return_10 ∷ []; new_before = []; new = other_word ∷ []; new_after = return_10 ∷ []; hidden = none; rename = (λ r. r) }
+follows_place = record { block = 0; before = []; old = []; after = return_10 ∷ []; new_before = []; new = other_word ∷ []; new_after = return_10 ∷ []; hidden = nothing; rename = (λ r. r) }
 
-follows_others : (b : ℕ) → (b ≡ 0 → ⊥) → StaysAt 32 names follows_old follows_new none (λ r. r) b (slice_get follows_old.blocks b) (slice_get follows_new.blocks b)
+follows_others : (b : ℕ) → (b ≡ 0 → ⊥) → StaysAt 32 names follows_old follows_new nothing (λ r. r) b (slice_get follows_old.blocks b) (slice_get follows_new.blocks b)
 follows_others zero other = absurd (other refl)
 follows_others (suc b) other = tt
 
@@ -132,12 +132,12 @@ follows_not_idle = record {
     phis_kept = all_kept_reused (λ r. r) ([]);
     before_kept = all_kept_reused (λ r. r) ([]);
     after_kept = all_kept_reused (λ r. r) (return_10 ∷ []);
-    phis_shown = shown_by none (λ r. r) ([]) refl;
-    before_shown = shown_by none (λ r. r) ([]) refl;
-    after_shown = shown_by none (λ r. r) (return_10 ∷ []) refl;
-    phis_widths = all_seen_by (setting_of 32 names follows_old) (setting_of 32 names follows_new) none (λ r. r) ([]) refl;
-    before_widths = all_seen_by (setting_of 32 names follows_old) (setting_of 32 names follows_new) none (λ r. r) ([]) refl;
-    after_widths = all_seen_by (setting_of 32 names follows_old) (setting_of 32 names follows_new) none (λ r. r) (return_10 ∷ []) refl;
+    phis_shown = shown_by nothing (λ r. r) ([]) refl;
+    before_shown = shown_by nothing (λ r. r) ([]) refl;
+    after_shown = shown_by nothing (λ r. r) (return_10 ∷ []) refl;
+    phis_widths = all_seen_by (setting_of 32 names follows_old) (setting_of 32 names follows_new) nothing (λ r. r) ([]) refl;
+    before_widths = all_seen_by (setting_of 32 names follows_old) (setting_of 32 names follows_new) nothing (λ r. r) ([]) refl;
+    after_widths = all_seen_by (setting_of 32 names follows_old) (setting_of 32 names follows_new) nothing (λ r. r) (return_10 ∷ []) refl;
     phis_hold = no_phis follows_old 0 (λ r. r);
     before_holds = body_alone follows_old 0 (λ r. r) ([]) ([]) refl;
     after_holds = body_alone follows_old 0 (λ r. r) ([]) (return_10 ∷ []) refl;

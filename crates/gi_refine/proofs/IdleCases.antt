@@ -78,12 +78,6 @@ hidden_written s g w before hidden exit i q value h steps agrees = inserted_foll
 
 -- ══ Instructions of the cases ══
 
-abbrev pub none : ℕ → Bool
-none r = false
-
-abbrev pub only_1 : ℕ → Bool
-only_1 r = r == 1
-
 -- 1 replaces 0
 abbrev pub zero_by_one : ℕ → ℕ
 zero_by_one r = if r == 0 then 1 else r

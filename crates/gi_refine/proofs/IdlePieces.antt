@@ -11,11 +11,11 @@ use Rattle.gi_refine.specs.Agreement.{Agree, AgreeAt}
 use Rattle.gi_refine.specs.Evaluation.{steps_of}
 use Rattle.gi_refine.specs.Examples.{made, block_of, function_of, s32, copy_in, copy_out, names, counting}
 use Rattle.gi_refine.specs.Idle.{PiecePremise, StayKept, StaySeen, StayHeld, StayHides, StayLeaves, PieceChanged, PhisFollowing, BlockFalls, BlockSuccessors, PieceBut, PiecesBut, BlockButAt, IsRewrittenBut, IsPieceNotIdle}
-use Rattle.gi_refine.specs.OnePlace.{only_virtual}
+use Rattle.gi_refine.specs.OnePlace.{only_virtual, nothing, only}
 use Rattle.gi_refine.specs.Reached.{WhereReached}
 use Rattle.gi_refine.specs.Rewriting.{Piece, Kept, Changed, old_of, Covers, PieceFollows, PiecesFollow, PhisFollow, RewrittenAt, IsRewritten}
 use Rattle.gi_refine.proofs.RewritingFollows.{covers_so, hides_so}
-use Rattle.gi_refine.proofs.IdleCases.{world, is_world_of, returned_is, is_return, hidden_written, none, only_1, zero_by_one, return_10, other_word, phi_of}
+use Rattle.gi_refine.proofs.IdleCases.{world, is_world_of, returned_is, is_return, hidden_written, zero_by_one, return_10, other_word, phi_of}
 use Rattle.gi_refine.proofs.StayingTested.{seen_by, alone_holds}
 use Rattle.gi_refine.proofs.Keeping.{agree_but}
 use Rattle.gi_refine.proofs.Staying.{kept_reused}
@@ -58,10 +58,10 @@ rewritten_all x f g owes = record {
 -- ══ What many cases share ══
 
 abbrev all_seen : Place → Bool
-all_seen = only_virtual none
+all_seen = only_virtual nothing
 
 abbrev one_hidden : Place → Bool
-one_hidden = only_virtual only_1
+one_hidden = only_virtual (only 1)
 
 none_covered : (first then : Place → Bool) → ((p : Place) → first p ≡ false) → Covers first then
 none_covered first then seen = record { by = λ p h. seen p }
@@ -80,7 +80,7 @@ hides_1 : (f g : FunctionData) (entries : ℕ → Place → Bool) (w : World) (b
 hides_1 f g entries w b before now seen steps =
     let s : Setting = setting_of 32 names f in
     let t : Setting = setting_of 32 names g in
-    hidden_written s g w (WhereReached s w f.blocks b before (Agree s t now)) only_1 (AgreeAt s t entries) (copy_in 1 11 s32) 1 (λ state. word_in state 11) refl steps
+    hidden_written s g w (WhereReached s w f.blocks b before (Agree s t now)) (only 1) (AgreeAt s t entries) (copy_in 1 11 s32) 1 (λ state. word_in state 11) refl steps
     (λ old new h. agree_but s t now one_hidden old new (λ p e. seen p) h.relates)
 
 -- `PseudoBR bb.2`
@@ -103,7 +103,7 @@ kept_places zero = record {
   splits = refl;
   new_splits = refl;
   phis = λ w is_world. no_phis_follow kept_old kept_new 0 all_seen w;
-  body = λ w is_world. (record { kept = tt; seen = seen_by (setting_of 32 names kept_old) (setting_of 32 names kept_new) none (λ r. r) ((copy_in 0 10 s32).1.operands) refl; holds = λ state reached. alone_holds (λ r. r) state ((copy_in 0 10 s32).1.operands) refl; hides = hides_so all_seen (written_places (meaning_of (copy_in 0 10 s32).1.flags (copy_in 0 10 s32).1.op) ((copy_in 0 10 s32).1.operands)); leaves = λ c h. absurd (false≢true h) }, (record { kept = tt; seen = seen_by (setting_of 32 names kept_old) (setting_of 32 names kept_new) none (λ r. r) ((copy_out 10 0).1.operands) refl; holds = λ state reached. alone_holds (λ r. r) state ((copy_out 10 0).1.operands) refl; hides = hides_so all_seen (written_places (meaning_of (copy_out 10 0).1.flags (copy_out 10 0).1.op) ((copy_out 10 0).1.operands)); leaves = λ c h. absurd (false≢true h) }, (record { kept = tt; seen = seen_by (setting_of 32 names kept_old) (setting_of 32 names kept_new) none (λ r. r) ((return_10).1.operands) refl; holds = λ state reached. alone_holds (λ r. r) state ((return_10).1.operands) refl; hides = hides_so all_seen (written_places (meaning_of (return_10).1.flags (return_10).1.op) ((return_10).1.operands)); leaves = λ c h. absurd (false≢true h) }, tt)));
+  body = λ w is_world. (record { kept = tt; seen = seen_by (setting_of 32 names kept_old) (setting_of 32 names kept_new) nothing (λ r. r) ((copy_in 0 10 s32).1.operands) refl; holds = λ state reached. alone_holds (λ r. r) state ((copy_in 0 10 s32).1.operands) refl; hides = hides_so all_seen (written_places (meaning_of (copy_in 0 10 s32).1.flags (copy_in 0 10 s32).1.op) ((copy_in 0 10 s32).1.operands)); leaves = λ c h. absurd (false≢true h) }, (record { kept = tt; seen = seen_by (setting_of 32 names kept_old) (setting_of 32 names kept_new) nothing (λ r. r) ((copy_out 10 0).1.operands) refl; holds = λ state reached. alone_holds (λ r. r) state ((copy_out 10 0).1.operands) refl; hides = hides_so all_seen (written_places (meaning_of (copy_out 10 0).1.flags (copy_out 10 0).1.op) ((copy_out 10 0).1.operands)); leaves = λ c h. absurd (false≢true h) }, (record { kept = tt; seen = seen_by (setting_of 32 names kept_old) (setting_of 32 names kept_new) nothing (λ r. r) ((return_10).1.operands) refl; holds = λ state reached. alone_holds (λ r. r) state ((return_10).1.operands) refl; hides = hides_so all_seen (written_places (meaning_of (return_10).1.flags (return_10).1.op) ((return_10).1.operands)); leaves = λ c h. absurd (false≢true h) }, tt)));
   falls = λ among. absurd (false≢true among);
 }
 kept_places (suc b) = tt
@@ -161,7 +161,7 @@ held_places zero = record {
   splits = refl;
   new_splits = refl;
   phis = λ w is_world. no_phis_follow held_old held_new 0 all_seen w;
-  body = λ w is_world. (record { kept = kept_reused zero_by_one ((copy_in 0 10 s32).1) ((copy_in 0 10 s32).1) refl; seen = seen_by (setting_of 32 names held_old) (setting_of 32 names held_new) none zero_by_one ((copy_in 0 10 s32).1.operands) refl; holds = tt; hides = hides_so all_seen (written_places (meaning_of (copy_in 0 10 s32).1.flags (copy_in 0 10 s32).1.op) ((copy_in 0 10 s32).1.operands)); leaves = λ c h. absurd (false≢true h) }, (record { kept = kept_reused zero_by_one ((copy_in 1 11 s32).1) ((copy_in 1 11 s32).1) refl; seen = seen_by (setting_of 32 names held_old) (setting_of 32 names held_new) none zero_by_one ((copy_in 1 11 s32).1.operands) refl; holds = tt; hides = hides_so all_seen (written_places (meaning_of (copy_in 1 11 s32).1.flags (copy_in 1 11 s32).1.op) ((copy_in 1 11 s32).1.operands)); leaves = λ c h. absurd (false≢true h) }, (record { kept = kept_reused zero_by_one ((copy_out 10 0).1) ((copy_out 10 1).1) refl; seen = seen_by (setting_of 32 names held_old) (setting_of 32 names held_new) none zero_by_one ((copy_out 10 0).1.operands) refl; holds = tt; hides = hides_so all_seen (written_places (meaning_of (copy_out 10 0).1.flags (copy_out 10 0).1.op) ((copy_out 10 0).1.operands)); leaves = λ c h. absurd (false≢true h) }, (record { kept = kept_reused zero_by_one ((return_10).1) ((return_10).1) refl; seen = seen_by (setting_of 32 names held_old) (setting_of 32 names held_new) none zero_by_one ((return_10).1.operands) refl; holds = tt; hides = hides_so all_seen (written_places (meaning_of (return_10).1.flags (return_10).1.op) ((return_10).1.operands)); leaves = λ c h. absurd (false≢true h) }, tt))));
+  body = λ w is_world. (record { kept = kept_reused zero_by_one ((copy_in 0 10 s32).1) ((copy_in 0 10 s32).1) refl; seen = seen_by (setting_of 32 names held_old) (setting_of 32 names held_new) nothing zero_by_one ((copy_in 0 10 s32).1.operands) refl; holds = tt; hides = hides_so all_seen (written_places (meaning_of (copy_in 0 10 s32).1.flags (copy_in 0 10 s32).1.op) ((copy_in 0 10 s32).1.operands)); leaves = λ c h. absurd (false≢true h) }, (record { kept = kept_reused zero_by_one ((copy_in 1 11 s32).1) ((copy_in 1 11 s32).1) refl; seen = seen_by (setting_of 32 names held_old) (setting_of 32 names held_new) nothing zero_by_one ((copy_in 1 11 s32).1.operands) refl; holds = tt; hides = hides_so all_seen (written_places (meaning_of (copy_in 1 11 s32).1.flags (copy_in 1 11 s32).1.op) ((copy_in 1 11 s32).1.operands)); leaves = λ c h. absurd (false≢true h) }, (record { kept = kept_reused zero_by_one ((copy_out 10 0).1) ((copy_out 10 1).1) refl; seen = seen_by (setting_of 32 names held_old) (setting_of 32 names held_new) nothing zero_by_one ((copy_out 10 0).1.operands) refl; holds = tt; hides = hides_so all_seen (written_places (meaning_of (copy_out 10 0).1.flags (copy_out 10 0).1.op) ((copy_out 10 0).1.operands)); leaves = λ c h. absurd (false≢true h) }, (record { kept = kept_reused zero_by_one ((return_10).1) ((return_10).1) refl; seen = seen_by (setting_of 32 names held_old) (setting_of 32 names held_new) nothing zero_by_one ((return_10).1.operands) refl; holds = tt; hides = hides_so all_seen (written_places (meaning_of (return_10).1.flags (return_10).1.op) ((return_10).1.operands)); leaves = λ c h. absurd (false≢true h) }, tt))));
   falls = λ among. absurd (false≢true among);
 }
 held_places (suc b) = tt
@@ -190,7 +190,7 @@ hides_places zero = record {
   splits = refl;
   new_splits = refl;
   phis = λ w is_world. no_phis_follow hides_old hides_new 0 all_seen w;
-  body = λ w is_world. (record { kept = kept_reused (λ r. r) ((copy_in 1 10 s32).1) ((copy_in 1 10 s32).1) refl; seen = seen_by (setting_of 32 names hides_old) (setting_of 32 names hides_new) none (λ r. r) ((copy_in 1 10 s32).1.operands) refl; holds = λ state reached. alone_holds (λ r. r) state ((copy_in 1 10 s32).1.operands) refl; hides = tt; leaves = λ c h. absurd (false≢true h) }, (hides_1 hides_old hides_new (λ b. all_seen) w 0 (copy_in 1 10 s32 ∷ []) all_seen all_seen_so (λ state. refl), (record { kept = kept_reused (λ r. r) ((copy_in 0 10 s32).1) ((copy_in 0 10 s32).1) refl; seen = seen_by (setting_of 32 names hides_old) (setting_of 32 names hides_new) only_1 (λ r. r) ((copy_in 0 10 s32).1.operands) refl; holds = λ state reached. alone_holds (λ r. r) state ((copy_in 0 10 s32).1.operands) refl; hides = tt; leaves = λ c h. absurd (false≢true h) }, (record { kept = kept_reused (λ r. r) ((copy_out 10 1).1) ((copy_out 10 1).1) refl; seen = seen_by (setting_of 32 names hides_old) (setting_of 32 names hides_new) none (λ r. r) ((copy_out 10 1).1.operands) refl; holds = λ state reached. alone_holds (λ r. r) state ((copy_out 10 1).1.operands) refl; hides = tt; leaves = λ c h. absurd (false≢true h) }, (record { kept = kept_reused (λ r. r) ((return_10).1) ((return_10).1) refl; seen = seen_by (setting_of 32 names hides_old) (setting_of 32 names hides_new) none (λ r. r) ((return_10).1.operands) refl; holds = λ state reached. alone_holds (λ r. r) state ((return_10).1.operands) refl; hides = tt; leaves = λ c h. absurd (false≢true h) }, tt)))));
+  body = λ w is_world. (record { kept = kept_reused (λ r. r) ((copy_in 1 10 s32).1) ((copy_in 1 10 s32).1) refl; seen = seen_by (setting_of 32 names hides_old) (setting_of 32 names hides_new) nothing (λ r. r) ((copy_in 1 10 s32).1.operands) refl; holds = λ state reached. alone_holds (λ r. r) state ((copy_in 1 10 s32).1.operands) refl; hides = tt; leaves = λ c h. absurd (false≢true h) }, (hides_1 hides_old hides_new (λ b. all_seen) w 0 (copy_in 1 10 s32 ∷ []) all_seen all_seen_so (λ state. refl), (record { kept = kept_reused (λ r. r) ((copy_in 0 10 s32).1) ((copy_in 0 10 s32).1) refl; seen = seen_by (setting_of 32 names hides_old) (setting_of 32 names hides_new) (only 1) (λ r. r) ((copy_in 0 10 s32).1.operands) refl; holds = λ state reached. alone_holds (λ r. r) state ((copy_in 0 10 s32).1.operands) refl; hides = tt; leaves = λ c h. absurd (false≢true h) }, (record { kept = kept_reused (λ r. r) ((copy_out 10 1).1) ((copy_out 10 1).1) refl; seen = seen_by (setting_of 32 names hides_old) (setting_of 32 names hides_new) nothing (λ r. r) ((copy_out 10 1).1.operands) refl; holds = λ state reached. alone_holds (λ r. r) state ((copy_out 10 1).1.operands) refl; hides = tt; leaves = λ c h. absurd (false≢true h) }, (record { kept = kept_reused (λ r. r) ((return_10).1) ((return_10).1) refl; seen = seen_by (setting_of 32 names hides_old) (setting_of 32 names hides_new) nothing (λ r. r) ((return_10).1.operands) refl; holds = λ state reached. alone_holds (λ r. r) state ((return_10).1.operands) refl; hides = tt; leaves = λ c h. absurd (false≢true h) }, tt)))));
   falls = λ among. absurd (false≢true among);
 }
 hides_places (suc b) = tt
@@ -219,7 +219,7 @@ leaves_places zero = record {
   splits = refl;
   new_splits = refl;
   phis = λ w is_world. no_phis_follow leaves_old leaves_new 0 all_seen w;
-  body = λ w is_world. (record { kept = kept_reused (λ r. r) ((copy_in 1 10 s32).1) ((copy_in 1 10 s32).1) refl; seen = seen_by (setting_of 32 names leaves_old) (setting_of 32 names leaves_new) none (λ r. r) ((copy_in 1 10 s32).1.operands) refl; holds = λ state reached. alone_holds (λ r. r) state ((copy_in 1 10 s32).1.operands) refl; hides = hides_so all_seen (written_places (meaning_of (copy_in 1 10 s32).1.flags (copy_in 1 10 s32).1.op) ((copy_in 1 10 s32).1.operands)); leaves = tt }, (hides_1 leaves_old leaves_new (λ b. all_seen) w 0 (copy_in 1 10 s32 ∷ []) all_seen all_seen_so (λ state. refl), (record { kept = kept_reused (λ r. r) ((branch_2).1) ((branch_2).1) refl; seen = seen_by (setting_of 32 names leaves_old) (setting_of 32 names leaves_new) only_1 (λ r. r) ((branch_2).1.operands) refl; holds = λ state reached. alone_holds (λ r. r) state ((branch_2).1.operands) refl; hides = hides_so one_hidden (written_places (meaning_of (branch_2).1.flags (branch_2).1.op) ((branch_2).1.operands)); leaves = tt }, tt)));
+  body = λ w is_world. (record { kept = kept_reused (λ r. r) ((copy_in 1 10 s32).1) ((copy_in 1 10 s32).1) refl; seen = seen_by (setting_of 32 names leaves_old) (setting_of 32 names leaves_new) nothing (λ r. r) ((copy_in 1 10 s32).1.operands) refl; holds = λ state reached. alone_holds (λ r. r) state ((copy_in 1 10 s32).1.operands) refl; hides = hides_so all_seen (written_places (meaning_of (copy_in 1 10 s32).1.flags (copy_in 1 10 s32).1.op) ((copy_in 1 10 s32).1.operands)); leaves = tt }, (hides_1 leaves_old leaves_new (λ b. all_seen) w 0 (copy_in 1 10 s32 ∷ []) all_seen all_seen_so (λ state. refl), (record { kept = kept_reused (λ r. r) ((branch_2).1) ((branch_2).1) refl; seen = seen_by (setting_of 32 names leaves_old) (setting_of 32 names leaves_new) (only 1) (λ r. r) ((branch_2).1.operands) refl; holds = λ state reached. alone_holds (λ r. r) state ((branch_2).1.operands) refl; hides = hides_so one_hidden (written_places (meaning_of (branch_2).1.flags (branch_2).1.op) ((branch_2).1.operands)); leaves = tt }, tt)));
   falls = λ among. absurd (false≢true among);
 }
 leaves_places (suc zero) = record {
@@ -229,7 +229,7 @@ leaves_places (suc zero) = record {
   splits = refl;
   new_splits = refl;
   phis = λ w is_world. no_phis_follow leaves_old leaves_new 1 all_seen w;
-  body = λ w is_world. (record { kept = kept_reused (λ r. r) ((return_10).1) ((return_10).1) refl; seen = seen_by (setting_of 32 names leaves_old) (setting_of 32 names leaves_new) none (λ r. r) ((return_10).1.operands) refl; holds = λ state reached. alone_holds (λ r. r) state ((return_10).1.operands) refl; hides = hides_so all_seen (written_places (meaning_of (return_10).1.flags (return_10).1.op) ((return_10).1.operands)); leaves = tt }, tt);
+  body = λ w is_world. (record { kept = kept_reused (λ r. r) ((return_10).1) ((return_10).1) refl; seen = seen_by (setting_of 32 names leaves_old) (setting_of 32 names leaves_new) nothing (λ r. r) ((return_10).1.operands) refl; holds = λ state reached. alone_holds (λ r. r) state ((return_10).1.operands) refl; hides = hides_so all_seen (written_places (meaning_of (return_10).1.flags (return_10).1.op) ((return_10).1.operands)); leaves = tt }, tt);
   falls = λ among. absurd (false≢true among);
 }
 leaves_places (suc (suc zero)) = record {
@@ -239,7 +239,7 @@ leaves_places (suc (suc zero)) = record {
   splits = refl;
   new_splits = refl;
   phis = λ w is_world. no_phis_follow leaves_old leaves_new 2 all_seen w;
-  body = λ w is_world. (record { kept = kept_reused (λ r. r) ((copy_out 10 1).1) ((copy_out 10 1).1) refl; seen = seen_by (setting_of 32 names leaves_old) (setting_of 32 names leaves_new) none (λ r. r) ((copy_out 10 1).1.operands) refl; holds = λ state reached. alone_holds (λ r. r) state ((copy_out 10 1).1.operands) refl; hides = hides_so all_seen (written_places (meaning_of (copy_out 10 1).1.flags (copy_out 10 1).1.op) ((copy_out 10 1).1.operands)); leaves = tt }, (record { kept = kept_reused (λ r. r) ((return_10).1) ((return_10).1) refl; seen = seen_by (setting_of 32 names leaves_old) (setting_of 32 names leaves_new) none (λ r. r) ((return_10).1.operands) refl; holds = λ state reached. alone_holds (λ r. r) state ((return_10).1.operands) refl; hides = hides_so all_seen (written_places (meaning_of (return_10).1.flags (return_10).1.op) ((return_10).1.operands)); leaves = tt }, tt));
+  body = λ w is_world. (record { kept = kept_reused (λ r. r) ((copy_out 10 1).1) ((copy_out 10 1).1) refl; seen = seen_by (setting_of 32 names leaves_old) (setting_of 32 names leaves_new) nothing (λ r. r) ((copy_out 10 1).1.operands) refl; holds = λ state reached. alone_holds (λ r. r) state ((copy_out 10 1).1.operands) refl; hides = hides_so all_seen (written_places (meaning_of (copy_out 10 1).1.flags (copy_out 10 1).1.op) ((copy_out 10 1).1.operands)); leaves = tt }, (record { kept = kept_reused (λ r. r) ((return_10).1) ((return_10).1) refl; seen = seen_by (setting_of 32 names leaves_old) (setting_of 32 names leaves_new) nothing (λ r. r) ((return_10).1.operands) refl; holds = λ state reached. alone_holds (λ r. r) state ((return_10).1.operands) refl; hides = hides_so all_seen (written_places (meaning_of (return_10).1.flags (return_10).1.op) ((return_10).1.operands)); leaves = tt }, tt));
   falls = λ among. absurd (false≢true among);
 }
 leaves_places (suc (suc (suc b))) = tt
@@ -268,7 +268,7 @@ changed_places zero = record {
   splits = refl;
   new_splits = refl;
   phis = λ w is_world. no_phis_follow changed_old changed_new 0 all_seen w;
-  body = λ w is_world. (tt, (record { kept = kept_reused (λ r. r) ((return_10).1) ((return_10).1) refl; seen = seen_by (setting_of 32 names changed_old) (setting_of 32 names changed_new) none (λ r. r) ((return_10).1.operands) refl; holds = λ state reached. alone_holds (λ r. r) state ((return_10).1.operands) refl; hides = hides_so all_seen (written_places (meaning_of (return_10).1.flags (return_10).1.op) ((return_10).1.operands)); leaves = λ c h. absurd (false≢true h) }, tt));
+  body = λ w is_world. (tt, (record { kept = kept_reused (λ r. r) ((return_10).1) ((return_10).1) refl; seen = seen_by (setting_of 32 names changed_old) (setting_of 32 names changed_new) nothing (λ r. r) ((return_10).1.operands) refl; holds = λ state reached. alone_holds (λ r. r) state ((return_10).1.operands) refl; hides = hides_so all_seen (written_places (meaning_of (return_10).1.flags (return_10).1.op) ((return_10).1.operands)); leaves = λ c h. absurd (false≢true h) }, tt));
   falls = λ among. absurd (false≢true among);
 }
 changed_places (suc b) = tt
@@ -297,7 +297,7 @@ phis_places zero = record {
   splits = refl;
   new_splits = refl;
   phis = tt;
-  body = λ w is_world. (record { kept = kept_reused (λ r. r) ((copy_in 0 10 s32).1) ((copy_in 0 10 s32).1) refl; seen = seen_by (setting_of 32 names phis_old) (setting_of 32 names phis_new) none (λ r. r) ((copy_in 0 10 s32).1.operands) refl; holds = λ state reached. alone_holds (λ r. r) state ((copy_in 0 10 s32).1.operands) refl; hides = hides_so all_seen (written_places (meaning_of (copy_in 0 10 s32).1.flags (copy_in 0 10 s32).1.op) ((copy_in 0 10 s32).1.operands)); leaves = λ c h. absurd (false≢true h) }, (record { kept = kept_reused (λ r. r) ((copy_in 1 11 s32).1) ((copy_in 1 11 s32).1) refl; seen = seen_by (setting_of 32 names phis_old) (setting_of 32 names phis_new) none (λ r. r) ((copy_in 1 11 s32).1.operands) refl; holds = λ state reached. alone_holds (λ r. r) state ((copy_in 1 11 s32).1.operands) refl; hides = hides_so all_seen (written_places (meaning_of (copy_in 1 11 s32).1.flags (copy_in 1 11 s32).1.op) ((copy_in 1 11 s32).1.operands)); leaves = λ c h. absurd (false≢true h) }, tt));
+  body = λ w is_world. (record { kept = kept_reused (λ r. r) ((copy_in 0 10 s32).1) ((copy_in 0 10 s32).1) refl; seen = seen_by (setting_of 32 names phis_old) (setting_of 32 names phis_new) nothing (λ r. r) ((copy_in 0 10 s32).1.operands) refl; holds = λ state reached. alone_holds (λ r. r) state ((copy_in 0 10 s32).1.operands) refl; hides = hides_so all_seen (written_places (meaning_of (copy_in 0 10 s32).1.flags (copy_in 0 10 s32).1.op) ((copy_in 0 10 s32).1.operands)); leaves = λ c h. absurd (false≢true h) }, (record { kept = kept_reused (λ r. r) ((copy_in 1 11 s32).1) ((copy_in 1 11 s32).1) refl; seen = seen_by (setting_of 32 names phis_old) (setting_of 32 names phis_new) nothing (λ r. r) ((copy_in 1 11 s32).1.operands) refl; holds = λ state reached. alone_holds (λ r. r) state ((copy_in 1 11 s32).1.operands) refl; hides = hides_so all_seen (written_places (meaning_of (copy_in 1 11 s32).1.flags (copy_in 1 11 s32).1.op) ((copy_in 1 11 s32).1.operands)); leaves = λ c h. absurd (false≢true h) }, tt));
   falls = λ among. covers_so all_seen;
 }
 phis_places (suc zero) = record {
@@ -307,7 +307,7 @@ phis_places (suc zero) = record {
   splits = refl;
   new_splits = refl;
   phis = tt;
-  body = λ w is_world. (record { kept = kept_reused (λ r. r) ((copy_out 10 2).1) ((copy_out 10 2).1) refl; seen = seen_by (setting_of 32 names phis_old) (setting_of 32 names phis_new) none (λ r. r) ((copy_out 10 2).1.operands) refl; holds = λ state reached. alone_holds (λ r. r) state ((copy_out 10 2).1.operands) refl; hides = hides_so all_seen (written_places (meaning_of (copy_out 10 2).1.flags (copy_out 10 2).1.op) ((copy_out 10 2).1.operands)); leaves = λ c h. absurd (false≢true h) }, (record { kept = kept_reused (λ r. r) ((return_10).1) ((return_10).1) refl; seen = seen_by (setting_of 32 names phis_old) (setting_of 32 names phis_new) none (λ r. r) ((return_10).1.operands) refl; holds = λ state reached. alone_holds (λ r. r) state ((return_10).1.operands) refl; hides = hides_so all_seen (written_places (meaning_of (return_10).1.flags (return_10).1.op) ((return_10).1.operands)); leaves = λ c h. absurd (false≢true h) }, tt));
+  body = λ w is_world. (record { kept = kept_reused (λ r. r) ((copy_out 10 2).1) ((copy_out 10 2).1) refl; seen = seen_by (setting_of 32 names phis_old) (setting_of 32 names phis_new) nothing (λ r. r) ((copy_out 10 2).1.operands) refl; holds = λ state reached. alone_holds (λ r. r) state ((copy_out 10 2).1.operands) refl; hides = hides_so all_seen (written_places (meaning_of (copy_out 10 2).1.flags (copy_out 10 2).1.op) ((copy_out 10 2).1.operands)); leaves = λ c h. absurd (false≢true h) }, (record { kept = kept_reused (λ r. r) ((return_10).1) ((return_10).1) refl; seen = seen_by (setting_of 32 names phis_old) (setting_of 32 names phis_new) nothing (λ r. r) ((return_10).1.operands) refl; holds = λ state reached. alone_holds (λ r. r) state ((return_10).1.operands) refl; hides = hides_so all_seen (written_places (meaning_of (return_10).1.flags (return_10).1.op) ((return_10).1.operands)); leaves = λ c h. absurd (false≢true h) }, tt));
   falls = λ among. absurd (false≢true among);
 }
 phis_places (suc (suc b)) = tt
@@ -336,7 +336,7 @@ falls_places zero = record {
   splits = refl;
   new_splits = refl;
   phis = λ w is_world. no_phis_follow falls_old falls_new 0 all_seen w;
-  body = λ w is_world. (record { kept = kept_reused (λ r. r) ((copy_in 1 10 s32).1) ((copy_in 1 10 s32).1) refl; seen = seen_by (setting_of 32 names falls_old) (setting_of 32 names falls_new) none (λ r. r) ((copy_in 1 10 s32).1.operands) refl; holds = λ state reached. alone_holds (λ r. r) state ((copy_in 1 10 s32).1.operands) refl; hides = hides_so all_seen (written_places (meaning_of (copy_in 1 10 s32).1.flags (copy_in 1 10 s32).1.op) ((copy_in 1 10 s32).1.operands)); leaves = λ c h. absurd (false≢true h) }, (hides_1 falls_old falls_new (λ b. all_seen) w 0 (copy_in 1 10 s32 ∷ []) all_seen all_seen_so (λ state. refl), tt));
+  body = λ w is_world. (record { kept = kept_reused (λ r. r) ((copy_in 1 10 s32).1) ((copy_in 1 10 s32).1) refl; seen = seen_by (setting_of 32 names falls_old) (setting_of 32 names falls_new) nothing (λ r. r) ((copy_in 1 10 s32).1.operands) refl; holds = λ state reached. alone_holds (λ r. r) state ((copy_in 1 10 s32).1.operands) refl; hides = hides_so all_seen (written_places (meaning_of (copy_in 1 10 s32).1.flags (copy_in 1 10 s32).1.op) ((copy_in 1 10 s32).1.operands)); leaves = λ c h. absurd (false≢true h) }, (hides_1 falls_old falls_new (λ b. all_seen) w 0 (copy_in 1 10 s32 ∷ []) all_seen all_seen_so (λ state. refl), tt));
   falls = tt;
 }
 falls_places (suc zero) = record {
@@ -346,7 +346,7 @@ falls_places (suc zero) = record {
   splits = refl;
   new_splits = refl;
   phis = λ w is_world. no_phis_follow falls_old falls_new 1 all_seen w;
-  body = λ w is_world. (record { kept = kept_reused (λ r. r) ((copy_out 10 1).1) ((copy_out 10 1).1) refl; seen = seen_by (setting_of 32 names falls_old) (setting_of 32 names falls_new) none (λ r. r) ((copy_out 10 1).1.operands) refl; holds = λ state reached. alone_holds (λ r. r) state ((copy_out 10 1).1.operands) refl; hides = hides_so all_seen (written_places (meaning_of (copy_out 10 1).1.flags (copy_out 10 1).1.op) ((copy_out 10 1).1.operands)); leaves = λ c h. absurd (false≢true h) }, (record { kept = kept_reused (λ r. r) ((return_10).1) ((return_10).1) refl; seen = seen_by (setting_of 32 names falls_old) (setting_of 32 names falls_new) none (λ r. r) ((return_10).1.operands) refl; holds = λ state reached. alone_holds (λ r. r) state ((return_10).1.operands) refl; hides = hides_so all_seen (written_places (meaning_of (return_10).1.flags (return_10).1.op) ((return_10).1.operands)); leaves = λ c h. absurd (false≢true h) }, tt));
+  body = λ w is_world. (record { kept = kept_reused (λ r. r) ((copy_out 10 1).1) ((copy_out 10 1).1) refl; seen = seen_by (setting_of 32 names falls_old) (setting_of 32 names falls_new) nothing (λ r. r) ((copy_out 10 1).1.operands) refl; holds = λ state reached. alone_holds (λ r. r) state ((copy_out 10 1).1.operands) refl; hides = hides_so all_seen (written_places (meaning_of (copy_out 10 1).1.flags (copy_out 10 1).1.op) ((copy_out 10 1).1.operands)); leaves = λ c h. absurd (false≢true h) }, (record { kept = kept_reused (λ r. r) ((return_10).1) ((return_10).1) refl; seen = seen_by (setting_of 32 names falls_old) (setting_of 32 names falls_new) nothing (λ r. r) ((return_10).1.operands) refl; holds = λ state reached. alone_holds (λ r. r) state ((return_10).1.operands) refl; hides = hides_so all_seen (written_places (meaning_of (return_10).1.flags (return_10).1.op) ((return_10).1.operands)); leaves = λ c h. absurd (false≢true h) }, tt));
   falls = tt;
 }
 falls_places (suc (suc b)) = tt
@@ -375,7 +375,7 @@ successors_places zero = record {
   splits = refl;
   new_splits = refl;
   phis = λ w is_world. no_phis_follow successors_old successors_new 0 all_seen w;
-  body = λ w is_world. (record { kept = kept_reused (λ r. r) ((copy_in 0 10 s32).1) ((copy_in 0 10 s32).1) refl; seen = seen_by (setting_of 32 names successors_old) (setting_of 32 names successors_new) none (λ r. r) ((copy_in 0 10 s32).1.operands) refl; holds = λ state reached. alone_holds (λ r. r) state ((copy_in 0 10 s32).1.operands) refl; hides = hides_so all_seen (written_places (meaning_of (copy_in 0 10 s32).1.flags (copy_in 0 10 s32).1.op) ((copy_in 0 10 s32).1.operands)); leaves = λ c h. absurd (false≢true h) }, tt);
+  body = λ w is_world. (record { kept = kept_reused (λ r. r) ((copy_in 0 10 s32).1) ((copy_in 0 10 s32).1) refl; seen = seen_by (setting_of 32 names successors_old) (setting_of 32 names successors_new) nothing (λ r. r) ((copy_in 0 10 s32).1.operands) refl; holds = λ state reached. alone_holds (λ r. r) state ((copy_in 0 10 s32).1.operands) refl; hides = hides_so all_seen (written_places (meaning_of (copy_in 0 10 s32).1.flags (copy_in 0 10 s32).1.op) ((copy_in 0 10 s32).1.operands)); leaves = λ c h. absurd (false≢true h) }, tt);
   falls = λ among. covers_so all_seen;
 }
 successors_places (suc zero) = record {
@@ -385,7 +385,7 @@ successors_places (suc zero) = record {
   splits = refl;
   new_splits = refl;
   phis = λ w is_world. no_phis_follow successors_old successors_new 1 all_seen w;
-  body = λ w is_world. (record { kept = kept_reused (λ r. r) ((copy_out 10 0).1) ((copy_out 10 0).1) refl; seen = seen_by (setting_of 32 names successors_old) (setting_of 32 names successors_new) none (λ r. r) ((copy_out 10 0).1.operands) refl; holds = λ state reached. alone_holds (λ r. r) state ((copy_out 10 0).1.operands) refl; hides = hides_so all_seen (written_places (meaning_of (copy_out 10 0).1.flags (copy_out 10 0).1.op) ((copy_out 10 0).1.operands)); leaves = λ c h. absurd (false≢true h) }, (record { kept = kept_reused (λ r. r) ((return_10).1) ((return_10).1) refl; seen = seen_by (setting_of 32 names successors_old) (setting_of 32 names successors_new) none (λ r. r) ((return_10).1.operands) refl; holds = λ state reached. alone_holds (λ r. r) state ((return_10).1.operands) refl; hides = hides_so all_seen (written_places (meaning_of (return_10).1.flags (return_10).1.op) ((return_10).1.operands)); leaves = λ c h. absurd (false≢true h) }, tt));
+  body = λ w is_world. (record { kept = kept_reused (λ r. r) ((copy_out 10 0).1) ((copy_out 10 0).1) refl; seen = seen_by (setting_of 32 names successors_old) (setting_of 32 names successors_new) nothing (λ r. r) ((copy_out 10 0).1.operands) refl; holds = λ state reached. alone_holds (λ r. r) state ((copy_out 10 0).1.operands) refl; hides = hides_so all_seen (written_places (meaning_of (copy_out 10 0).1.flags (copy_out 10 0).1.op) ((copy_out 10 0).1.operands)); leaves = λ c h. absurd (false≢true h) }, (record { kept = kept_reused (λ r. r) ((return_10).1) ((return_10).1) refl; seen = seen_by (setting_of 32 names successors_old) (setting_of 32 names successors_new) nothing (λ r. r) ((return_10).1.operands) refl; holds = λ state reached. alone_holds (λ r. r) state ((return_10).1.operands) refl; hides = hides_so all_seen (written_places (meaning_of (return_10).1.flags (return_10).1.op) ((return_10).1.operands)); leaves = λ c h. absurd (false≢true h) }, tt));
   falls = λ among. absurd (false≢true among);
 }
 successors_places (suc (suc b)) = tt

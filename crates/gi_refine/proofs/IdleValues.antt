@@ -20,9 +20,9 @@ use Rattle.gi_meaning.specs.Act.{Results}
 use Rattle.gi_meaning.specs.Runs.{Setting, On, Over, Progress, Executes, joined_lists}
 use Rattle.gi_refine.specs.Agreement.{Agree, ValueStands, AgreeAt}
 use Rattle.gi_refine.specs.Examples.{names, s32, constant_in}
-use Rattle.gi_refine.specs.IdleValues.{quiet, nothing, only, words_32, holding, Followed, copied, copy_late, clobbering, copy_of, copy_summand, summand_alone, summand_placed, sum_of, copy_same, copy_placed, constant_made, constant_placed, AllButFresh, IsGoodUse, AgreeOfAnySize, all_32, extend_same, extension_of, first_of_8, bytes_32, chosen_twice, free_placed, first_two, free_in, difference_in}
+use Rattle.gi_refine.specs.IdleValues.{quiet, words_32, holding, Followed, copied, copy_late, clobbering, copy_of, copy_summand, summand_alone, summand_placed, sum_of, copy_same, copy_placed, constant_made, constant_placed, AllButFresh, IsGoodUse, AgreeOfAnySize, all_32, extend_same, extension_of, first_of_8, bytes_32, chosen_twice, free_placed, first_two, free_in, difference_in}
 use Rattle.gi_refine.specs.Lifting.{IsPlaced, is_result}
-use Rattle.gi_refine.specs.OnePlace.{only_virtual}
+use Rattle.gi_refine.specs.OnePlace.{only_virtual, nothing, only}
 use Rattle.gi_refine.specs.Simulation.{Stands, IsFollowed}
 use Rattle.gi_refine.specs.Values.{IsSound, Makes, MayMake, Environment, Operation, Correspond}
 use Rattle.gi_refine.proofs.Doing.{gives_one, does_from, does_next, does_none, DoesAll}

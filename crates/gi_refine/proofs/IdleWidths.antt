@@ -9,13 +9,13 @@ use Rattle.gi_meaning.specs.Runs.{setting_of, Progress, On, phis_of, joined, val
 use Rattle.gi_refine.specs.Agreement.{Agree, AgreeAt, ValueStands}
 use Rattle.gi_refine.specs.Examples.{block_of, function_of, s32, use_of, copy_in, copy_out, names, counting, s16}
 use Rattle.gi_refine.specs.Idle.{PhisWidths, BeforeWidths, AfterWidths, IsNotIdle}
-use Rattle.gi_refine.specs.OnePlace.{OnePlace, only_virtual, StaysAt}
+use Rattle.gi_refine.specs.OnePlace.{OnePlace, only_virtual, StaysAt, nothing}
 use Rattle.gi_refine.specs.Reached.{IsReached, WhereReached}
 use Rattle.gi_refine.specs.Simulation.{IsFollowed}
 use Rattle.gi_refine.proofs.Evaluating.{refutes}
 use Rattle.gi_refine.proofs.Staying.{all_kept_reused}
 use Rattle.gi_refine.proofs.StayingTested.{all_seen_by, body_alone, no_phis, phis_alone, shown_by}
-use Rattle.gi_refine.proofs.IdleCases.{world, is_world_of, returned_is, is_return, unchanged, none, return_10, other_word, extended, phi_of}
+use Rattle.gi_refine.proofs.IdleCases.{world, is_world_of, returned_is, is_return, unchanged, return_10, other_word, extended, phi_of}
 
 -- ══ A register that is read behind the place has fewer bits in the new function ══
 
@@ -26,9 +26,9 @@ abbrev after_widths_new : FunctionData
 after_widths_new = function_of (block_of ([]) (copy_in 0 10 s16 ∷ extended ∷ copy_out 10 1 ∷ return_10 ∷ []) ∷ [])
 
 abbrev after_widths_place : OnePlace
-after_widths_place = record { block = 0; before = []; old = []; after = copy_in 0 10 s32 ∷ extended ∷ copy_out 10 1 ∷ return_10 ∷ []; new_before = []; new = []; new_after = copy_in 0 10 s16 ∷ extended ∷ copy_out 10 1 ∷ return_10 ∷ []; hidden = none; rename = (λ r. r) }
+after_widths_place = record { block = 0; before = []; old = []; after = copy_in 0 10 s32 ∷ extended ∷ copy_out 10 1 ∷ return_10 ∷ []; new_before = []; new = []; new_after = copy_in 0 10 s16 ∷ extended ∷ copy_out 10 1 ∷ return_10 ∷ []; hidden = nothing; rename = (λ r. r) }
 
-after_widths_others : (b : ℕ) → (b ≡ 0 → ⊥) → StaysAt 32 names after_widths_old after_widths_new none (λ r. r) b (slice_get after_widths_old.blocks b) (slice_get after_widths_new.blocks b)
+after_widths_others : (b : ℕ) → (b ≡ 0 → ⊥) → StaysAt 32 names after_widths_old after_widths_new nothing (λ r. r) b (slice_get after_widths_old.blocks b) (slice_get after_widths_new.blocks b)
 after_widths_others zero other = absurd (other refl)
 after_widths_others (suc b) other = tt
 
@@ -48,17 +48,17 @@ after_widths_not_idle = record {
     phis_kept = all_kept_reused (λ r. r) ([]);
     before_kept = all_kept_reused (λ r. r) ([]);
     after_kept = (record { op = refl; flags = refl; mem = refl; operands = refl }, (record { op = refl; flags = refl; mem = refl; operands = refl }, (record { op = refl; flags = refl; mem = refl; operands = refl }, (record { op = refl; flags = refl; mem = refl; operands = refl }, tt))));
-    phis_shown = shown_by none (λ r. r) ([]) refl;
-    before_shown = shown_by none (λ r. r) ([]) refl;
-    after_shown = shown_by none (λ r. r) (copy_in 0 10 s32 ∷ extended ∷ copy_out 10 1 ∷ return_10 ∷ []) refl;
-    phis_widths = all_seen_by (setting_of 32 names after_widths_old) (setting_of 32 names after_widths_new) none (λ r. r) ([]) refl;
-    before_widths = all_seen_by (setting_of 32 names after_widths_old) (setting_of 32 names after_widths_new) none (λ r. r) ([]) refl;
+    phis_shown = shown_by nothing (λ r. r) ([]) refl;
+    before_shown = shown_by nothing (λ r. r) ([]) refl;
+    after_shown = shown_by nothing (λ r. r) (copy_in 0 10 s32 ∷ extended ∷ copy_out 10 1 ∷ return_10 ∷ []) refl;
+    phis_widths = all_seen_by (setting_of 32 names after_widths_old) (setting_of 32 names after_widths_new) nothing (λ r. r) ([]) refl;
+    before_widths = all_seen_by (setting_of 32 names after_widths_old) (setting_of 32 names after_widths_new) nothing (λ r. r) ([]) refl;
     after_widths = tt;
     phis_hold = no_phis after_widths_old 0 (λ r. r);
     before_holds = body_alone after_widths_old 0 (λ r. r) ([]) ([]) refl;
     after_holds = body_alone after_widths_old 0 (λ r. r) ([]) (copy_in 0 10 s32 ∷ extended ∷ copy_out 10 1 ∷ return_10 ∷ []) refl;
     others = after_widths_others;
-    follows = unchanged after_widths_old after_widths_new 0 ([]) none;
+    follows = unchanged after_widths_old after_widths_new 0 ([]) nothing;
   };
   refuted = refutes 32 names after_widths_old after_widths_new (world 65537 2) (is_world_of 65537 2 (lit< tt) (lit< tt)) 4 (Returned (65537 ∷ []) counting 0) (Returned (1 ∷ []) counting 0) refl refl (λ e. eqb-false 1 65537 refl (returned_is 1 65537 e)) (λ e. false≢true (ap is_return e));
 }
@@ -72,9 +72,9 @@ abbrev before_widths_new : FunctionData
 before_widths_new = function_of (block_of ([]) (copy_in 0 10 s16 ∷ extended ∷ copy_out 10 1 ∷ return_10 ∷ []) ∷ [])
 
 abbrev before_widths_place : OnePlace
-before_widths_place = record { block = 0; before = copy_in 0 10 s32 ∷ extended ∷ []; old = []; after = copy_out 10 1 ∷ return_10 ∷ []; new_before = copy_in 0 10 s16 ∷ extended ∷ []; new = []; new_after = copy_out 10 1 ∷ return_10 ∷ []; hidden = none; rename = (λ r. r) }
+before_widths_place = record { block = 0; before = copy_in 0 10 s32 ∷ extended ∷ []; old = []; after = copy_out 10 1 ∷ return_10 ∷ []; new_before = copy_in 0 10 s16 ∷ extended ∷ []; new = []; new_after = copy_out 10 1 ∷ return_10 ∷ []; hidden = nothing; rename = (λ r. r) }
 
-before_widths_others : (b : ℕ) → (b ≡ 0 → ⊥) → StaysAt 32 names before_widths_old before_widths_new none (λ r. r) b (slice_get before_widths_old.blocks b) (slice_get before_widths_new.blocks b)
+before_widths_others : (b : ℕ) → (b ≡ 0 → ⊥) → StaysAt 32 names before_widths_old before_widths_new nothing (λ r. r) b (slice_get before_widths_old.blocks b) (slice_get before_widths_new.blocks b)
 before_widths_others zero other = absurd (other refl)
 before_widths_others (suc b) other = tt
 
@@ -94,17 +94,17 @@ before_widths_not_idle = record {
     phis_kept = all_kept_reused (λ r. r) ([]);
     before_kept = (record { op = refl; flags = refl; mem = refl; operands = refl }, (record { op = refl; flags = refl; mem = refl; operands = refl }, tt));
     after_kept = all_kept_reused (λ r. r) (copy_out 10 1 ∷ return_10 ∷ []);
-    phis_shown = shown_by none (λ r. r) ([]) refl;
-    before_shown = shown_by none (λ r. r) (copy_in 0 10 s32 ∷ extended ∷ []) refl;
-    after_shown = shown_by none (λ r. r) (copy_out 10 1 ∷ return_10 ∷ []) refl;
-    phis_widths = all_seen_by (setting_of 32 names before_widths_old) (setting_of 32 names before_widths_new) none (λ r. r) ([]) refl;
+    phis_shown = shown_by nothing (λ r. r) ([]) refl;
+    before_shown = shown_by nothing (λ r. r) (copy_in 0 10 s32 ∷ extended ∷ []) refl;
+    after_shown = shown_by nothing (λ r. r) (copy_out 10 1 ∷ return_10 ∷ []) refl;
+    phis_widths = all_seen_by (setting_of 32 names before_widths_old) (setting_of 32 names before_widths_new) nothing (λ r. r) ([]) refl;
     before_widths = tt;
-    after_widths = all_seen_by (setting_of 32 names before_widths_old) (setting_of 32 names before_widths_new) none (λ r. r) (copy_out 10 1 ∷ return_10 ∷ []) refl;
+    after_widths = all_seen_by (setting_of 32 names before_widths_old) (setting_of 32 names before_widths_new) nothing (λ r. r) (copy_out 10 1 ∷ return_10 ∷ []) refl;
     phis_hold = no_phis before_widths_old 0 (λ r. r);
     before_holds = body_alone before_widths_old 0 (λ r. r) ([]) (copy_in 0 10 s32 ∷ extended ∷ []) refl;
     after_holds = body_alone before_widths_old 0 (λ r. r) (copy_in 0 10 s32 ∷ extended ∷ []) (copy_out 10 1 ∷ return_10 ∷ []) refl;
     others = before_widths_others;
-    follows = unchanged before_widths_old before_widths_new 0 (copy_in 0 10 s32 ∷ extended ∷ []) none;
+    follows = unchanged before_widths_old before_widths_new 0 (copy_in 0 10 s32 ∷ extended ∷ []) nothing;
   };
   refuted = refutes 32 names before_widths_old before_widths_new (world 65537 2) (is_world_of 65537 2 (lit< tt) (lit< tt)) 4 (Returned (65537 ∷ []) counting 0) (Returned (1 ∷ []) counting 0) refl refl (λ e. eqb-false 1 65537 refl (returned_is 1 65537 e)) (λ e. false≢true (ap is_return e));
 }
@@ -118,10 +118,10 @@ abbrev phis_widths_new : FunctionData
 phis_widths_new = function_of (block_of (1 ∷ []) (copy_in 5 10 s32 ∷ []) ∷ block_of ([]) (phi_of 0 5 s16 ∷ other_word ∷ return_10 ∷ []) ∷ [])
 
 abbrev phis_widths_place : OnePlace
-phis_widths_place = record { block = 1; before = []; old = []; after = return_10 ∷ []; new_before = []; new = other_word ∷ []; new_after = return_10 ∷ []; hidden = none; rename = (λ r. r) }
+phis_widths_place = record { block = 1; before = []; old = []; after = return_10 ∷ []; new_before = []; new = other_word ∷ []; new_after = return_10 ∷ []; hidden = nothing; rename = (λ r. r) }
 
-phis_widths_others : (b : ℕ) → (b ≡ 1 → ⊥) → StaysAt 32 names phis_widths_old phis_widths_new none (λ r. r) b (slice_get phis_widths_old.blocks b) (slice_get phis_widths_new.blocks b)
-phis_widths_others zero other = record { successors = refl; kept = all_kept_reused (λ r. r) (copy_in 5 10 s32 ∷ []); seen = all_seen_by (setting_of 32 names phis_widths_old) (setting_of 32 names phis_widths_new) none (λ r. r) (copy_in 5 10 s32 ∷ []) refl; phis = no_phis phis_widths_old 0 (λ r. r); body = body_alone phis_widths_old 0 (λ r. r) [] (copy_in 5 10 s32 ∷ []) refl }
+phis_widths_others : (b : ℕ) → (b ≡ 1 → ⊥) → StaysAt 32 names phis_widths_old phis_widths_new nothing (λ r. r) b (slice_get phis_widths_old.blocks b) (slice_get phis_widths_new.blocks b)
+phis_widths_others zero other = record { successors = refl; kept = all_kept_reused (λ r. r) (copy_in 5 10 s32 ∷ []); seen = all_seen_by (setting_of 32 names phis_widths_old) (setting_of 32 names phis_widths_new) nothing (λ r. r) (copy_in 5 10 s32 ∷ []) refl; phis = no_phis phis_widths_old 0 (λ r. r); body = body_alone phis_widths_old 0 (λ r. r) [] (copy_in 5 10 s32 ∷ []) refl }
 phis_widths_others (suc zero) other = absurd (other refl)
 phis_widths_others (suc (suc b)) other = tt
 
@@ -156,7 +156,7 @@ no_value_stands None v (Some u) is stands = stands
 no_value_stands (Some k) v (Some u) is stands = eqb-false 16 32 refl stands.0
 
 phis_widths_follows : (w : World) → IsWorld 32 w
-    → IsFollowed (setting_of 32 names phis_widths_old) (setting_of 32 names phis_widths_new) w (WhereReached (setting_of 32 names phis_widths_old) w phis_widths_old.blocks 1 [] (Agree (setting_of 32 names phis_widths_old) (setting_of 32 names phis_widths_new) (only_virtual none))) (Agree (setting_of 32 names phis_widths_old) (setting_of 32 names phis_widths_new) (only_virtual none)) (AgreeAt (setting_of 32 names phis_widths_old) (setting_of 32 names phis_widths_new) (λ c. only_virtual none)) [] (other_word ∷ [])
+    → IsFollowed (setting_of 32 names phis_widths_old) (setting_of 32 names phis_widths_new) w (WhereReached (setting_of 32 names phis_widths_old) w phis_widths_old.blocks 1 [] (Agree (setting_of 32 names phis_widths_old) (setting_of 32 names phis_widths_new) (only_virtual nothing))) (Agree (setting_of 32 names phis_widths_old) (setting_of 32 names phis_widths_new) (only_virtual nothing)) (AgreeAt (setting_of 32 names phis_widths_old) (setting_of 32 names phis_widths_new) (λ c. only_virtual nothing)) [] (other_word ∷ [])
 phis_widths_follows w is_world = record {
   by = λ old new related p' run.
       let has : (v : ℕ) × (old.values 0 ≡ Some v) = phis_widths_has w old related.reached in
@@ -179,12 +179,12 @@ phis_widths_not_idle = record {
     phis_kept = (record { op = refl; flags = refl; mem = refl; operands = refl }, tt);
     before_kept = all_kept_reused (λ r. r) ([]);
     after_kept = all_kept_reused (λ r. r) (return_10 ∷ []);
-    phis_shown = shown_by none (λ r. r) (phi_of 0 5 s32 ∷ []) refl;
-    before_shown = shown_by none (λ r. r) ([]) refl;
-    after_shown = shown_by none (λ r. r) (return_10 ∷ []) refl;
+    phis_shown = shown_by nothing (λ r. r) (phi_of 0 5 s32 ∷ []) refl;
+    before_shown = shown_by nothing (λ r. r) ([]) refl;
+    after_shown = shown_by nothing (λ r. r) (return_10 ∷ []) refl;
     phis_widths = tt;
-    before_widths = all_seen_by (setting_of 32 names phis_widths_old) (setting_of 32 names phis_widths_new) none (λ r. r) ([]) refl;
-    after_widths = all_seen_by (setting_of 32 names phis_widths_old) (setting_of 32 names phis_widths_new) none (λ r. r) (return_10 ∷ []) refl;
+    before_widths = all_seen_by (setting_of 32 names phis_widths_old) (setting_of 32 names phis_widths_new) nothing (λ r. r) ([]) refl;
+    after_widths = all_seen_by (setting_of 32 names phis_widths_old) (setting_of 32 names phis_widths_new) nothing (λ r. r) (return_10 ∷ []) refl;
     phis_hold = phis_alone phis_widths_old 1 (λ r. r) (phi_of 0 5 s32 ∷ []) refl;
     before_holds = body_alone phis_widths_old 1 (λ r. r) ([]) ([]) refl;
     after_holds = body_alone phis_widths_old 1 (λ r. r) ([]) (return_10 ∷ []) refl;

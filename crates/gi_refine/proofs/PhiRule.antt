@@ -15,7 +15,7 @@ use Rattle.gi_refine.specs.Agreement.{ValueStands, Agree, AgreeAt, all_shown}
 use Rattle.gi_refine.specs.Evaluation.{step_from, then_on, steps_of}
 use Rattle.gi_refine.specs.Examples.{names, s32, copy_in, copy_out, return_of, block_of, s16}
 use Rattle.gi_refine.specs.Kept.{HasSameValue}
-use Rattle.gi_refine.specs.OnePlace.{only_virtual}
+use Rattle.gi_refine.specs.OnePlace.{only_virtual, nothing, only}
 use Rattle.gi_refine.specs.Trials.{extension, truncation, phi_of, choice, on_to_2, narrow_phi, with_extensions, with_wide_phi, with_truncation, wide_phi}
 use Rattle.gi_refine.specs.Reached.{Arrives, IsReached, WhereReached}
 use Rattle.gi_refine.specs.Refinement.{IsRefinement}
@@ -69,14 +69,8 @@ on_at s w state p step = subst (IsAt state) (sym (step.2 ∙ ap (progress_of sta
 
 -- ══ What is hidden ══
 
-abbrev none : ℕ → Bool
-none r = false
-
 abbrev extensions : ℕ → Bool
 extensions r = (r == 5) || (r == 6)
-
-abbrev only : ℕ → ℕ → Bool
-only q r = r == q
 
 -- 8 replaces 2
 abbrev two_by_eight : ℕ → ℕ
@@ -197,7 +191,7 @@ wide_operands = (phi_of 7 5 6 s32).1.operands
 
 -- where the narrow phi takes a value, the wide one does
 wide_has : (narrow wide : Option ℕ) → BothTaken narrow wide → (v : ℕ) → narrow ≡ Some v → (u : ℕ) × (wide ≡ Some u)
-wide_has narrow wide (inl none) v has = absurd (none-some v (sym none ∙ has))
+wide_has narrow wide (inl nothing) v has = absurd (none-some v (sym nothing ∙ has))
 wide_has narrow wide (inr both) v has = (both.0 % 2 ^ 16, both.2)
 
 phi_beside : (w : World) → IsWorld 32 w → PhisFollow 32 names with_extensions with_wide_phi w 2 (only_virtual (only 7)) (only_virtual (only 7)) (phi_of 2 0 1 s16 ∷ []) (phi_of 7 5 6 s32 ∷ phi_of 2 0 1 s16 ∷ [])
@@ -343,7 +337,7 @@ both_gave entered (Some a) (Some b) state h = (a, b, refl, refl, ap (λ o. unwra
 
 -- then the low bits of the wide one are the narrow one
 low_is : (narrow wide : Option ℕ) → BothTaken narrow wide → (a b : ℕ) → narrow ≡ Some a → wide ≡ Some b → b % 2 ^ 16 ≡ a
-low_is narrow wide (inl none) a b is is' = absurd (none-some a (sym none ∙ is))
+low_is narrow wide (inl nothing) a b is is' = absurd (none-some a (sym nothing ∙ is))
 low_is narrow wide (inr both) a b is is' =
     let first : a ≡ both.0 % 2 ^ 16 = value_is a (both.0 % 2 ^ 16) (sym is ∙ both.1) in
     let second : b ≡ both.0 % 2 ^ 16 = value_is b (both.0 % 2 ^ 16) (sym is' ∙ both.2) in

@@ -19,13 +19,6 @@ use Rattle.gi_refine.specs.Values.{Operation, Defines, Rule, Environment, AllHol
 abbrev pub quiet : World
 quiet = world_of 0 0 0 []
 
--- no register hidden, and one
-abbrev pub nothing : ℕ → Bool
-nothing r = false
-
-abbrev pub only : ℕ → ℕ → Bool
-only q r = r == q
-
 -- each register is of 32 bits
 abbrev pub all_32 : ℕ → ℕ
 all_32 r = 32
