@@ -10,28 +10,22 @@ use Rattle.gi_refine.specs.OnePlace.{OnePlace, StaysAt, nothing}
 use Rattle.gi_refine.proofs.Evaluating.{refutes}
 use Rattle.gi_refine.proofs.Staying.{all_kept_reused}
 use Rattle.gi_refine.proofs.StayingTested.{all_seen_by, body_alone, no_phis, shown_by}
-use Rattle.gi_refine.proofs.IdleCases.{world, is_world_of, returned_is, is_return, unchanged, return_10, other_word}
+use Rattle.gi_refine.proofs.IdleCases.{world, is_world_of, returned_is, is_return, unchanged, return_10, other_word, returns_alone, returns_other, goes_on, stays_there}
 
 -- ══ The block of the place has lost its successor ══
-
-abbrev successors_old : FunctionData
-successors_old = function_of (block_of (1 ∷ []) (copy_in 0 10 s32 ∷ []) ∷ block_of ([]) (copy_out 10 0 ∷ return_10 ∷ []) ∷ [])
-
-abbrev successors_new : FunctionData
-successors_new = function_of (block_of ([]) (copy_in 0 10 s32 ∷ []) ∷ block_of ([]) (copy_out 10 0 ∷ return_10 ∷ []) ∷ [])
 
 abbrev successors_place : OnePlace
 successors_place = record { block = 0; before = copy_in 0 10 s32 ∷ []; old = []; after = []; new_before = copy_in 0 10 s32 ∷ []; new = []; new_after = []; hidden = nothing; rename = (λ r. r) }
 
-successors_others : (b : ℕ) → (b ≡ 0 → ⊥) → StaysAt 32 names successors_old successors_new nothing (λ r. r) b (slice_get successors_old.blocks b) (slice_get successors_new.blocks b)
+successors_others : (b : ℕ) → (b ≡ 0 → ⊥) → StaysAt 32 names goes_on stays_there nothing (λ r. r) b (slice_get goes_on.blocks b) (slice_get stays_there.blocks b)
 successors_others zero other = absurd (other refl)
-successors_others (suc zero) other = record { successors = refl; kept = all_kept_reused (λ r. r) (copy_out 10 0 ∷ return_10 ∷ []); seen = all_seen_by (setting_of 32 names successors_old) (setting_of 32 names successors_new) nothing (λ r. r) (copy_out 10 0 ∷ return_10 ∷ []) refl; phis = no_phis successors_old 1 (λ r. r); body = body_alone successors_old 1 (λ r. r) [] (copy_out 10 0 ∷ return_10 ∷ []) refl }
+successors_others (suc zero) other = record { successors = refl; kept = all_kept_reused (λ r. r) (copy_out 10 0 ∷ return_10 ∷ []); seen = all_seen_by (setting_of 32 names goes_on) (setting_of 32 names stays_there) nothing (λ r. r) (copy_out 10 0 ∷ return_10 ∷ []) refl; phis = no_phis goes_on 1 (λ r. r); body = body_alone goes_on 1 (λ r. r) [] (copy_out 10 0 ∷ return_10 ∷ []) refl }
 successors_others (suc (suc b)) other = tt
 
 pub successors_not_idle : IsNotIdle Successors
 successors_not_idle = record {
-  old = successors_old;
-  new = successors_new;
+  old = goes_on;
+  new = stays_there;
   place = successors_place;
   owes = record {
     block = block_of (1 ∷ []) (copy_in 0 10 s32 ∷ []);
@@ -47,22 +41,19 @@ successors_not_idle = record {
     phis_shown = shown_by nothing (λ r. r) ([]) refl;
     before_shown = shown_by nothing (λ r. r) (copy_in 0 10 s32 ∷ []) refl;
     after_shown = shown_by nothing (λ r. r) ([]) refl;
-    phis_widths = all_seen_by (setting_of 32 names successors_old) (setting_of 32 names successors_new) nothing (λ r. r) ([]) refl;
-    before_widths = all_seen_by (setting_of 32 names successors_old) (setting_of 32 names successors_new) nothing (λ r. r) (copy_in 0 10 s32 ∷ []) refl;
-    after_widths = all_seen_by (setting_of 32 names successors_old) (setting_of 32 names successors_new) nothing (λ r. r) ([]) refl;
-    phis_hold = no_phis successors_old 0 (λ r. r);
-    before_holds = body_alone successors_old 0 (λ r. r) ([]) (copy_in 0 10 s32 ∷ []) refl;
-    after_holds = body_alone successors_old 0 (λ r. r) (copy_in 0 10 s32 ∷ []) ([]) refl;
+    phis_widths = all_seen_by (setting_of 32 names goes_on) (setting_of 32 names stays_there) nothing (λ r. r) ([]) refl;
+    before_widths = all_seen_by (setting_of 32 names goes_on) (setting_of 32 names stays_there) nothing (λ r. r) (copy_in 0 10 s32 ∷ []) refl;
+    after_widths = all_seen_by (setting_of 32 names goes_on) (setting_of 32 names stays_there) nothing (λ r. r) ([]) refl;
+    phis_hold = no_phis goes_on 0 (λ r. r);
+    before_holds = body_alone goes_on 0 (λ r. r) ([]) (copy_in 0 10 s32 ∷ []) refl;
+    after_holds = body_alone goes_on 0 (λ r. r) (copy_in 0 10 s32 ∷ []) ([]) refl;
     others = successors_others;
-    follows = unchanged successors_old successors_new 0 (copy_in 0 10 s32 ∷ []) nothing;
+    follows = unchanged goes_on stays_there 0 (copy_in 0 10 s32 ∷ []) nothing;
   };
-  refuted = refutes 32 names successors_old successors_new (world 1 2) (is_world_of 1 2 (lit< tt) (lit< tt)) 4 (Returned (1 ∷ []) counting 0) Fails refl refl (λ e. false≢true (ap is_return e)) (λ e. false≢true (ap is_return e));
+  refuted = refutes 32 names goes_on stays_there (world 1 2) (is_world_of 1 2 (lit< tt) (lit< tt)) 4 (Returned (1 ∷ []) counting 0) Fails refl refl (λ e. false≢true (ap is_return e)) (λ e. false≢true (ap is_return e));
 }
 
 -- ══ Another block has changed ══
-
-abbrev others_old : FunctionData
-others_old = function_of (block_of (1 ∷ []) (copy_in 0 10 s32 ∷ []) ∷ block_of ([]) (copy_out 10 0 ∷ return_10 ∷ []) ∷ [])
 
 abbrev others_new : FunctionData
 others_new = function_of (block_of (1 ∷ []) (copy_in 0 10 s32 ∷ []) ∷ block_of ([]) (other_word ∷ return_10 ∷ []) ∷ [])
@@ -72,7 +63,7 @@ others_place = record { block = 0; before = copy_in 0 10 s32 ∷ []; old = []; a
 
 pub others_not_idle : IsNotIdle Others
 others_not_idle = record {
-  old = others_old;
+  old = goes_on;
   new = others_new;
   place = others_place;
   owes = record {
@@ -89,37 +80,31 @@ others_not_idle = record {
     phis_shown = shown_by nothing (λ r. r) ([]) refl;
     before_shown = shown_by nothing (λ r. r) (copy_in 0 10 s32 ∷ []) refl;
     after_shown = shown_by nothing (λ r. r) ([]) refl;
-    phis_widths = all_seen_by (setting_of 32 names others_old) (setting_of 32 names others_new) nothing (λ r. r) ([]) refl;
-    before_widths = all_seen_by (setting_of 32 names others_old) (setting_of 32 names others_new) nothing (λ r. r) (copy_in 0 10 s32 ∷ []) refl;
-    after_widths = all_seen_by (setting_of 32 names others_old) (setting_of 32 names others_new) nothing (λ r. r) ([]) refl;
-    phis_hold = no_phis others_old 0 (λ r. r);
-    before_holds = body_alone others_old 0 (λ r. r) ([]) (copy_in 0 10 s32 ∷ []) refl;
-    after_holds = body_alone others_old 0 (λ r. r) (copy_in 0 10 s32 ∷ []) ([]) refl;
+    phis_widths = all_seen_by (setting_of 32 names goes_on) (setting_of 32 names others_new) nothing (λ r. r) ([]) refl;
+    before_widths = all_seen_by (setting_of 32 names goes_on) (setting_of 32 names others_new) nothing (λ r. r) (copy_in 0 10 s32 ∷ []) refl;
+    after_widths = all_seen_by (setting_of 32 names goes_on) (setting_of 32 names others_new) nothing (λ r. r) ([]) refl;
+    phis_hold = no_phis goes_on 0 (λ r. r);
+    before_holds = body_alone goes_on 0 (λ r. r) ([]) (copy_in 0 10 s32 ∷ []) refl;
+    after_holds = body_alone goes_on 0 (λ r. r) (copy_in 0 10 s32 ∷ []) ([]) refl;
     others = tt;
-    follows = unchanged others_old others_new 0 (copy_in 0 10 s32 ∷ []) nothing;
+    follows = unchanged goes_on others_new 0 (copy_in 0 10 s32 ∷ []) nothing;
   };
-  refuted = refutes 32 names others_old others_new (world 1 2) (is_world_of 1 2 (lit< tt) (lit< tt)) 4 (Returned (1 ∷ []) counting 0) (Returned (2 ∷ []) counting 0) refl refl (λ e. eqb-false 2 1 refl (returned_is 2 1 e)) (λ e. false≢true (ap is_return e));
+  refuted = refutes 32 names goes_on others_new (world 1 2) (is_world_of 1 2 (lit< tt) (lit< tt)) 4 (Returned (1 ∷ []) counting 0) (Returned (2 ∷ []) counting 0) refl refl (λ e. eqb-false 2 1 refl (returned_is 2 1 e)) (λ e. false≢true (ap is_return e));
 }
 
 -- ══ The place does something else ══
 
-abbrev follows_old : FunctionData
-follows_old = function_of (block_of ([]) (return_10 ∷ []) ∷ [])
-
-abbrev follows_new : FunctionData
-follows_new = function_of (block_of ([]) (other_word ∷ return_10 ∷ []) ∷ [])
-
 abbrev follows_place : OnePlace
 follows_place = record { block = 0; before = []; old = []; after = return_10 ∷ []; new_before = []; new = other_word ∷ []; new_after = return_10 ∷ []; hidden = nothing; rename = (λ r. r) }
 
-follows_others : (b : ℕ) → (b ≡ 0 → ⊥) → StaysAt 32 names follows_old follows_new nothing (λ r. r) b (slice_get follows_old.blocks b) (slice_get follows_new.blocks b)
+follows_others : (b : ℕ) → (b ≡ 0 → ⊥) → StaysAt 32 names returns_alone returns_other nothing (λ r. r) b (slice_get returns_alone.blocks b) (slice_get returns_other.blocks b)
 follows_others zero other = absurd (other refl)
 follows_others (suc b) other = tt
 
 pub follows_not_idle : IsNotIdle Follows
 follows_not_idle = record {
-  old = follows_old;
-  new = follows_new;
+  old = returns_alone;
+  new = returns_other;
   place = follows_place;
   owes = record {
     block = block_of ([]) (return_10 ∷ []);
@@ -135,14 +120,14 @@ follows_not_idle = record {
     phis_shown = shown_by nothing (λ r. r) ([]) refl;
     before_shown = shown_by nothing (λ r. r) ([]) refl;
     after_shown = shown_by nothing (λ r. r) (return_10 ∷ []) refl;
-    phis_widths = all_seen_by (setting_of 32 names follows_old) (setting_of 32 names follows_new) nothing (λ r. r) ([]) refl;
-    before_widths = all_seen_by (setting_of 32 names follows_old) (setting_of 32 names follows_new) nothing (λ r. r) ([]) refl;
-    after_widths = all_seen_by (setting_of 32 names follows_old) (setting_of 32 names follows_new) nothing (λ r. r) (return_10 ∷ []) refl;
-    phis_hold = no_phis follows_old 0 (λ r. r);
-    before_holds = body_alone follows_old 0 (λ r. r) ([]) ([]) refl;
-    after_holds = body_alone follows_old 0 (λ r. r) ([]) (return_10 ∷ []) refl;
+    phis_widths = all_seen_by (setting_of 32 names returns_alone) (setting_of 32 names returns_other) nothing (λ r. r) ([]) refl;
+    before_widths = all_seen_by (setting_of 32 names returns_alone) (setting_of 32 names returns_other) nothing (λ r. r) ([]) refl;
+    after_widths = all_seen_by (setting_of 32 names returns_alone) (setting_of 32 names returns_other) nothing (λ r. r) (return_10 ∷ []) refl;
+    phis_hold = no_phis returns_alone 0 (λ r. r);
+    before_holds = body_alone returns_alone 0 (λ r. r) ([]) ([]) refl;
+    after_holds = body_alone returns_alone 0 (λ r. r) ([]) (return_10 ∷ []) refl;
     others = follows_others;
     follows = tt;
   };
-  refuted = refutes 32 names follows_old follows_new (world 1 2) (is_world_of 1 2 (lit< tt) (lit< tt)) 4 (Returned (1 ∷ []) counting 0) (Returned (2 ∷ []) counting 0) refl refl (λ e. eqb-false 2 1 refl (returned_is 2 1 e)) (λ e. false≢true (ap is_return e));
+  refuted = refutes 32 names returns_alone returns_other (world 1 2) (is_world_of 1 2 (lit< tt) (lit< tt)) 4 (Returned (1 ∷ []) counting 0) (Returned (2 ∷ []) counting 0) refl refl (λ e. eqb-false 2 1 refl (returned_is 2 1 e)) (λ e. false≢true (ap is_return e));
 }

@@ -11,7 +11,7 @@ use Rattle.gi_meaning.specs.State.{World, IsWorld, State, Outcome, Returned, Goi
 use Rattle.gi_meaning.specs.Runs.{Setting, setting_of, On}
 use Rattle.gi_refine.specs.Agreement.{Agree, AgreeAt}
 use Rattle.gi_refine.specs.Evaluation.{steps_of}
-use Rattle.gi_refine.specs.Examples.{made, s32, use_of, return_of, names, counting, words_of_three, world_of}
+use Rattle.gi_refine.specs.Examples.{made, s32, use_of, return_of, names, counting, words_of_three, world_of, block_of, function_of, s16, copy_in, copy_out}
 use Rattle.gi_refine.specs.OnePlace.{only_virtual}
 use Rattle.gi_refine.specs.Reached.{WhereReached}
 use Rattle.gi_refine.specs.Simulation.{IsFollowed}
@@ -107,3 +107,47 @@ phi_of d r kind = made op.Phi (operand.Def (reg_of d) kind ∷ use_of r ∷ oper
 -- `%2 = PHI %1, bb.0, %1, bb.1`
 abbrev pub phi_of_both : ℕ × InstrData
 phi_of_both = made op.Phi (operand.Def (reg_of 2) s32 ∷ use_of 1 ∷ operand.Block 0 ∷ use_of 1 ∷ operand.Block 1 ∷ []) None
+
+-- ══ Functions of several cases ══
+
+abbrev pub gives_first : FunctionData
+gives_first = function_of (block_of ([]) (copy_in 0 10 s32 ∷ copy_out 10 0 ∷ return_10 ∷ []) ∷ [])
+
+abbrev pub gives_second : FunctionData
+gives_second = function_of (block_of ([]) (copy_in 0 11 s32 ∷ copy_out 10 0 ∷ return_10 ∷ []) ∷ [])
+
+abbrev pub gives_through_1 : FunctionData
+gives_through_1 = function_of (block_of ([]) (copy_in 1 10 s32 ∷ copy_out 10 1 ∷ return_10 ∷ []) ∷ [])
+
+abbrev pub overwrites_1 : FunctionData
+overwrites_1 = function_of (block_of ([]) (copy_in 1 10 s32 ∷ copy_in 1 11 s32 ∷ copy_out 10 1 ∷ return_10 ∷ []) ∷ [])
+
+abbrev pub gives_0_of_two : FunctionData
+gives_0_of_two = function_of (block_of ([]) (copy_in 0 10 s32 ∷ copy_in 1 11 s32 ∷ copy_out 10 0 ∷ return_10 ∷ []) ∷ [])
+
+abbrev pub gives_1_of_two : FunctionData
+gives_1_of_two = function_of (block_of ([]) (copy_in 0 10 s32 ∷ copy_in 1 11 s32 ∷ copy_out 10 1 ∷ return_10 ∷ []) ∷ [])
+
+abbrev pub returns_alone : FunctionData
+returns_alone = function_of (block_of ([]) (return_10 ∷ []) ∷ [])
+
+abbrev pub returns_other : FunctionData
+returns_other = function_of (block_of ([]) (other_word ∷ return_10 ∷ []) ∷ [])
+
+abbrev pub phi_takes_0 : FunctionData
+phi_takes_0 = function_of (block_of (1 ∷ []) (copy_in 0 10 s32 ∷ copy_in 1 11 s32 ∷ []) ∷ block_of ([]) (phi_of 2 0 s32 ∷ copy_out 10 2 ∷ return_10 ∷ []) ∷ [])
+
+abbrev pub phi_takes_1 : FunctionData
+phi_takes_1 = function_of (block_of (1 ∷ []) (copy_in 0 10 s32 ∷ copy_in 1 11 s32 ∷ []) ∷ block_of ([]) (phi_of 2 1 s32 ∷ copy_out 10 2 ∷ return_10 ∷ []) ∷ [])
+
+abbrev pub goes_on : FunctionData
+goes_on = function_of (block_of (1 ∷ []) (copy_in 0 10 s32 ∷ []) ∷ block_of ([]) (copy_out 10 0 ∷ return_10 ∷ []) ∷ [])
+
+abbrev pub stays_there : FunctionData
+stays_there = function_of (block_of ([]) (copy_in 0 10 s32 ∷ []) ∷ block_of ([]) (copy_out 10 0 ∷ return_10 ∷ []) ∷ [])
+
+abbrev pub extends_word : FunctionData
+extends_word = function_of (block_of ([]) (copy_in 0 10 s32 ∷ extended ∷ copy_out 10 1 ∷ return_10 ∷ []) ∷ [])
+
+abbrev pub extends_half : FunctionData
+extends_half = function_of (block_of ([]) (copy_in 0 10 s16 ∷ extended ∷ copy_out 10 1 ∷ return_10 ∷ []) ∷ [])

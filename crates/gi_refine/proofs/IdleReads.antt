@@ -12,27 +12,21 @@ use Rattle.gi_refine.specs.Reached.{WhereReached}
 use Rattle.gi_refine.proofs.Evaluating.{refutes}
 use Rattle.gi_refine.proofs.Staying.{all_kept_reused}
 use Rattle.gi_refine.proofs.StayingTested.{all_seen_by, body_alone, no_phis, phis_alone, shown_by}
-use Rattle.gi_refine.proofs.IdleCases.{world, is_world_of, returned_is, is_return, is_going, hidden_written, return_10, leave_if_equal, again, phi_of_both}
+use Rattle.gi_refine.proofs.IdleCases.{world, is_world_of, returned_is, is_return, is_going, hidden_written, return_10, leave_if_equal, again, phi_of_both, gives_through_1, overwrites_1}
 
 -- ══ A hidden register is read behind the place ══
-
-abbrev after_shown_old : FunctionData
-after_shown_old = function_of (block_of ([]) (copy_in 1 10 s32 ∷ copy_out 10 1 ∷ return_10 ∷ []) ∷ [])
-
-abbrev after_shown_new : FunctionData
-after_shown_new = function_of (block_of ([]) (copy_in 1 10 s32 ∷ copy_in 1 11 s32 ∷ copy_out 10 1 ∷ return_10 ∷ []) ∷ [])
 
 abbrev after_shown_place : OnePlace
 after_shown_place = record { block = 0; before = copy_in 1 10 s32 ∷ []; old = []; after = copy_out 10 1 ∷ return_10 ∷ []; new_before = copy_in 1 10 s32 ∷ []; new = copy_in 1 11 s32 ∷ []; new_after = copy_out 10 1 ∷ return_10 ∷ []; hidden = (only 1); rename = (λ r. r) }
 
-after_shown_others : (b : ℕ) → (b ≡ 0 → ⊥) → StaysAt 32 names after_shown_old after_shown_new (only 1) (λ r. r) b (slice_get after_shown_old.blocks b) (slice_get after_shown_new.blocks b)
+after_shown_others : (b : ℕ) → (b ≡ 0 → ⊥) → StaysAt 32 names gives_through_1 overwrites_1 (only 1) (λ r. r) b (slice_get gives_through_1.blocks b) (slice_get overwrites_1.blocks b)
 after_shown_others zero other = absurd (other refl)
 after_shown_others (suc b) other = tt
 
 pub after_shown_not_idle : IsNotIdle AfterShown
 after_shown_not_idle = record {
-  old = after_shown_old;
-  new = after_shown_new;
+  old = gives_through_1;
+  new = overwrites_1;
   place = after_shown_place;
   owes = record {
     block = block_of ([]) (copy_in 1 10 s32 ∷ copy_out 10 1 ∷ return_10 ∷ []);
@@ -48,16 +42,16 @@ after_shown_not_idle = record {
     phis_shown = shown_by (only 1) (λ r. r) ([]) refl;
     before_shown = shown_by (only 1) (λ r. r) (copy_in 1 10 s32 ∷ []) refl;
     after_shown = tt;
-    phis_widths = all_seen_by (setting_of 32 names after_shown_old) (setting_of 32 names after_shown_new) nothing (λ r. r) ([]) refl;
-    before_widths = all_seen_by (setting_of 32 names after_shown_old) (setting_of 32 names after_shown_new) nothing (λ r. r) (copy_in 1 10 s32 ∷ []) refl;
-    after_widths = all_seen_by (setting_of 32 names after_shown_old) (setting_of 32 names after_shown_new) nothing (λ r. r) (copy_out 10 1 ∷ return_10 ∷ []) refl;
-    phis_hold = no_phis after_shown_old 0 (λ r. r);
-    before_holds = body_alone after_shown_old 0 (λ r. r) ([]) (copy_in 1 10 s32 ∷ []) refl;
-    after_holds = body_alone after_shown_old 0 (λ r. r) (copy_in 1 10 s32 ∷ []) (copy_out 10 1 ∷ return_10 ∷ []) refl;
+    phis_widths = all_seen_by (setting_of 32 names gives_through_1) (setting_of 32 names overwrites_1) nothing (λ r. r) ([]) refl;
+    before_widths = all_seen_by (setting_of 32 names gives_through_1) (setting_of 32 names overwrites_1) nothing (λ r. r) (copy_in 1 10 s32 ∷ []) refl;
+    after_widths = all_seen_by (setting_of 32 names gives_through_1) (setting_of 32 names overwrites_1) nothing (λ r. r) (copy_out 10 1 ∷ return_10 ∷ []) refl;
+    phis_hold = no_phis gives_through_1 0 (λ r. r);
+    before_holds = body_alone gives_through_1 0 (λ r. r) ([]) (copy_in 1 10 s32 ∷ []) refl;
+    after_holds = body_alone gives_through_1 0 (λ r. r) (copy_in 1 10 s32 ∷ []) (copy_out 10 1 ∷ return_10 ∷ []) refl;
     others = after_shown_others;
-    follows = λ w is_world. hidden_written (setting_of 32 names after_shown_old) after_shown_new w (WhereReached (setting_of 32 names after_shown_old) w after_shown_old.blocks 0 (copy_in 1 10 s32 ∷ []) (Agree (setting_of 32 names after_shown_old) (setting_of 32 names after_shown_new) (only_virtual (only 1)))) (only 1) (AgreeAt (setting_of 32 names after_shown_old) (setting_of 32 names after_shown_new) (λ c. only_virtual (only 1))) (copy_in 1 11 s32) 1 (λ state. word_in state 11) refl (λ state. refl) (λ old new related. related.relates);
+    follows = λ w is_world. hidden_written (setting_of 32 names gives_through_1) overwrites_1 w (WhereReached (setting_of 32 names gives_through_1) w gives_through_1.blocks 0 (copy_in 1 10 s32 ∷ []) (Agree (setting_of 32 names gives_through_1) (setting_of 32 names overwrites_1) (only_virtual (only 1)))) (only 1) (AgreeAt (setting_of 32 names gives_through_1) (setting_of 32 names overwrites_1) (λ c. only_virtual (only 1))) (copy_in 1 11 s32) 1 (λ state. word_in state 11) refl (λ state. refl) (λ old new related. related.relates);
   };
-  refuted = refutes 32 names after_shown_old after_shown_new (world 1 2) (is_world_of 1 2 (lit< tt) (lit< tt)) 4 (Returned (1 ∷ []) counting 0) (Returned (2 ∷ []) counting 0) refl refl (λ e. eqb-false 2 1 refl (returned_is 2 1 e)) (λ e. false≢true (ap is_return e));
+  refuted = refutes 32 names gives_through_1 overwrites_1 (world 1 2) (is_world_of 1 2 (lit< tt) (lit< tt)) 4 (Returned (1 ∷ []) counting 0) (Returned (2 ∷ []) counting 0) refl refl (λ e. eqb-false 2 1 refl (returned_is 2 1 e)) (λ e. false≢true (ap is_return e));
 }
 
 -- ══ A hidden register is read before the place, which is in a loop ══

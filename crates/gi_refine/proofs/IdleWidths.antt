@@ -15,27 +15,21 @@ use Rattle.gi_refine.specs.Simulation.{IsFollowed}
 use Rattle.gi_refine.proofs.Evaluating.{refutes}
 use Rattle.gi_refine.proofs.Staying.{all_kept_reused}
 use Rattle.gi_refine.proofs.StayingTested.{all_seen_by, body_alone, no_phis, phis_alone, shown_by}
-use Rattle.gi_refine.proofs.IdleCases.{world, is_world_of, returned_is, is_return, unchanged, return_10, other_word, extended, phi_of}
+use Rattle.gi_refine.proofs.IdleCases.{world, is_world_of, returned_is, is_return, unchanged, return_10, other_word, extended, phi_of, extends_word, extends_half}
 
 -- ══ A register that is read behind the place has fewer bits in the new function ══
-
-abbrev after_widths_old : FunctionData
-after_widths_old = function_of (block_of ([]) (copy_in 0 10 s32 ∷ extended ∷ copy_out 10 1 ∷ return_10 ∷ []) ∷ [])
-
-abbrev after_widths_new : FunctionData
-after_widths_new = function_of (block_of ([]) (copy_in 0 10 s16 ∷ extended ∷ copy_out 10 1 ∷ return_10 ∷ []) ∷ [])
 
 abbrev after_widths_place : OnePlace
 after_widths_place = record { block = 0; before = []; old = []; after = copy_in 0 10 s32 ∷ extended ∷ copy_out 10 1 ∷ return_10 ∷ []; new_before = []; new = []; new_after = copy_in 0 10 s16 ∷ extended ∷ copy_out 10 1 ∷ return_10 ∷ []; hidden = nothing; rename = (λ r. r) }
 
-after_widths_others : (b : ℕ) → (b ≡ 0 → ⊥) → StaysAt 32 names after_widths_old after_widths_new nothing (λ r. r) b (slice_get after_widths_old.blocks b) (slice_get after_widths_new.blocks b)
+after_widths_others : (b : ℕ) → (b ≡ 0 → ⊥) → StaysAt 32 names extends_word extends_half nothing (λ r. r) b (slice_get extends_word.blocks b) (slice_get extends_half.blocks b)
 after_widths_others zero other = absurd (other refl)
 after_widths_others (suc b) other = tt
 
 pub after_widths_not_idle : IsNotIdle AfterWidths
 after_widths_not_idle = record {
-  old = after_widths_old;
-  new = after_widths_new;
+  old = extends_word;
+  new = extends_half;
   place = after_widths_place;
   owes = record {
     block = block_of ([]) (copy_in 0 10 s32 ∷ extended ∷ copy_out 10 1 ∷ return_10 ∷ []);
@@ -51,37 +45,31 @@ after_widths_not_idle = record {
     phis_shown = shown_by nothing (λ r. r) ([]) refl;
     before_shown = shown_by nothing (λ r. r) ([]) refl;
     after_shown = shown_by nothing (λ r. r) (copy_in 0 10 s32 ∷ extended ∷ copy_out 10 1 ∷ return_10 ∷ []) refl;
-    phis_widths = all_seen_by (setting_of 32 names after_widths_old) (setting_of 32 names after_widths_new) nothing (λ r. r) ([]) refl;
-    before_widths = all_seen_by (setting_of 32 names after_widths_old) (setting_of 32 names after_widths_new) nothing (λ r. r) ([]) refl;
+    phis_widths = all_seen_by (setting_of 32 names extends_word) (setting_of 32 names extends_half) nothing (λ r. r) ([]) refl;
+    before_widths = all_seen_by (setting_of 32 names extends_word) (setting_of 32 names extends_half) nothing (λ r. r) ([]) refl;
     after_widths = tt;
-    phis_hold = no_phis after_widths_old 0 (λ r. r);
-    before_holds = body_alone after_widths_old 0 (λ r. r) ([]) ([]) refl;
-    after_holds = body_alone after_widths_old 0 (λ r. r) ([]) (copy_in 0 10 s32 ∷ extended ∷ copy_out 10 1 ∷ return_10 ∷ []) refl;
+    phis_hold = no_phis extends_word 0 (λ r. r);
+    before_holds = body_alone extends_word 0 (λ r. r) ([]) ([]) refl;
+    after_holds = body_alone extends_word 0 (λ r. r) ([]) (copy_in 0 10 s32 ∷ extended ∷ copy_out 10 1 ∷ return_10 ∷ []) refl;
     others = after_widths_others;
-    follows = unchanged after_widths_old after_widths_new 0 ([]) nothing;
+    follows = unchanged extends_word extends_half 0 ([]) nothing;
   };
-  refuted = refutes 32 names after_widths_old after_widths_new (world 65537 2) (is_world_of 65537 2 (lit< tt) (lit< tt)) 4 (Returned (65537 ∷ []) counting 0) (Returned (1 ∷ []) counting 0) refl refl (λ e. eqb-false 1 65537 refl (returned_is 1 65537 e)) (λ e. false≢true (ap is_return e));
+  refuted = refutes 32 names extends_word extends_half (world 65537 2) (is_world_of 65537 2 (lit< tt) (lit< tt)) 4 (Returned (65537 ∷ []) counting 0) (Returned (1 ∷ []) counting 0) refl refl (λ e. eqb-false 1 65537 refl (returned_is 1 65537 e)) (λ e. false≢true (ap is_return e));
 }
 
 -- ══ A register that is read before the place has fewer bits in the new function ══
 
-abbrev before_widths_old : FunctionData
-before_widths_old = function_of (block_of ([]) (copy_in 0 10 s32 ∷ extended ∷ copy_out 10 1 ∷ return_10 ∷ []) ∷ [])
-
-abbrev before_widths_new : FunctionData
-before_widths_new = function_of (block_of ([]) (copy_in 0 10 s16 ∷ extended ∷ copy_out 10 1 ∷ return_10 ∷ []) ∷ [])
-
 abbrev before_widths_place : OnePlace
 before_widths_place = record { block = 0; before = copy_in 0 10 s32 ∷ extended ∷ []; old = []; after = copy_out 10 1 ∷ return_10 ∷ []; new_before = copy_in 0 10 s16 ∷ extended ∷ []; new = []; new_after = copy_out 10 1 ∷ return_10 ∷ []; hidden = nothing; rename = (λ r. r) }
 
-before_widths_others : (b : ℕ) → (b ≡ 0 → ⊥) → StaysAt 32 names before_widths_old before_widths_new nothing (λ r. r) b (slice_get before_widths_old.blocks b) (slice_get before_widths_new.blocks b)
+before_widths_others : (b : ℕ) → (b ≡ 0 → ⊥) → StaysAt 32 names extends_word extends_half nothing (λ r. r) b (slice_get extends_word.blocks b) (slice_get extends_half.blocks b)
 before_widths_others zero other = absurd (other refl)
 before_widths_others (suc b) other = tt
 
 pub before_widths_not_idle : IsNotIdle BeforeWidths
 before_widths_not_idle = record {
-  old = before_widths_old;
-  new = before_widths_new;
+  old = extends_word;
+  new = extends_half;
   place = before_widths_place;
   owes = record {
     block = block_of ([]) (copy_in 0 10 s32 ∷ extended ∷ copy_out 10 1 ∷ return_10 ∷ []);
@@ -97,16 +85,16 @@ before_widths_not_idle = record {
     phis_shown = shown_by nothing (λ r. r) ([]) refl;
     before_shown = shown_by nothing (λ r. r) (copy_in 0 10 s32 ∷ extended ∷ []) refl;
     after_shown = shown_by nothing (λ r. r) (copy_out 10 1 ∷ return_10 ∷ []) refl;
-    phis_widths = all_seen_by (setting_of 32 names before_widths_old) (setting_of 32 names before_widths_new) nothing (λ r. r) ([]) refl;
+    phis_widths = all_seen_by (setting_of 32 names extends_word) (setting_of 32 names extends_half) nothing (λ r. r) ([]) refl;
     before_widths = tt;
-    after_widths = all_seen_by (setting_of 32 names before_widths_old) (setting_of 32 names before_widths_new) nothing (λ r. r) (copy_out 10 1 ∷ return_10 ∷ []) refl;
-    phis_hold = no_phis before_widths_old 0 (λ r. r);
-    before_holds = body_alone before_widths_old 0 (λ r. r) ([]) (copy_in 0 10 s32 ∷ extended ∷ []) refl;
-    after_holds = body_alone before_widths_old 0 (λ r. r) (copy_in 0 10 s32 ∷ extended ∷ []) (copy_out 10 1 ∷ return_10 ∷ []) refl;
+    after_widths = all_seen_by (setting_of 32 names extends_word) (setting_of 32 names extends_half) nothing (λ r. r) (copy_out 10 1 ∷ return_10 ∷ []) refl;
+    phis_hold = no_phis extends_word 0 (λ r. r);
+    before_holds = body_alone extends_word 0 (λ r. r) ([]) (copy_in 0 10 s32 ∷ extended ∷ []) refl;
+    after_holds = body_alone extends_word 0 (λ r. r) (copy_in 0 10 s32 ∷ extended ∷ []) (copy_out 10 1 ∷ return_10 ∷ []) refl;
     others = before_widths_others;
-    follows = unchanged before_widths_old before_widths_new 0 (copy_in 0 10 s32 ∷ extended ∷ []) nothing;
+    follows = unchanged extends_word extends_half 0 (copy_in 0 10 s32 ∷ extended ∷ []) nothing;
   };
-  refuted = refutes 32 names before_widths_old before_widths_new (world 65537 2) (is_world_of 65537 2 (lit< tt) (lit< tt)) 4 (Returned (65537 ∷ []) counting 0) (Returned (1 ∷ []) counting 0) refl refl (λ e. eqb-false 1 65537 refl (returned_is 1 65537 e)) (λ e. false≢true (ap is_return e));
+  refuted = refutes 32 names extends_word extends_half (world 65537 2) (is_world_of 65537 2 (lit< tt) (lit< tt)) 4 (Returned (65537 ∷ []) counting 0) (Returned (1 ∷ []) counting 0) refl refl (λ e. eqb-false 1 65537 refl (returned_is 1 65537 e)) (λ e. false≢true (ap is_return e));
 }
 
 -- ══ A phi writes a register of fewer bits in the new function ══
