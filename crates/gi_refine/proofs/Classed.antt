@@ -21,9 +21,11 @@ use Rattle.gi_refine.proofs.Agreeing.{put_agree, StepFollowed, progress_stands, 
 use Rattle.gi_refine.proofs.Keeping.{places_plain, entry_plain, kept_step, kept_step_stands, agree_but, all_shown_less}
 use Rattle.gi_refine.proofs.Reaching.{followed_within, nothing_followed}
 use Rattle.gi_refine.proofs.Simulating.{followed_on, refined_by_following}
-use Rattle.gi_refine.proofs.Sized.{AtMost, IsProgressSized, arguments_small, step_sized, put_sized, AreOptionSmall}
+use Rattle.gi_refine.proofs.Sized.{IsProgressSized, arguments_small, step_sized, put_sized, AreOptionSmall}
+use Rattle.gi_refine.proofs.SizedAnswers.{AtMost}
 use Rattle.gi_refine.proofs.Staying.{same_uses, uses_hold_alone}
-use Rattle.gi_refine.proofs.Wording.{OptionWorded, arguments_worded, PlacesWorded, ActsWorded, HasValues, acts_worded, place_stands}
+use Rattle.gi_refine.proofs.Wording.{HasValues, acts_worded}
+use Rattle.gi_refine.proofs.WordingValues.{OptionWorded, arguments_worded, PlacesWorded, ActsWorded, place_stands}
 
 -- ══ One instruction ══
 

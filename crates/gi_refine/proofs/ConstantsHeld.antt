@@ -23,7 +23,7 @@ use Rattle.gi_refine.specs.Invariant.{GoesOnWith, AllKeep, BlockKeeps}
 use Rattle.gi_refine.specs.Reached.{IsReached}
 use Rattle.gi_refine.proofs.Basics.{value_stays, value_holds}
 use Rattle.gi_refine.proofs.Invariants.{invariant_holds}
-use Rattle.gi_refine.proofs.ValuesPlaced.{BothRead, both_read}
+use Rattle.gi_refine.proofs.ValuesStepped.{BothRead, both_read}
 
 -- ══ Writes to other places ══
 

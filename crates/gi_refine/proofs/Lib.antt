@@ -11,6 +11,7 @@ pub mod Evaluating
 pub mod ExampleRuns
 pub mod Failing
 pub mod Fitted
+pub mod FittedSteps
 pub mod FreeRuns
 pub mod IdleBlocks
 pub mod IdleCases
@@ -38,6 +39,8 @@ pub mod RulesUsed
 pub mod SameBlocks
 pub mod Simulating
 pub mod Sized
+pub mod SizedAnswers
+pub mod SizedOperations
 pub mod Staying
 pub mod StayingTested
 pub mod StraightUses
@@ -56,6 +59,8 @@ pub mod TrialUses
 pub mod ValuesCertain
 pub mod ValuesFollowed
 pub mod ValuesPlaced
+pub mod ValuesStepped
 pub mod ValuesThere
 pub mod Wording
+pub mod WordingValues
 pub mod WordsExample

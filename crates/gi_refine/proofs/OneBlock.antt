@@ -10,7 +10,7 @@ use Rattle.gi_meaning.specs.Meaning.{Meaning, Copying, Generic, Machine, Loading
 use Rattle.gi_meaning.specs.Act.{Answer, Results, Leaves, Returns, Asks, Breaks, Act, generic_load, copy}
 use Rattle.gi_meaning.specs.Runs.{Setting, arguments_of, written_places, put_all, Progress, On, Left, Over, going_on, progress_of, StepsFrom, After, Executes, phis_of, after_phis, joined}
 use Rattle.gi_refine.specs.Reached.{GoesTo, Passes, Arrives, IsReached}
-use Rattle.gi_refine.proofs.ValuesPlaced.{IsPlain, answers_plain, words_plain}
+use Rattle.gi_refine.proofs.ValuesStepped.{IsPlain, answers_plain, words_plain}
 
 -- ══ Instructions that leave no block ══
 

@@ -11,7 +11,8 @@ use Rattle.gi_refine.specs.Simulation.{Stands, IsFollowed}
 use Rattle.gi_refine.specs.Values.{Environment, Makes, AllHold, Rule, Correspond, MayMake, ForAllOf, IsSound}
 use Rattle.gi_refine.specs.Lifting.{all_grown, is_result, none_hidden, is_register, Placing, is_kept, left_hidden, IsPlaced, Reads, AreSized, AgreeReady}
 use Rattle.gi_refine.proofs.Agreeing.{same_value, same_value_stands, outside_same}
-use Rattle.gi_refine.proofs.ValuesPlaced.{BothRead, both_read, Became, Settled, Forward, forward, Backward, backward}
+use Rattle.gi_refine.proofs.ValuesPlaced.{Became, Settled, Forward, forward, Backward, backward}
+use Rattle.gi_refine.proofs.ValuesStepped.{BothRead, both_read}
 
 -- ══ The inputs ══
 
