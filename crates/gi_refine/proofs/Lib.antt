@@ -20,6 +20,7 @@ pub mod IdleKept
 pub mod IdlePieces
 pub mod IdlePlaces
 pub mod IdleReads
+pub mod IdleUses
 pub mod IdleValues
 pub mod IdleWidths
 pub mod Inserting
@@ -61,6 +62,7 @@ pub mod ValuesFollowed
 pub mod ValuesPlaced
 pub mod ValuesStepped
 pub mod ValuesThere
+pub mod WordedSteps
 pub mod Wording
 pub mod WordingValues
 pub mod WordsExample
