@@ -1,6 +1,6 @@
 -- The trial rule of a runtime call: what it clobbers is hidden from there until it is written again.
 use Rattle.std.proofs.Common.{◌≡◌, ℕ, zero, suc, ◌+◌, ◌*◌, ◌/◌, ◌%◌, ◌^◌, Bool, true, false, cond, ◌==◌, List, [], ◌∷◌, ◌++◌, map, Option, Some, None, slice_get, ◌⊎◌, inl, inr, refl, sym, ap, ap₂, ◌∙◌, subst, arith}
-use Rattle.std.proofs.lemmas.Bool.{eqb-true}
+use Rattle.std.proofs.lemmas.Bool.{eqb-true, true≢false}
 use Rattle.std.proofs.lemmas.Nat.{mul-mod, mod-pow-add}
 use Rattle.std.proofs.Math.Nat.{mod-mod}
 use Rattle.gi_mir.specs.Data.{InstrData}
@@ -20,10 +20,9 @@ use Rattle.gi_refine.specs.Kept.{reused, HasSameValue, AreSeenAs}
 use Rattle.gi_refine.specs.Refinement.{IsRefinement}
 use Rattle.gi_refine.specs.Rewriting.{Kept, Changed, Covers, is_target, Stays, RewrittenAt}
 use Rattle.gi_refine.proofs.Agreeing.{same_value, alike_stands, put_agree}
-use Rattle.gi_refine.proofs.Basics.{contrary}
 use Rattle.gi_refine.proofs.Evaluating.{steps_so}
 use Rattle.gi_refine.proofs.Inserting.{all_aside, put_aside, put_front}
-use Rattle.gi_refine.proofs.IdlePlaces.{all_seen_by}
+use Rattle.gi_refine.proofs.StayingTested.{all_seen_by}
 use Rattle.gi_refine.proofs.Keeping.{agree_but, all_shown_less}
 use Rattle.gi_refine.proofs.RewritingFollows.{covers_so, hides_so, rewriting_refines}
 use Rattle.gi_refine.proofs.Simulating.{Split, split}
@@ -210,8 +209,8 @@ places_rewritten zero = record {
   splits = refl;
   new_splits = refl;
   phis = λ w is_world. record { by = λ n from state state' arrives agree. agree };
-  body = λ w is_world. (stays w 0 ([]) no_hidden no_hidden ((copy_in 0 10 s32).1) refl (all_seen_by old_setting new_setting (λ r. false) (λ r. r) ((copy_in 0 10 s32) ∷ []) refl).0 (hides_so no_hidden (written_places (meaning_of (copy_in 0 10 s32).1.flags (copy_in 0 10 s32).1.op) ((copy_in 0 10 s32).1.operands))) (λ c goes. contrary (sym goes)), (stays w 0 (copy_in 0 10 s32 ∷ []) no_hidden no_hidden ((copy_in 1 11 s32).1) refl (all_seen_by old_setting new_setting (λ r. false) (λ r. r) ((copy_in 1 11 s32) ∷ []) refl).0 (hides_so no_hidden (written_places (meaning_of (copy_in 1 11 s32).1.flags (copy_in 1 11 s32).1.op) ((copy_in 1 11 s32).1.operands))) (λ c goes. contrary (sym goes)), (stays w 0 (copy_in 0 10 s32 ∷ copy_in 1 11 s32 ∷ []) no_hidden no_hidden ((copy_in 2 12 s32).1) refl (all_seen_by old_setting new_setting (λ r. false) (λ r. r) ((copy_in 2 12 s32) ∷ []) refl).0 (hides_so no_hidden (written_places (meaning_of (copy_in 2 12 s32).1.flags (copy_in 2 12 s32).1.op) ((copy_in 2 12 s32).1.operands))) (λ c goes. contrary (sym goes)), (stays w 0 (copy_in 0 10 s32 ∷ copy_in 1 11 s32 ∷ copy_in 2 12 s32 ∷ []) no_hidden no_hidden ((copy_in 3 13 s32).1) refl (all_seen_by old_setting new_setting (λ r. false) (λ r. r) ((copy_in 3 13 s32) ∷ []) refl).0 (hides_so no_hidden (written_places (meaning_of (copy_in 3 13 s32).1.flags (copy_in 3 13 s32).1.op) ((copy_in 3 13 s32).1.operands))) (λ c goes. contrary (sym goes)), (stays w 0 (copy_in 0 10 s32 ∷ copy_in 1 11 s32 ∷ copy_in 2 12 s32 ∷ copy_in 3 13 s32 ∷ []) no_hidden no_hidden ((joins 4 0 1).1) refl (all_seen_by old_setting new_setting (λ r. false) (λ r. r) ((joins 4 0 1) ∷ []) refl).0 (hides_so no_hidden (written_places (meaning_of (joins 4 0 1).1.flags (joins 4 0 1).1.op) ((joins 4 0 1).1.operands))) (λ c goes. contrary (sym goes)), (stays w 0 (copy_in 0 10 s32 ∷ copy_in 1 11 s32 ∷ copy_in 2 12 s32 ∷ copy_in 3 13 s32 ∷ joins 4 0 1 ∷ []) no_hidden no_hidden ((joins 5 2 3).1) refl (all_seen_by old_setting new_setting (λ r. false) (λ r. r) ((joins 5 2 3) ∷ []) refl).0 (hides_so no_hidden (written_places (meaning_of (joins 5 2 3).1.flags (joins 5 2 3).1.op) ((joins 5 2 3).1.operands))) (λ c goes. contrary (sym goes)), (record { by = λ old new related p' run. multiplied w old new (old.values 4) (old.values 5) refl refl related.relates (AgreeAt old_setting new_setting (λ c. no_hidden)) p' run }, (stays w 0 (copy_in 0 10 s32 ∷ copy_in 1 11 s32 ∷ copy_in 2 12 s32 ∷ copy_in 3 13 s32 ∷ joins 4 0 1 ∷ joins 5 2 3 ∷ product ∷ []) call_hides call_hides ((parts 7 8 6).1) refl (refl, (refl, (refl, refl, refl, tt))) (hides_so call_hides (written_places (meaning_of (parts 7 8 6).1.flags (parts 7 8 6).1.op) ((parts 7 8 6).1.operands))) (λ c goes. contrary (sym goes)), (stays w 0 (copy_in 0 10 s32 ∷ copy_in 1 11 s32 ∷ copy_in 2 12 s32 ∷ copy_in 3 13 s32 ∷ joins 4 0 1 ∷ joins 5 2 3 ∷ product ∷ parts 7 8 6 ∷ []) call_hides shown_10 ((copy_out 10 7).1) refl (refl, refl, refl, tt) (covers_so shown_10) (λ c goes. contrary (sym goes)), (stays w 0 (copy_in 0 10 s32 ∷ copy_in 1 11 s32 ∷ copy_in 2 12 s32 ∷ copy_in 3 13 s32 ∷ joins 4 0 1 ∷ joins 5 2 3 ∷ product ∷ parts 7 8 6 ∷ copy_out 10 7 ∷ []) shown_10 shown_11 ((copy_out 11 8).1) refl (refl, refl, refl, tt) (covers_so shown_11) (λ c goes. contrary (sym goes)), (stays w 0 (copy_in 0 10 s32 ∷ copy_in 1 11 s32 ∷ copy_in 2 12 s32 ∷ copy_in 3 13 s32 ∷ joins 4 0 1 ∷ joins 5 2 3 ∷ product ∷ parts 7 8 6 ∷ copy_out 10 7 ∷ copy_out 11 8 ∷ []) shown_11 shown_11 ((return_both).1) refl (refl, (refl, tt)) (hides_so shown_11 (written_places (meaning_of (return_both).1.flags (return_both).1.op) ((return_both).1.operands))) (λ c goes. contrary (sym goes)), tt)))))))))));
-  falls = λ among. absurd (contrary (sym among));
+  body = λ w is_world. (stays w 0 ([]) no_hidden no_hidden ((copy_in 0 10 s32).1) refl (all_seen_by old_setting new_setting (λ r. false) (λ r. r) ((copy_in 0 10 s32) ∷ []) refl).0 (hides_so no_hidden (written_places (meaning_of (copy_in 0 10 s32).1.flags (copy_in 0 10 s32).1.op) ((copy_in 0 10 s32).1.operands))) (λ c goes. true≢false (sym goes)), (stays w 0 (copy_in 0 10 s32 ∷ []) no_hidden no_hidden ((copy_in 1 11 s32).1) refl (all_seen_by old_setting new_setting (λ r. false) (λ r. r) ((copy_in 1 11 s32) ∷ []) refl).0 (hides_so no_hidden (written_places (meaning_of (copy_in 1 11 s32).1.flags (copy_in 1 11 s32).1.op) ((copy_in 1 11 s32).1.operands))) (λ c goes. true≢false (sym goes)), (stays w 0 (copy_in 0 10 s32 ∷ copy_in 1 11 s32 ∷ []) no_hidden no_hidden ((copy_in 2 12 s32).1) refl (all_seen_by old_setting new_setting (λ r. false) (λ r. r) ((copy_in 2 12 s32) ∷ []) refl).0 (hides_so no_hidden (written_places (meaning_of (copy_in 2 12 s32).1.flags (copy_in 2 12 s32).1.op) ((copy_in 2 12 s32).1.operands))) (λ c goes. true≢false (sym goes)), (stays w 0 (copy_in 0 10 s32 ∷ copy_in 1 11 s32 ∷ copy_in 2 12 s32 ∷ []) no_hidden no_hidden ((copy_in 3 13 s32).1) refl (all_seen_by old_setting new_setting (λ r. false) (λ r. r) ((copy_in 3 13 s32) ∷ []) refl).0 (hides_so no_hidden (written_places (meaning_of (copy_in 3 13 s32).1.flags (copy_in 3 13 s32).1.op) ((copy_in 3 13 s32).1.operands))) (λ c goes. true≢false (sym goes)), (stays w 0 (copy_in 0 10 s32 ∷ copy_in 1 11 s32 ∷ copy_in 2 12 s32 ∷ copy_in 3 13 s32 ∷ []) no_hidden no_hidden ((joins 4 0 1).1) refl (all_seen_by old_setting new_setting (λ r. false) (λ r. r) ((joins 4 0 1) ∷ []) refl).0 (hides_so no_hidden (written_places (meaning_of (joins 4 0 1).1.flags (joins 4 0 1).1.op) ((joins 4 0 1).1.operands))) (λ c goes. true≢false (sym goes)), (stays w 0 (copy_in 0 10 s32 ∷ copy_in 1 11 s32 ∷ copy_in 2 12 s32 ∷ copy_in 3 13 s32 ∷ joins 4 0 1 ∷ []) no_hidden no_hidden ((joins 5 2 3).1) refl (all_seen_by old_setting new_setting (λ r. false) (λ r. r) ((joins 5 2 3) ∷ []) refl).0 (hides_so no_hidden (written_places (meaning_of (joins 5 2 3).1.flags (joins 5 2 3).1.op) ((joins 5 2 3).1.operands))) (λ c goes. true≢false (sym goes)), (record { by = λ old new related p' run. multiplied w old new (old.values 4) (old.values 5) refl refl related.relates (AgreeAt old_setting new_setting (λ c. no_hidden)) p' run }, (stays w 0 (copy_in 0 10 s32 ∷ copy_in 1 11 s32 ∷ copy_in 2 12 s32 ∷ copy_in 3 13 s32 ∷ joins 4 0 1 ∷ joins 5 2 3 ∷ product ∷ []) call_hides call_hides ((parts 7 8 6).1) refl (refl, (refl, (refl, refl, refl, tt))) (hides_so call_hides (written_places (meaning_of (parts 7 8 6).1.flags (parts 7 8 6).1.op) ((parts 7 8 6).1.operands))) (λ c goes. true≢false (sym goes)), (stays w 0 (copy_in 0 10 s32 ∷ copy_in 1 11 s32 ∷ copy_in 2 12 s32 ∷ copy_in 3 13 s32 ∷ joins 4 0 1 ∷ joins 5 2 3 ∷ product ∷ parts 7 8 6 ∷ []) call_hides shown_10 ((copy_out 10 7).1) refl (refl, refl, refl, tt) (covers_so shown_10) (λ c goes. true≢false (sym goes)), (stays w 0 (copy_in 0 10 s32 ∷ copy_in 1 11 s32 ∷ copy_in 2 12 s32 ∷ copy_in 3 13 s32 ∷ joins 4 0 1 ∷ joins 5 2 3 ∷ product ∷ parts 7 8 6 ∷ copy_out 10 7 ∷ []) shown_10 shown_11 ((copy_out 11 8).1) refl (refl, refl, refl, tt) (covers_so shown_11) (λ c goes. true≢false (sym goes)), (stays w 0 (copy_in 0 10 s32 ∷ copy_in 1 11 s32 ∷ copy_in 2 12 s32 ∷ copy_in 3 13 s32 ∷ joins 4 0 1 ∷ joins 5 2 3 ∷ product ∷ parts 7 8 6 ∷ copy_out 10 7 ∷ copy_out 11 8 ∷ []) shown_11 shown_11 ((return_both).1) refl (refl, (refl, tt)) (hides_so shown_11 (written_places (meaning_of (return_both).1.flags (return_both).1.op) ((return_both).1.operands))) (λ c goes. true≢false (sym goes)), tt)))))))))));
+  falls = λ among. absurd (true≢false (sym among));
 }
 places_rewritten (suc b) = tt
 

@@ -12,9 +12,11 @@ use Rattle.gi_meaning.specs.State.{World, State, outside_of, start, Outcome, Ret
 use Rattle.gi_meaning.specs.Act.{Answer, Results, Answers, Act}
 use Rattle.gi_meaning.specs.Runs.{Setting, setting_of, arguments_of, written_places, width_of_place, progress_of, Progress, On, Left, Over, StepsFrom, Steps, After, Executes, phis_of, after_phis, joined, Follows, RunsAfterPhis, Enters}
 use Rattle.gi_refine.specs.Examples.{block_of, function_of}
+use Rattle.gi_refine.specs.Evaluation.{step_of, then_on, steps_of}
 use Rattle.gi_refine.specs.Outcomes.{ReturnsAny, has_low_bits}
+use Rattle.gi_refine.proofs.Basics.{some_is}
 use Rattle.gi_refine.proofs.Doing.{Does}
-use Rattle.gi_refine.proofs.Computing.{exact_after, exact_all, exact_step, does_all_exactly, does_exactly, some_same}
+use Rattle.gi_refine.proofs.Evaluating.{step_so, steps_so}
 
 -- an instruction goes on with any value that the test takes in a place
 pub record Chooses (s : Setting) (w : World) (i : ℕ × InstrData) (state : State) (places : List Place) (test : ℕ → Bool) : Type 0 where
@@ -64,15 +66,15 @@ pub record OneAfter (s : Setting) (w : World) (is : List (ℕ × InstrData)) (q 
   pub can : After q (Executes s w is) p
   pub only : (other : Progress) → After q (Executes s w is) other → other ≡ p
 
-pub one_after : (s : Setting) (w : World) (is : List (ℕ × InstrData)) (q p : Progress) → exact_after (Some q) (exact_all s w is) ≡ Some p → OneAfter s w is q p
-one_after s w is (On state) p h = record { can = (does_all_exactly s w is state p h).can; only = (does_all_exactly s w is state p h).only }
-one_after s w is (Left b state) p h = record { can = some_same (Left b state) p h; only = λ other e. e ∙ sym (some_same (Left b state) p h) }
-one_after s w is (Over o) p h = record { can = some_same (Over o) p h; only = λ other e. e ∙ sym (some_same (Over o) p h) }
+pub one_after : (s : Setting) (w : World) (is : List (ℕ × InstrData)) (q p : Progress) → then_on (Some q) (steps_of s w is) ≡ Some p → OneAfter s w is q p
+one_after s w is (On state) p h = record { can = (steps_so s w is state p h).can; only = (steps_so s w is state p h).only }
+one_after s w is (Left b state) p h = record { can = some_is (Left b state) p h; only = λ other e. e ∙ sym (some_is (Left b state) p h) }
+one_after s w is (Over o) p h = record { can = some_is (Over o) p h; only = λ other e. e ∙ sym (some_is (Over o) p h) }
 
 -- from the choice on
 pub choose : (s : Setting) (w : World) (i : ℕ × InstrData) (is : List (ℕ × InstrData)) (state : State) (places : List Place) (test : ℕ → Bool) (memory : Memory) (taken : ℕ)
     → Chooses s w i state places test
-    → ((v : ℕ) → exact_after (Some (progress_of state places (Results (v ∷ []) (outside_of state)))) (exact_all s w is) ≡ Some (Over (Returned (v ∷ []) memory taken)))
+    → ((v : ℕ) → then_on (Some (progress_of state places (Results (v ∷ []) (outside_of state)))) (steps_of s w is) ≡ Some (Over (Returned (v ∷ []) memory taken)))
     → ReturnsAll s w (i ∷ is) state test memory taken
 choose s w i is state places test memory taken chooses rest = record {
   can = λ v h. (progress_of state places (Results (v ∷ []) (outside_of state)), chooses.can v h, (one_after s w is _ _ (rest v)).can);
@@ -86,9 +88,9 @@ choose s w i is state places test memory taken chooses rest = record {
 
 -- a step in one way before it
 pub before_choice : (s : Setting) (w : World) (i : ℕ × InstrData) (is : List (ℕ × InstrData)) (state next : State) (test : ℕ → Bool) (memory : Memory) (taken : ℕ)
-    → exact_step s w i.1 state ≡ Some (On next) → ReturnsAll s w is next test memory taken → ReturnsAll s w (i ∷ is) state test memory taken
+    → step_of s w i.1 state ≡ Some (On next) → ReturnsAll s w is next test memory taken → ReturnsAll s w (i ∷ is) state test memory taken
 before_choice s w i is state next test memory taken step rest =
-    let does : Does s w i state (On next) = does_exactly s w i state (On next) step in
+    let does : Does s w i state (On next) = step_so s w i state (On next) step in
     record {
       can = λ v h. (On next, does.can, rest.can v h);
       only = λ p run. rest.only p (subst (λ q. After q (Executes s w is) p) (does.only run.0 run.1) run.2);

@@ -2,7 +2,9 @@
 use Rattle.gi_refine.specs.TrialRules.{constant}
 use Rattle.gi_refine.specs.Lifting.{Reads}
 use Rattle.gi_refine.specs.Values.{Environment, Holds, Defines}
-use Rattle.std.proofs.Common.{◌≡◌, ℕ, zero, suc, Bool, true, false, cond, not, ◌&&◌, ◌==◌, List, [], ◌∷◌, ◌++◌, Option, Some, None, slice_get, ⊎_elim, refl, sym, ap, ◌∙◌, subst, eqb-true}
+use Rattle.std.proofs.Common.{◌≡◌, ℕ, zero, suc, true, false, not, ◌&&◌, ◌==◌, List, [], ◌∷◌, ◌++◌, Option, Some, None, slice_get, ⊎_elim, refl, sym, ap, ◌∙◌, subst, eqb-true}
+use Rattle.std.proofs.lemmas.Bool.{and_parts, or_parts, or_cases, not-true}
+use Rattle.std.proofs.lemmas.Option.{same_Some}
 use Rattle.std.specs.Prelude.{IfSome}
 use Rattle.gi_mir.specs.Data.{InstrData, BlockData}
 use Rattle.gi_mir.specs.declared.opcode.Opcode.{Opcode}
@@ -19,15 +21,11 @@ use Rattle.gi_meaning.specs.Runs.{Setting, arguments_of, places_of, written_plac
 use Rattle.gi_refine.specs.Constants.{is_virtual, writes, is_constant_of, keeps_constant, all_keep_constant, no_phi_writes, only_constant, HoldsOnly}
 use Rattle.gi_refine.specs.Invariant.{GoesOnWith, AllKeep, BlockKeeps}
 use Rattle.gi_refine.specs.Reached.{IsReached}
+use Rattle.gi_refine.proofs.Basics.{value_stays, value_holds}
 use Rattle.gi_refine.proofs.Invariants.{invariant_holds}
-use Rattle.gi_refine.proofs.ValuesPlaced.{BothRead, both_read}
-use Rattle.gi_refine.proofs.Tests.{neither_left, neither_right, both_left, both_right, not_true, either, same_some}
+use Rattle.gi_refine.proofs.ValuesStepped.{BothRead, both_read}
 
 -- ══ Writes to other places ══
-
-value_stays : (b : Bool) (v : ℕ) (old : Option ℕ) → b ≡ false → cond b (Some v) old ≡ old
-value_stays true v old h = cc
-value_stays false v old h = refl
 
 put_other : (r v : ℕ) (state : State) (p : Place) → is_virtual r p ≡ false → (put state p v).values r ≡ state.values r
 put_other r v state (Virtual q) h = value_stays (r == q) v (state.values r) h
@@ -42,7 +40,7 @@ put_all_others r old state [] [] h is = is
 put_all_others r old state [] (v ∷ vs) h is = tt
 put_all_others r old state (p ∷ ps) [] h is = tt
 put_all_others r old state (p ∷ ps) (v ∷ vs) h is =
-    put_all_others r old (put state p v) ps vs (neither_right (is_virtual r p) (writes r ps) h) (put_other r v state p (neither_left (is_virtual r p) (writes r ps) h) ∙ is)
+    put_all_others r old (put state p v) ps vs (or_parts (is_virtual r p) (writes r ps) h).1 (put_other r v state p (or_parts (is_virtual r p) (writes r ps) h).0 ∙ is)
 
 holds_still : (r value : ℕ) (old : Option ℕ) (state : Option State) → IfSome old (λ v. v ≡ value) → StaysSo r old state → GoesOnWith (HoldsOnly r value) (going_on state)
 holds_still r value old None holds stays = tt
@@ -65,46 +63,42 @@ other_holds s w r value i h state holds (Some arguments) p step =
 
 -- ══ The constant ══
 
-value_put : (b : Bool) (v value : ℕ) (old : Option ℕ) → v ≡ value → IfSome old (λ u. u ≡ value) → IfSome (cond b (Some v) old) (λ u. u ≡ value)
-value_put true v value old is holds = is
-value_put false v value old is holds = holds
-
 constant_holds : (s : Setting) (w : World) (r value : ℕ) (flags : Flags) (o : Opcode) (os : List Operand) (mem : Option MemOp) (line : ℕ) → is_constant_of r value o os ≡ true → (state : State) → HoldsOnly r value state
     → (p : Progress) → Steps s w (record { op = o; flags = flags; operands = os; mem = mem; line = line }) state p → GoesOnWith (HoldsOnly r value) p
 constant_holds s w r value flags op.GenericConstant (operand.Def q kind ∷ operand.Constant n v ∷ []) mem line h state holds p step =
     let answered : step.0 ≡ Results (v ∷ []) (outside_of state) = step.1.2 ∙ ap (λ rs. Results rs (outside_of state)) step.1.1 in
     let made : p ≡ On (put state (Virtual q.0) v) = step.2 ∙ ap (progress_of state (Virtual q.0 ∷ [])) answered in
     let here : HoldsOnly r value (put state (Virtual q.0) v) =
-    record { is = value_put (r == q.0) v value (state.values r) (eqb-true v value (both_right (q.0 == r) (v == value) h)) holds.is } in
+    record { is = value_holds (λ u. u ≡ value) (r == q.0) v (state.values r) (λ same. eqb-true v value (and_parts (q.0 == r) (v == value) h).1) holds.is } in
     subst (GoesOnWith (HoldsOnly r value)) (sym made) here
 constant_holds s w r value flags _ _ mem line h state holds p step = cc
 
 instruction_holds : (s : Setting) (w : World) (r value : ℕ) (i : InstrData) → keeps_constant r value i ≡ true → (state : State) → HoldsOnly r value state → (p : Progress) → Steps s w i state p → GoesOnWith (HoldsOnly r value) p
 instruction_holds s w r value i h state holds p step =
     ⊎_elim
-    (λ other. other_holds s w r value i (not_true (writes r (written_places (meaning_of i.flags i.op) i.operands)) other) state holds (arguments_of s w state i.operands) p step)
+    (λ other. other_holds s w r value i (not-true (writes r (written_places (meaning_of i.flags i.op) i.operands)) other) state holds (arguments_of s w state i.operands) p step)
     (λ constant. constant_holds s w r value i.flags i.op i.operands i.mem i.line constant state holds p step)
-    (either (not (writes r (written_places (meaning_of i.flags i.op) i.operands))) (is_constant_of r value i.op i.operands) h)
+    (or_cases (not (writes r (written_places (meaning_of i.flags i.op) i.operands))) (is_constant_of r value i.op i.operands) h)
 
 instructions_hold : (s : Setting) (w : World) (r value : ℕ) (is : List (ℕ × InstrData)) → all_keep_constant r value is ≡ true → AllKeep s w (HoldsOnly r value) is
 instructions_hold s w r value [] h = tt
 instructions_hold s w r value (i ∷ is) h = (
-  instruction_holds s w r value i.1 (both_left (keeps_constant r value i.1) (all_keep_constant r value is) h),
-  instructions_hold s w r value is (both_right (keeps_constant r value i.1) (all_keep_constant r value is) h),
+  instruction_holds s w r value i.1 (and_parts (keeps_constant r value i.1) (all_keep_constant r value is) h).0,
+  instructions_hold s w r value is (and_parts (keeps_constant r value i.1) (all_keep_constant r value is) h).1,
 )
 
 -- ══ Phis ══
 
 put_value_others : (r : ℕ) (old : Option ℕ) (state : Option State) (ps : List Place) (value : Option ℕ) → writes r ps ≡ false → StaysSo r old state → StaysSo r old (put_value state ps value)
-put_value_others r old (Some state) (p ∷ []) (Some v) h stays = put_other r v state p (neither_left (is_virtual r p) false h) ∙ stays
+put_value_others r old (Some state) (p ∷ []) (Some v) h stays = put_other r v state p (or_parts (is_virtual r p) false h).0 ∙ stays
 put_value_others r old _ _ _ h stays = tt
 
 joined_others : (r : ℕ) (state : State) (from : Option ℕ) (is : List (ℕ × InstrData)) → no_phi_writes r is ≡ true → StaysSo r (state.values r) (joined state from is)
 joined_others r state from [] h = refl
 joined_others r state from (i ∷ is) h =
     put_value_others r (state.values r) (joined state from is) (places_of i.1.operands) (value_at state (from_block from i.1.operands))
-    (not_true (writes r (places_of i.1.operands)) (both_left (not (writes r (places_of i.1.operands))) (no_phi_writes r is) h))
-    (joined_others r state from is (both_right (not (writes r (places_of i.1.operands))) (no_phi_writes r is) h))
+    (not-true (writes r (places_of i.1.operands)) (and_parts (not (writes r (places_of i.1.operands))) (no_phi_writes r is) h).0)
+    (joined_others r state from is (and_parts (not (writes r (places_of i.1.operands))) (no_phi_writes r is) h).1)
 
 -- ══ Functions ══
 
@@ -120,13 +114,13 @@ blocks_hold : (s : Setting) (w : World) (r value : ℕ) (blocks : List BlockData
 blocks_hold s w r value [] h b block here = cc
 blocks_hold s w r value (k ∷ blocks) h zero block here =
     let first : (no_phi_writes r (phis_of k.instrs) && all_keep_constant r value (after_phis k.instrs)) ≡ true =
-    both_left (no_phi_writes r (phis_of k.instrs) && all_keep_constant r value (after_phis k.instrs)) (only_constant r value blocks) h in
-    subst (BlockKeeps s w (HoldsOnly r value)) (same_some k block here)
+    (and_parts (no_phi_writes r (phis_of k.instrs) && all_keep_constant r value (after_phis k.instrs)) (only_constant r value blocks) h).0 in
+    subst (BlockKeeps s w (HoldsOnly r value)) (same_Some k block here)
     (block_holds s w r value k
-    (both_left (no_phi_writes r (phis_of k.instrs)) (all_keep_constant r value (after_phis k.instrs)) first)
-    (both_right (no_phi_writes r (phis_of k.instrs)) (all_keep_constant r value (after_phis k.instrs)) first))
+    (and_parts (no_phi_writes r (phis_of k.instrs)) (all_keep_constant r value (after_phis k.instrs)) first).0
+    (and_parts (no_phi_writes r (phis_of k.instrs)) (all_keep_constant r value (after_phis k.instrs)) first).1)
 blocks_hold s w r value (k ∷ blocks) h (suc b) block here =
-    blocks_hold s w r value blocks (both_right (no_phi_writes r (phis_of k.instrs) && all_keep_constant r value (after_phis k.instrs)) (only_constant r value blocks) h) b block here
+    blocks_hold s w r value blocks (and_parts (no_phi_writes r (phis_of k.instrs) && all_keep_constant r value (after_phis k.instrs)) (only_constant r value blocks) h).1 b block here
 
 -- wherever runs reach, the register has no value or the constant
 pub constant_where_reached : (s : Setting) (w : World) (blocks : List BlockData) (r value : ℕ) → only_constant r value blocks ≡ true

@@ -1,10 +1,11 @@
 -- Tests and values that show what a use of a rule owes.
 use Rattle.std.proofs.Common.{◌≡◌, ℕ, suc, Bool, true, false, cond, ◌==◌, not, ◌||◌, List, [], ◌∷◌, Option, Some, ⊎_elim, refl, sym, ap, ◌∙◌, subst, eqb-true}
+use Rattle.std.proofs.lemmas.Bool.{and_parts, or_cases}
+use Rattle.std.proofs.lemmas.Option.{same_Some}
 use Rattle.gi_meaning.specs.State.{World, State, outside_of, Place, Virtual, Physical}
 use Rattle.gi_meaning.specs.Runs.{Setting, is_among}
 use Rattle.gi_refine.specs.Values.{Environment, Slot, AllHold, Rule}
 use Rattle.gi_refine.specs.Lifting.{all_grown, is_result, Placing, is_kept, left_hidden, are_covered, all_covered, covers, Reads, AreSized, first_slots, HasValue, AreThere, IsKnown}
-use Rattle.gi_refine.proofs.Tests.{both_left, both_right, either, same_some}
 
 -- ══ What is hidden after ══
 
@@ -12,17 +13,17 @@ covered_among : (after : Place → Bool) (kept : ℕ → Bool) (r : ℕ) (rs : L
 covered_among after kept r [] is covered = cc
 covered_among after kept r (q ∷ rs) is covered =
     ⊎_elim
-    (λ here. subst (λ k. (kept k || after (Virtual k)) ≡ true) (sym (eqb-true r q here)) (both_left (kept q || after (Virtual q)) (are_covered after kept rs) covered))
-    (λ later. covered_among after kept r rs later (both_right (kept q || after (Virtual q)) (are_covered after kept rs) covered))
-    (either (r == q) (is_among r rs) is)
+    (λ here. subst (λ k. (kept k || after (Virtual k)) ≡ true) (sym (eqb-true r q here)) (and_parts (kept q || after (Virtual q)) (are_covered after kept rs) covered).0)
+    (λ later. covered_among after kept r rs later (and_parts (kept q || after (Virtual q)) (are_covered after kept rs) covered).1)
+    (or_cases (r == q) (is_among r rs) is)
 
 covered_result : (after : Place → Bool) (kept : ℕ → Bool) (r : ℕ) (rss : List (List ℕ)) → is_result r rss ≡ true → all_covered after kept rss ≡ true → (kept r || after (Virtual r)) ≡ true
 covered_result after kept r [] is covered = cc
 covered_result after kept r (rs ∷ rss) is covered =
     ⊎_elim
-    (λ here. covered_among after kept r rs here (both_left (are_covered after kept rs) (all_covered after kept rss) covered))
-    (λ later. covered_result after kept r rss later (both_right (are_covered after kept rs) (all_covered after kept rss) covered))
-    (either (is_among r rs) (is_result r rss) is)
+    (λ here. covered_among after kept r rs here (and_parts (are_covered after kept rs) (all_covered after kept rss) covered).0)
+    (λ later. covered_result after kept r rss later (and_parts (are_covered after kept rs) (all_covered after kept rss) covered).1)
+    (or_cases (is_among r rs) (is_result r rss) is)
 
 kept_or_hidden : (kept hidden : Bool) → (kept || hidden) ≡ true → hidden ≡ false → kept ≡ true
 kept_or_hidden true hidden h shown = refl
@@ -41,9 +42,9 @@ covered_by before after rule placing covers others (Virtual r) shown =
     not_hidden (is_result r placing.old || is_result r placing.new) (kept r) (before (Virtual r))
     (λ is. kept_or_hidden (kept r) (after (Virtual r))
     (⊎_elim
-    (λ old. covered_result after kept r placing.old old (both_left (all_covered after kept placing.old) (all_covered after kept placing.new) covers))
-    (λ new. covered_result after kept r placing.new new (both_right (all_covered after kept placing.old) (all_covered after kept placing.new) covers))
-    (either (is_result r placing.old) (is_result r placing.new) is)) shown)
+    (λ old. covered_result after kept r placing.old old (and_parts (all_covered after kept placing.old) (all_covered after kept placing.new) covers).0)
+    (λ new. covered_result after kept r placing.new new (and_parts (all_covered after kept placing.old) (all_covered after kept placing.new) covers).1)
+    (or_cases (is_result r placing.old) (is_result r placing.new) is)) shown)
     (others (Virtual r) shown)
 covered_by before after rule placing covers others (Physical n) shown = others (Physical n) shown
 
@@ -59,7 +60,7 @@ environment_of width (r ∷ rs) (v ∷ vs) = (width r, v) ∷ environment_of wid
 environment_of width _ _ = []
 
 same_entry : (n : ℕ) (entry : ℕ × ℕ) (v : ℕ) (value : Option ℕ) → entry.0 ≡ n → value ≡ Some entry.1 → value ≡ Some v → entry ≡ (n, v)
-same_entry n entry v value width read has = ap (λ k. (k, entry.1)) width ∙ ap (λ u. (n, u)) (same_some entry.1 v (sym read ∙ has))
+same_entry n entry v value width read has = ap (λ k. (k, entry.1)) width ∙ ap (λ u. (n, u)) (same_Some entry.1 v (sym read ∙ has))
 
 environment_is : (width : ℕ → ℕ) (values : ℕ → Option ℕ) (rs vs : List ℕ) (env : Environment) → HaveAll values rs vs → Reads width values rs env → env ≡ environment_of width rs vs
 environment_is width values [] [] [] have reads = refl

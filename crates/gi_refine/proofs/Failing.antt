@@ -1,6 +1,7 @@
 -- A run that fails in a world whose trace is cut fails in the world, and one that fails within n block entries fails
 -- within more.
 use Rattle.std.proofs.Common.{◌≡◌, ℕ, zero, suc, ◌+◌, Bool, true, false, cond, List, [], ◌∷◌, map, take, Option, Some, None, slice_get, ◌⊎◌, inl, inr, ⊎_elim, length, ◌-◌, add-sub_of_le, le_refl, refl, sym, ap, ◌∙◌, subst, arith}
+use Rattle.std.proofs.Math.Seq.{take-length}
 use Rattle.gi_mir.specs.Data.{InstrData, BlockData, FunctionData}
 use Rattle.gi_mir.specs.declared.operand.MemOp.{MemOp}
 use Rattle.gi_mir.specs.declared.operand.Operand.{Operand}
@@ -199,14 +200,10 @@ fails_from_may x names f w n may =
     let e : may.entries + (n - may.entries) ≡ n = add-sub_of_le may.within in
     subst (λ m. Runs x names f w m Fails) e ((enters_more s w f.blocks may.entries (n - may.entries)).by None 0 (start w) here)
 
-take_whole : {A : Type 0} (xs : List A) → take (length xs) xs ≡ xs
-take_whole [] = refl
-take_whole (x ∷ xs) = ap (λ ys. x ∷ ys) (take_whole xs)
-
 pub may_from_fails : (x : ℕ) (names : List (List ℕ)) (f : FunctionData) (w : World) (n : ℕ) → Runs x names f w n Fails → MayFail x names f w n
 may_from_fails x names f w n fails = record {
   events = length w.trace;
   entries = n;
   within = le_refl n;
-  fails = subst (λ (t : List Event). Runs x names f (record w { trace = t }) n Fails) (sym (take_whole w.trace)) fails;
+  fails = subst (λ (t : List Event). Runs x names f (record w { trace = t }) n Fails) (sym (take-length w.trace)) fails;
 }

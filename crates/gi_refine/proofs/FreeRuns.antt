@@ -4,9 +4,9 @@ use Rattle.gi_mir.specs.Data.{InstrData}
 use Rattle.gi_meaning.specs.Argument.{Value}
 use Rattle.gi_meaning.specs.State.{World, State, start, Virtual, put}
 use Rattle.gi_meaning.specs.Runs.{Setting, setting_of}
-use Rattle.gi_refine.specs.Examples.{counting, names, world_of}
+use Rattle.gi_refine.specs.Examples.{counting, names, world_of, one_block}
 use Rattle.gi_refine.specs.Outcomes.{ReturnsAny, has_low_bits}
-use Rattle.gi_refine.specs.TargetExamples.{extends_anyhow, takes_anything, adds_without_wrapping, shifts, copies_low_half, one_block}
+use Rattle.gi_refine.specs.TargetExamples.{extends_anyhow, takes_anything, adds_without_wrapping, shifts, copies_low_half}
 use Rattle.gi_refine.proofs.Choosing.{chooses_low, choose, before_choice, returns_any}
 
 abbrev pub set_of : ℕ → List (ℕ × InstrData) → Setting

@@ -1,5 +1,6 @@
 -- For each premise of rewriting piece by piece a case in which all others hold and the new function returns something else.
 use Rattle.std.proofs.Common.{◌≡◌, ℕ, zero, suc, Bool, false, List, [], ◌∷◌, ◌++◌, Option, Some, None, slice_get, refl, ap, lit<}
+use Rattle.std.proofs.lemmas.Bool.{false≢true, eqb-false}
 use Rattle.gi_mir.specs.Data.{InstrData, BlockData, FunctionData}
 use Rattle.gi_mir.specs.declared.opcode.Opcode.TheVariants as op
 use Rattle.gi_mir.specs.declared.operand.Operand.TheVariants as operand
@@ -10,12 +11,12 @@ use Rattle.gi_refine.specs.Agreement.{Agree, AgreeAt}
 use Rattle.gi_refine.specs.Evaluation.{steps_of}
 use Rattle.gi_refine.specs.Examples.{made, block_of, function_of, s32, copy_in, copy_out, names, counting}
 use Rattle.gi_refine.specs.Idle.{PiecePremise, StayKept, StaySeen, StayHeld, StayHides, StayLeaves, PieceChanged, PhisFollowing, BlockFalls, BlockSuccessors, PieceBut, PiecesBut, BlockButAt, IsRewrittenBut, IsPieceNotIdle}
-use Rattle.gi_refine.specs.OnePlace.{only_virtual}
+use Rattle.gi_refine.specs.OnePlace.{only_virtual, nothing, only}
 use Rattle.gi_refine.specs.Reached.{WhereReached}
 use Rattle.gi_refine.specs.Rewriting.{Piece, Kept, Changed, old_of, Covers, PieceFollows, PiecesFollow, PhisFollow, RewrittenAt, IsRewritten}
 use Rattle.gi_refine.proofs.RewritingFollows.{covers_so, hides_so}
-use Rattle.gi_refine.proofs.Basics.{apart_by, never_true}
-use Rattle.gi_refine.proofs.IdlePlaces.{seen_by, alone_holds, world, is_world_of, returned_is, is_return, hidden_written, none, only_1, zero_by_one, return_10, other_word, phi_of}
+use Rattle.gi_refine.proofs.IdleCases.{world, is_world_of, returned_is, is_return, hidden_written, zero_by_one, return_10, other_word, gives_first, gives_second, gives_through_1, overwrites_1, gives_0_of_two, gives_1_of_two, returns_alone, returns_other, phi_takes_0, phi_takes_1, goes_on, stays_there}
+use Rattle.gi_refine.proofs.StayingTested.{seen_by, alone_holds}
 use Rattle.gi_refine.proofs.Keeping.{agree_but}
 use Rattle.gi_refine.proofs.Staying.{kept_reused}
 use Rattle.gi_refine.proofs.Evaluating.{refutes}
@@ -57,10 +58,10 @@ rewritten_all x f g owes = record {
 -- ══ What many cases share ══
 
 abbrev all_seen : Place → Bool
-all_seen = only_virtual none
+all_seen = only_virtual nothing
 
 abbrev one_hidden : Place → Bool
-one_hidden = only_virtual only_1
+one_hidden = only_virtual (only 1)
 
 none_covered : (first then : Place → Bool) → ((p : Place) → first p ≡ false) → Covers first then
 none_covered first then seen = record { by = λ p h. seen p }
@@ -79,7 +80,7 @@ hides_1 : (f g : FunctionData) (entries : ℕ → Place → Bool) (w : World) (b
 hides_1 f g entries w b before now seen steps =
     let s : Setting = setting_of 32 names f in
     let t : Setting = setting_of 32 names g in
-    hidden_written s g w (WhereReached s w f.blocks b before (Agree s t now)) only_1 (AgreeAt s t entries) (copy_in 1 11 s32) 1 (λ state. word_in state 11) refl steps
+    hidden_written s g w (WhereReached s w f.blocks b before (Agree s t now)) (only 1) (AgreeAt s t entries) (copy_in 1 11 s32) 1 (λ state. word_in state 11) refl steps
     (λ old new h. agree_but s t now one_hidden old new (λ p e. seen p) h.relates)
 
 -- `PseudoBR bb.2`
@@ -88,89 +89,71 @@ branch_2 = made op.PseudoBranch (operand.Block 2 ∷ []) None
 
 -- ══ An instruction that stays has become another ══
 
-abbrev kept_old : FunctionData
-kept_old = function_of (block_of ([]) (copy_in 0 10 s32 ∷ copy_out 10 0 ∷ return_10 ∷ []) ∷ [])
-
-abbrev kept_new : FunctionData
-kept_new = function_of (block_of ([]) (copy_in 0 11 s32 ∷ copy_out 10 0 ∷ return_10 ∷ []) ∷ [])
-
-kept_places : (b : ℕ) → BlockButAt (Some StayKept) 32 kept_old kept_new (λ b. all_seen) (λ r. r) b (slice_get kept_old.blocks b) (slice_get kept_new.blocks b)
+kept_places : (b : ℕ) → BlockButAt (Some StayKept) 32 gives_first gives_second (λ b. all_seen) (λ r. r) b (slice_get gives_first.blocks b) (slice_get gives_second.blocks b)
 kept_places zero = record {
   middle = all_seen;
   pieces = (Kept (copy_in 0 10 s32) (copy_in 0 11 s32), all_seen) ∷ (Kept (copy_out 10 0) (copy_out 10 0), all_seen) ∷ (Kept (return_10) (return_10), all_seen) ∷ [];
   successors = refl;
   splits = refl;
   new_splits = refl;
-  phis = λ w is_world. no_phis_follow kept_old kept_new 0 all_seen w;
-  body = λ w is_world. (record { kept = tt; seen = seen_by (setting_of 32 names kept_old) (setting_of 32 names kept_new) none (λ r. r) ((copy_in 0 10 s32).1.operands) refl; holds = λ state reached. alone_holds (λ r. r) state ((copy_in 0 10 s32).1.operands) refl; hides = hides_so all_seen (written_places (meaning_of (copy_in 0 10 s32).1.flags (copy_in 0 10 s32).1.op) ((copy_in 0 10 s32).1.operands)); leaves = λ c h. absurd (never_true h) }, (record { kept = tt; seen = seen_by (setting_of 32 names kept_old) (setting_of 32 names kept_new) none (λ r. r) ((copy_out 10 0).1.operands) refl; holds = λ state reached. alone_holds (λ r. r) state ((copy_out 10 0).1.operands) refl; hides = hides_so all_seen (written_places (meaning_of (copy_out 10 0).1.flags (copy_out 10 0).1.op) ((copy_out 10 0).1.operands)); leaves = λ c h. absurd (never_true h) }, (record { kept = tt; seen = seen_by (setting_of 32 names kept_old) (setting_of 32 names kept_new) none (λ r. r) ((return_10).1.operands) refl; holds = λ state reached. alone_holds (λ r. r) state ((return_10).1.operands) refl; hides = hides_so all_seen (written_places (meaning_of (return_10).1.flags (return_10).1.op) ((return_10).1.operands)); leaves = λ c h. absurd (never_true h) }, tt)));
-  falls = λ among. absurd (never_true among);
+  phis = λ w is_world. no_phis_follow gives_first gives_second 0 all_seen w;
+  body = λ w is_world. (record { kept = tt; seen = seen_by (setting_of 32 names gives_first) (setting_of 32 names gives_second) nothing (λ r. r) ((copy_in 0 10 s32).1.operands) refl; holds = λ state reached. alone_holds (λ r. r) state ((copy_in 0 10 s32).1.operands) refl; hides = hides_so all_seen (written_places (meaning_of (copy_in 0 10 s32).1.flags (copy_in 0 10 s32).1.op) ((copy_in 0 10 s32).1.operands)); leaves = λ c h. absurd (false≢true h) }, (record { kept = tt; seen = seen_by (setting_of 32 names gives_first) (setting_of 32 names gives_second) nothing (λ r. r) ((copy_out 10 0).1.operands) refl; holds = λ state reached. alone_holds (λ r. r) state ((copy_out 10 0).1.operands) refl; hides = hides_so all_seen (written_places (meaning_of (copy_out 10 0).1.flags (copy_out 10 0).1.op) ((copy_out 10 0).1.operands)); leaves = λ c h. absurd (false≢true h) }, (record { kept = tt; seen = seen_by (setting_of 32 names gives_first) (setting_of 32 names gives_second) nothing (λ r. r) ((return_10).1.operands) refl; holds = λ state reached. alone_holds (λ r. r) state ((return_10).1.operands) refl; hides = hides_so all_seen (written_places (meaning_of (return_10).1.flags (return_10).1.op) ((return_10).1.operands)); leaves = λ c h. absurd (false≢true h) }, tt)));
+  falls = λ among. absurd (false≢true among);
 }
 kept_places (suc b) = tt
 
 kept_not_idle : IsPieceNotIdle StayKept
 kept_not_idle = record {
-  old = kept_old;
-  new = kept_new;
+  old = gives_first;
+  new = gives_second;
   owes = record { entries = (λ b. all_seen); rename = (λ r. r); places = kept_places };
-  refuted = refutes 32 names kept_old kept_new (world 1 2) (is_world_of 1 2 (lit< tt) (lit< tt)) 4 (Returned (1 ∷ []) counting 0) (Returned (2 ∷ []) counting 0) refl refl (λ e. apart_by 2 1 refl (returned_is 2 1 e)) (λ e. never_true (ap is_return e));
+  refuted = refutes 32 names gives_first gives_second (world 1 2) (is_world_of 1 2 (lit< tt) (lit< tt)) 4 (Returned (1 ∷ []) counting 0) (Returned (2 ∷ []) counting 0) refl refl (λ e. eqb-false 2 1 refl (returned_is 2 1 e)) (λ e. false≢true (ap is_return e));
 }
 
 -- ══ An instruction that stays reads what is hidden ══
 
-abbrev seen_old : FunctionData
-seen_old = function_of (block_of ([]) (copy_in 1 10 s32 ∷ copy_out 10 1 ∷ return_10 ∷ []) ∷ [])
-
-abbrev seen_new : FunctionData
-seen_new = function_of (block_of ([]) (copy_in 1 10 s32 ∷ copy_in 1 11 s32 ∷ copy_out 10 1 ∷ return_10 ∷ []) ∷ [])
-
-seen_places : (b : ℕ) → BlockButAt (Some StaySeen) 32 seen_old seen_new (λ b. all_seen) (λ r. r) b (slice_get seen_old.blocks b) (slice_get seen_new.blocks b)
+seen_places : (b : ℕ) → BlockButAt (Some StaySeen) 32 gives_through_1 overwrites_1 (λ b. all_seen) (λ r. r) b (slice_get gives_through_1.blocks b) (slice_get overwrites_1.blocks b)
 seen_places zero = record {
   middle = all_seen;
   pieces = (Kept (copy_in 1 10 s32) (copy_in 1 10 s32), all_seen) ∷ (Changed [] (copy_in 1 11 s32 ∷ []), one_hidden) ∷ (Kept (copy_out 10 1) (copy_out 10 1), one_hidden) ∷ (Kept (return_10) (return_10), one_hidden) ∷ [];
   successors = refl;
   splits = refl;
   new_splits = refl;
-  phis = λ w is_world. no_phis_follow seen_old seen_new 0 all_seen w;
-  body = λ w is_world. (record { kept = kept_reused (λ r. r) ((copy_in 1 10 s32).1) ((copy_in 1 10 s32).1) refl; seen = tt; holds = λ state reached. alone_holds (λ r. r) state ((copy_in 1 10 s32).1.operands) refl; hides = hides_so all_seen (written_places (meaning_of (copy_in 1 10 s32).1.flags (copy_in 1 10 s32).1.op) ((copy_in 1 10 s32).1.operands)); leaves = λ c h. absurd (never_true h) }, (hides_1 seen_old seen_new (λ b. all_seen) w 0 (copy_in 1 10 s32 ∷ []) all_seen all_seen_so (λ state. refl), (record { kept = kept_reused (λ r. r) ((copy_out 10 1).1) ((copy_out 10 1).1) refl; seen = tt; holds = λ state reached. alone_holds (λ r. r) state ((copy_out 10 1).1.operands) refl; hides = hides_so one_hidden (written_places (meaning_of (copy_out 10 1).1.flags (copy_out 10 1).1.op) ((copy_out 10 1).1.operands)); leaves = λ c h. absurd (never_true h) }, (record { kept = kept_reused (λ r. r) ((return_10).1) ((return_10).1) refl; seen = tt; holds = λ state reached. alone_holds (λ r. r) state ((return_10).1.operands) refl; hides = hides_so one_hidden (written_places (meaning_of (return_10).1.flags (return_10).1.op) ((return_10).1.operands)); leaves = λ c h. absurd (never_true h) }, tt))));
-  falls = λ among. absurd (never_true among);
+  phis = λ w is_world. no_phis_follow gives_through_1 overwrites_1 0 all_seen w;
+  body = λ w is_world. (record { kept = kept_reused (λ r. r) ((copy_in 1 10 s32).1) ((copy_in 1 10 s32).1) refl; seen = tt; holds = λ state reached. alone_holds (λ r. r) state ((copy_in 1 10 s32).1.operands) refl; hides = hides_so all_seen (written_places (meaning_of (copy_in 1 10 s32).1.flags (copy_in 1 10 s32).1.op) ((copy_in 1 10 s32).1.operands)); leaves = λ c h. absurd (false≢true h) }, (hides_1 gives_through_1 overwrites_1 (λ b. all_seen) w 0 (copy_in 1 10 s32 ∷ []) all_seen all_seen_so (λ state. refl), (record { kept = kept_reused (λ r. r) ((copy_out 10 1).1) ((copy_out 10 1).1) refl; seen = tt; holds = λ state reached. alone_holds (λ r. r) state ((copy_out 10 1).1.operands) refl; hides = hides_so one_hidden (written_places (meaning_of (copy_out 10 1).1.flags (copy_out 10 1).1.op) ((copy_out 10 1).1.operands)); leaves = λ c h. absurd (false≢true h) }, (record { kept = kept_reused (λ r. r) ((return_10).1) ((return_10).1) refl; seen = tt; holds = λ state reached. alone_holds (λ r. r) state ((return_10).1.operands) refl; hides = hides_so one_hidden (written_places (meaning_of (return_10).1.flags (return_10).1.op) ((return_10).1.operands)); leaves = λ c h. absurd (false≢true h) }, tt))));
+  falls = λ among. absurd (false≢true among);
 }
 seen_places (suc b) = tt
 
 seen_not_idle : IsPieceNotIdle StaySeen
 seen_not_idle = record {
-  old = seen_old;
-  new = seen_new;
+  old = gives_through_1;
+  new = overwrites_1;
   owes = record { entries = (λ b. all_seen); rename = (λ r. r); places = seen_places };
-  refuted = refutes 32 names seen_old seen_new (world 1 2) (is_world_of 1 2 (lit< tt) (lit< tt)) 4 (Returned (1 ∷ []) counting 0) (Returned (2 ∷ []) counting 0) refl refl (λ e. apart_by 2 1 refl (returned_is 2 1 e)) (λ e. never_true (ap is_return e));
+  refuted = refutes 32 names gives_through_1 overwrites_1 (world 1 2) (is_world_of 1 2 (lit< tt) (lit< tt)) 4 (Returned (1 ∷ []) counting 0) (Returned (2 ∷ []) counting 0) refl refl (λ e. eqb-false 2 1 refl (returned_is 2 1 e)) (λ e. false≢true (ap is_return e));
 }
 
 -- ══ What replaces a register holds another value ══
 
-abbrev held_old : FunctionData
-held_old = function_of (block_of ([]) (copy_in 0 10 s32 ∷ copy_in 1 11 s32 ∷ copy_out 10 0 ∷ return_10 ∷ []) ∷ [])
-
-abbrev held_new : FunctionData
-held_new = function_of (block_of ([]) (copy_in 0 10 s32 ∷ copy_in 1 11 s32 ∷ copy_out 10 1 ∷ return_10 ∷ []) ∷ [])
-
-held_places : (b : ℕ) → BlockButAt (Some StayHeld) 32 held_old held_new (λ b. all_seen) zero_by_one b (slice_get held_old.blocks b) (slice_get held_new.blocks b)
+held_places : (b : ℕ) → BlockButAt (Some StayHeld) 32 gives_0_of_two gives_1_of_two (λ b. all_seen) zero_by_one b (slice_get gives_0_of_two.blocks b) (slice_get gives_1_of_two.blocks b)
 held_places zero = record {
   middle = all_seen;
   pieces = (Kept (copy_in 0 10 s32) (copy_in 0 10 s32), all_seen) ∷ (Kept (copy_in 1 11 s32) (copy_in 1 11 s32), all_seen) ∷ (Kept (copy_out 10 0) (copy_out 10 1), all_seen) ∷ (Kept (return_10) (return_10), all_seen) ∷ [];
   successors = refl;
   splits = refl;
   new_splits = refl;
-  phis = λ w is_world. no_phis_follow held_old held_new 0 all_seen w;
-  body = λ w is_world. (record { kept = kept_reused zero_by_one ((copy_in 0 10 s32).1) ((copy_in 0 10 s32).1) refl; seen = seen_by (setting_of 32 names held_old) (setting_of 32 names held_new) none zero_by_one ((copy_in 0 10 s32).1.operands) refl; holds = tt; hides = hides_so all_seen (written_places (meaning_of (copy_in 0 10 s32).1.flags (copy_in 0 10 s32).1.op) ((copy_in 0 10 s32).1.operands)); leaves = λ c h. absurd (never_true h) }, (record { kept = kept_reused zero_by_one ((copy_in 1 11 s32).1) ((copy_in 1 11 s32).1) refl; seen = seen_by (setting_of 32 names held_old) (setting_of 32 names held_new) none zero_by_one ((copy_in 1 11 s32).1.operands) refl; holds = tt; hides = hides_so all_seen (written_places (meaning_of (copy_in 1 11 s32).1.flags (copy_in 1 11 s32).1.op) ((copy_in 1 11 s32).1.operands)); leaves = λ c h. absurd (never_true h) }, (record { kept = kept_reused zero_by_one ((copy_out 10 0).1) ((copy_out 10 1).1) refl; seen = seen_by (setting_of 32 names held_old) (setting_of 32 names held_new) none zero_by_one ((copy_out 10 0).1.operands) refl; holds = tt; hides = hides_so all_seen (written_places (meaning_of (copy_out 10 0).1.flags (copy_out 10 0).1.op) ((copy_out 10 0).1.operands)); leaves = λ c h. absurd (never_true h) }, (record { kept = kept_reused zero_by_one ((return_10).1) ((return_10).1) refl; seen = seen_by (setting_of 32 names held_old) (setting_of 32 names held_new) none zero_by_one ((return_10).1.operands) refl; holds = tt; hides = hides_so all_seen (written_places (meaning_of (return_10).1.flags (return_10).1.op) ((return_10).1.operands)); leaves = λ c h. absurd (never_true h) }, tt))));
-  falls = λ among. absurd (never_true among);
+  phis = λ w is_world. no_phis_follow gives_0_of_two gives_1_of_two 0 all_seen w;
+  body = λ w is_world. (record { kept = kept_reused zero_by_one ((copy_in 0 10 s32).1) ((copy_in 0 10 s32).1) refl; seen = seen_by (setting_of 32 names gives_0_of_two) (setting_of 32 names gives_1_of_two) nothing zero_by_one ((copy_in 0 10 s32).1.operands) refl; holds = tt; hides = hides_so all_seen (written_places (meaning_of (copy_in 0 10 s32).1.flags (copy_in 0 10 s32).1.op) ((copy_in 0 10 s32).1.operands)); leaves = λ c h. absurd (false≢true h) }, (record { kept = kept_reused zero_by_one ((copy_in 1 11 s32).1) ((copy_in 1 11 s32).1) refl; seen = seen_by (setting_of 32 names gives_0_of_two) (setting_of 32 names gives_1_of_two) nothing zero_by_one ((copy_in 1 11 s32).1.operands) refl; holds = tt; hides = hides_so all_seen (written_places (meaning_of (copy_in 1 11 s32).1.flags (copy_in 1 11 s32).1.op) ((copy_in 1 11 s32).1.operands)); leaves = λ c h. absurd (false≢true h) }, (record { kept = kept_reused zero_by_one ((copy_out 10 0).1) ((copy_out 10 1).1) refl; seen = seen_by (setting_of 32 names gives_0_of_two) (setting_of 32 names gives_1_of_two) nothing zero_by_one ((copy_out 10 0).1.operands) refl; holds = tt; hides = hides_so all_seen (written_places (meaning_of (copy_out 10 0).1.flags (copy_out 10 0).1.op) ((copy_out 10 0).1.operands)); leaves = λ c h. absurd (false≢true h) }, (record { kept = kept_reused zero_by_one ((return_10).1) ((return_10).1) refl; seen = seen_by (setting_of 32 names gives_0_of_two) (setting_of 32 names gives_1_of_two) nothing zero_by_one ((return_10).1.operands) refl; holds = tt; hides = hides_so all_seen (written_places (meaning_of (return_10).1.flags (return_10).1.op) ((return_10).1.operands)); leaves = λ c h. absurd (false≢true h) }, tt))));
+  falls = λ among. absurd (false≢true among);
 }
 held_places (suc b) = tt
 
 held_not_idle : IsPieceNotIdle StayHeld
 held_not_idle = record {
-  old = held_old;
-  new = held_new;
+  old = gives_0_of_two;
+  new = gives_1_of_two;
   owes = record { entries = (λ b. all_seen); rename = zero_by_one; places = held_places };
-  refuted = refutes 32 names held_old held_new (world 1 2) (is_world_of 1 2 (lit< tt) (lit< tt)) 4 (Returned (1 ∷ []) counting 0) (Returned (2 ∷ []) counting 0) refl refl (λ e. apart_by 2 1 refl (returned_is 2 1 e)) (λ e. never_true (ap is_return e));
+  refuted = refutes 32 names gives_0_of_two gives_1_of_two (world 1 2) (is_world_of 1 2 (lit< tt) (lit< tt)) 4 (Returned (1 ∷ []) counting 0) (Returned (2 ∷ []) counting 0) refl refl (λ e. eqb-false 2 1 refl (returned_is 2 1 e)) (λ e. false≢true (ap is_return e));
 }
 
 -- ══ Less is hidden after an instruction than before, though it writes another place ══
@@ -189,8 +172,8 @@ hides_places zero = record {
   splits = refl;
   new_splits = refl;
   phis = λ w is_world. no_phis_follow hides_old hides_new 0 all_seen w;
-  body = λ w is_world. (record { kept = kept_reused (λ r. r) ((copy_in 1 10 s32).1) ((copy_in 1 10 s32).1) refl; seen = seen_by (setting_of 32 names hides_old) (setting_of 32 names hides_new) none (λ r. r) ((copy_in 1 10 s32).1.operands) refl; holds = λ state reached. alone_holds (λ r. r) state ((copy_in 1 10 s32).1.operands) refl; hides = tt; leaves = λ c h. absurd (never_true h) }, (hides_1 hides_old hides_new (λ b. all_seen) w 0 (copy_in 1 10 s32 ∷ []) all_seen all_seen_so (λ state. refl), (record { kept = kept_reused (λ r. r) ((copy_in 0 10 s32).1) ((copy_in 0 10 s32).1) refl; seen = seen_by (setting_of 32 names hides_old) (setting_of 32 names hides_new) only_1 (λ r. r) ((copy_in 0 10 s32).1.operands) refl; holds = λ state reached. alone_holds (λ r. r) state ((copy_in 0 10 s32).1.operands) refl; hides = tt; leaves = λ c h. absurd (never_true h) }, (record { kept = kept_reused (λ r. r) ((copy_out 10 1).1) ((copy_out 10 1).1) refl; seen = seen_by (setting_of 32 names hides_old) (setting_of 32 names hides_new) none (λ r. r) ((copy_out 10 1).1.operands) refl; holds = λ state reached. alone_holds (λ r. r) state ((copy_out 10 1).1.operands) refl; hides = tt; leaves = λ c h. absurd (never_true h) }, (record { kept = kept_reused (λ r. r) ((return_10).1) ((return_10).1) refl; seen = seen_by (setting_of 32 names hides_old) (setting_of 32 names hides_new) none (λ r. r) ((return_10).1.operands) refl; holds = λ state reached. alone_holds (λ r. r) state ((return_10).1.operands) refl; hides = tt; leaves = λ c h. absurd (never_true h) }, tt)))));
-  falls = λ among. absurd (never_true among);
+  body = λ w is_world. (record { kept = kept_reused (λ r. r) ((copy_in 1 10 s32).1) ((copy_in 1 10 s32).1) refl; seen = seen_by (setting_of 32 names hides_old) (setting_of 32 names hides_new) nothing (λ r. r) ((copy_in 1 10 s32).1.operands) refl; holds = λ state reached. alone_holds (λ r. r) state ((copy_in 1 10 s32).1.operands) refl; hides = tt; leaves = λ c h. absurd (false≢true h) }, (hides_1 hides_old hides_new (λ b. all_seen) w 0 (copy_in 1 10 s32 ∷ []) all_seen all_seen_so (λ state. refl), (record { kept = kept_reused (λ r. r) ((copy_in 0 10 s32).1) ((copy_in 0 10 s32).1) refl; seen = seen_by (setting_of 32 names hides_old) (setting_of 32 names hides_new) (only 1) (λ r. r) ((copy_in 0 10 s32).1.operands) refl; holds = λ state reached. alone_holds (λ r. r) state ((copy_in 0 10 s32).1.operands) refl; hides = tt; leaves = λ c h. absurd (false≢true h) }, (record { kept = kept_reused (λ r. r) ((copy_out 10 1).1) ((copy_out 10 1).1) refl; seen = seen_by (setting_of 32 names hides_old) (setting_of 32 names hides_new) nothing (λ r. r) ((copy_out 10 1).1.operands) refl; holds = λ state reached. alone_holds (λ r. r) state ((copy_out 10 1).1.operands) refl; hides = tt; leaves = λ c h. absurd (false≢true h) }, (record { kept = kept_reused (λ r. r) ((return_10).1) ((return_10).1) refl; seen = seen_by (setting_of 32 names hides_old) (setting_of 32 names hides_new) nothing (λ r. r) ((return_10).1.operands) refl; holds = λ state reached. alone_holds (λ r. r) state ((return_10).1.operands) refl; hides = tt; leaves = λ c h. absurd (false≢true h) }, tt)))));
+  falls = λ among. absurd (false≢true among);
 }
 hides_places (suc b) = tt
 
@@ -199,7 +182,7 @@ hides_not_idle = record {
   old = hides_old;
   new = hides_new;
   owes = record { entries = (λ b. all_seen); rename = (λ r. r); places = hides_places };
-  refuted = refutes 32 names hides_old hides_new (world 1 2) (is_world_of 1 2 (lit< tt) (lit< tt)) 4 (Returned (1 ∷ []) counting 0) (Returned (2 ∷ []) counting 0) refl refl (λ e. apart_by 2 1 refl (returned_is 2 1 e)) (λ e. never_true (ap is_return e));
+  refuted = refutes 32 names hides_old hides_new (world 1 2) (is_world_of 1 2 (lit< tt) (lit< tt)) 4 (Returned (1 ∷ []) counting 0) (Returned (2 ∷ []) counting 0) refl refl (λ e. eqb-false 2 1 refl (returned_is 2 1 e)) (λ e. false≢true (ap is_return e));
 }
 
 -- ══ A branch goes to a block at whose entry less is hidden ══
@@ -218,8 +201,8 @@ leaves_places zero = record {
   splits = refl;
   new_splits = refl;
   phis = λ w is_world. no_phis_follow leaves_old leaves_new 0 all_seen w;
-  body = λ w is_world. (record { kept = kept_reused (λ r. r) ((copy_in 1 10 s32).1) ((copy_in 1 10 s32).1) refl; seen = seen_by (setting_of 32 names leaves_old) (setting_of 32 names leaves_new) none (λ r. r) ((copy_in 1 10 s32).1.operands) refl; holds = λ state reached. alone_holds (λ r. r) state ((copy_in 1 10 s32).1.operands) refl; hides = hides_so all_seen (written_places (meaning_of (copy_in 1 10 s32).1.flags (copy_in 1 10 s32).1.op) ((copy_in 1 10 s32).1.operands)); leaves = tt }, (hides_1 leaves_old leaves_new (λ b. all_seen) w 0 (copy_in 1 10 s32 ∷ []) all_seen all_seen_so (λ state. refl), (record { kept = kept_reused (λ r. r) ((branch_2).1) ((branch_2).1) refl; seen = seen_by (setting_of 32 names leaves_old) (setting_of 32 names leaves_new) only_1 (λ r. r) ((branch_2).1.operands) refl; holds = λ state reached. alone_holds (λ r. r) state ((branch_2).1.operands) refl; hides = hides_so one_hidden (written_places (meaning_of (branch_2).1.flags (branch_2).1.op) ((branch_2).1.operands)); leaves = tt }, tt)));
-  falls = λ among. absurd (never_true among);
+  body = λ w is_world. (record { kept = kept_reused (λ r. r) ((copy_in 1 10 s32).1) ((copy_in 1 10 s32).1) refl; seen = seen_by (setting_of 32 names leaves_old) (setting_of 32 names leaves_new) nothing (λ r. r) ((copy_in 1 10 s32).1.operands) refl; holds = λ state reached. alone_holds (λ r. r) state ((copy_in 1 10 s32).1.operands) refl; hides = hides_so all_seen (written_places (meaning_of (copy_in 1 10 s32).1.flags (copy_in 1 10 s32).1.op) ((copy_in 1 10 s32).1.operands)); leaves = tt }, (hides_1 leaves_old leaves_new (λ b. all_seen) w 0 (copy_in 1 10 s32 ∷ []) all_seen all_seen_so (λ state. refl), (record { kept = kept_reused (λ r. r) ((branch_2).1) ((branch_2).1) refl; seen = seen_by (setting_of 32 names leaves_old) (setting_of 32 names leaves_new) (only 1) (λ r. r) ((branch_2).1.operands) refl; holds = λ state reached. alone_holds (λ r. r) state ((branch_2).1.operands) refl; hides = hides_so one_hidden (written_places (meaning_of (branch_2).1.flags (branch_2).1.op) ((branch_2).1.operands)); leaves = tt }, tt)));
+  falls = λ among. absurd (false≢true among);
 }
 leaves_places (suc zero) = record {
   middle = all_seen;
@@ -228,8 +211,8 @@ leaves_places (suc zero) = record {
   splits = refl;
   new_splits = refl;
   phis = λ w is_world. no_phis_follow leaves_old leaves_new 1 all_seen w;
-  body = λ w is_world. (record { kept = kept_reused (λ r. r) ((return_10).1) ((return_10).1) refl; seen = seen_by (setting_of 32 names leaves_old) (setting_of 32 names leaves_new) none (λ r. r) ((return_10).1.operands) refl; holds = λ state reached. alone_holds (λ r. r) state ((return_10).1.operands) refl; hides = hides_so all_seen (written_places (meaning_of (return_10).1.flags (return_10).1.op) ((return_10).1.operands)); leaves = tt }, tt);
-  falls = λ among. absurd (never_true among);
+  body = λ w is_world. (record { kept = kept_reused (λ r. r) ((return_10).1) ((return_10).1) refl; seen = seen_by (setting_of 32 names leaves_old) (setting_of 32 names leaves_new) nothing (λ r. r) ((return_10).1.operands) refl; holds = λ state reached. alone_holds (λ r. r) state ((return_10).1.operands) refl; hides = hides_so all_seen (written_places (meaning_of (return_10).1.flags (return_10).1.op) ((return_10).1.operands)); leaves = tt }, tt);
+  falls = λ among. absurd (false≢true among);
 }
 leaves_places (suc (suc zero)) = record {
   middle = all_seen;
@@ -238,8 +221,8 @@ leaves_places (suc (suc zero)) = record {
   splits = refl;
   new_splits = refl;
   phis = λ w is_world. no_phis_follow leaves_old leaves_new 2 all_seen w;
-  body = λ w is_world. (record { kept = kept_reused (λ r. r) ((copy_out 10 1).1) ((copy_out 10 1).1) refl; seen = seen_by (setting_of 32 names leaves_old) (setting_of 32 names leaves_new) none (λ r. r) ((copy_out 10 1).1.operands) refl; holds = λ state reached. alone_holds (λ r. r) state ((copy_out 10 1).1.operands) refl; hides = hides_so all_seen (written_places (meaning_of (copy_out 10 1).1.flags (copy_out 10 1).1.op) ((copy_out 10 1).1.operands)); leaves = tt }, (record { kept = kept_reused (λ r. r) ((return_10).1) ((return_10).1) refl; seen = seen_by (setting_of 32 names leaves_old) (setting_of 32 names leaves_new) none (λ r. r) ((return_10).1.operands) refl; holds = λ state reached. alone_holds (λ r. r) state ((return_10).1.operands) refl; hides = hides_so all_seen (written_places (meaning_of (return_10).1.flags (return_10).1.op) ((return_10).1.operands)); leaves = tt }, tt));
-  falls = λ among. absurd (never_true among);
+  body = λ w is_world. (record { kept = kept_reused (λ r. r) ((copy_out 10 1).1) ((copy_out 10 1).1) refl; seen = seen_by (setting_of 32 names leaves_old) (setting_of 32 names leaves_new) nothing (λ r. r) ((copy_out 10 1).1.operands) refl; holds = λ state reached. alone_holds (λ r. r) state ((copy_out 10 1).1.operands) refl; hides = hides_so all_seen (written_places (meaning_of (copy_out 10 1).1.flags (copy_out 10 1).1.op) ((copy_out 10 1).1.operands)); leaves = tt }, (record { kept = kept_reused (λ r. r) ((return_10).1) ((return_10).1) refl; seen = seen_by (setting_of 32 names leaves_old) (setting_of 32 names leaves_new) nothing (λ r. r) ((return_10).1.operands) refl; holds = λ state reached. alone_holds (λ r. r) state ((return_10).1.operands) refl; hides = hides_so all_seen (written_places (meaning_of (return_10).1.flags (return_10).1.op) ((return_10).1.operands)); leaves = tt }, tt));
+  falls = λ among. absurd (false≢true among);
 }
 leaves_places (suc (suc (suc b))) = tt
 
@@ -248,47 +231,35 @@ leaves_not_idle = record {
   old = leaves_old;
   new = leaves_new;
   owes = record { entries = (λ b. all_seen); rename = (λ r. r); places = leaves_places };
-  refuted = refutes 32 names leaves_old leaves_new (world 1 2) (is_world_of 1 2 (lit< tt) (lit< tt)) 4 (Returned (1 ∷ []) counting 0) (Returned (2 ∷ []) counting 0) refl refl (λ e. apart_by 2 1 refl (returned_is 2 1 e)) (λ e. never_true (ap is_return e));
+  refuted = refutes 32 names leaves_old leaves_new (world 1 2) (is_world_of 1 2 (lit< tt) (lit< tt)) 4 (Returned (1 ∷ []) counting 0) (Returned (2 ∷ []) counting 0) refl refl (λ e. eqb-false 2 1 refl (returned_is 2 1 e)) (λ e. false≢true (ap is_return e));
 }
 
 -- ══ A changed piece does something else ══
 
-abbrev changed_old : FunctionData
-changed_old = function_of (block_of ([]) (return_10 ∷ []) ∷ [])
-
-abbrev changed_new : FunctionData
-changed_new = function_of (block_of ([]) (other_word ∷ return_10 ∷ []) ∷ [])
-
-changed_places : (b : ℕ) → BlockButAt (Some PieceChanged) 32 changed_old changed_new (λ b. all_seen) (λ r. r) b (slice_get changed_old.blocks b) (slice_get changed_new.blocks b)
+changed_places : (b : ℕ) → BlockButAt (Some PieceChanged) 32 returns_alone returns_other (λ b. all_seen) (λ r. r) b (slice_get returns_alone.blocks b) (slice_get returns_other.blocks b)
 changed_places zero = record {
   middle = all_seen;
   pieces = (Changed [] (other_word ∷ []), all_seen) ∷ (Kept (return_10) (return_10), all_seen) ∷ [];
   successors = refl;
   splits = refl;
   new_splits = refl;
-  phis = λ w is_world. no_phis_follow changed_old changed_new 0 all_seen w;
-  body = λ w is_world. (tt, (record { kept = kept_reused (λ r. r) ((return_10).1) ((return_10).1) refl; seen = seen_by (setting_of 32 names changed_old) (setting_of 32 names changed_new) none (λ r. r) ((return_10).1.operands) refl; holds = λ state reached. alone_holds (λ r. r) state ((return_10).1.operands) refl; hides = hides_so all_seen (written_places (meaning_of (return_10).1.flags (return_10).1.op) ((return_10).1.operands)); leaves = λ c h. absurd (never_true h) }, tt));
-  falls = λ among. absurd (never_true among);
+  phis = λ w is_world. no_phis_follow returns_alone returns_other 0 all_seen w;
+  body = λ w is_world. (tt, (record { kept = kept_reused (λ r. r) ((return_10).1) ((return_10).1) refl; seen = seen_by (setting_of 32 names returns_alone) (setting_of 32 names returns_other) nothing (λ r. r) ((return_10).1.operands) refl; holds = λ state reached. alone_holds (λ r. r) state ((return_10).1.operands) refl; hides = hides_so all_seen (written_places (meaning_of (return_10).1.flags (return_10).1.op) ((return_10).1.operands)); leaves = λ c h. absurd (false≢true h) }, tt));
+  falls = λ among. absurd (false≢true among);
 }
 changed_places (suc b) = tt
 
 changed_not_idle : IsPieceNotIdle PieceChanged
 changed_not_idle = record {
-  old = changed_old;
-  new = changed_new;
+  old = returns_alone;
+  new = returns_other;
   owes = record { entries = (λ b. all_seen); rename = (λ r. r); places = changed_places };
-  refuted = refutes 32 names changed_old changed_new (world 1 2) (is_world_of 1 2 (lit< tt) (lit< tt)) 4 (Returned (1 ∷ []) counting 0) (Returned (2 ∷ []) counting 0) refl refl (λ e. apart_by 2 1 refl (returned_is 2 1 e)) (λ e. never_true (ap is_return e));
+  refuted = refutes 32 names returns_alone returns_other (world 1 2) (is_world_of 1 2 (lit< tt) (lit< tt)) 4 (Returned (1 ∷ []) counting 0) (Returned (2 ∷ []) counting 0) refl refl (λ e. eqb-false 2 1 refl (returned_is 2 1 e)) (λ e. false≢true (ap is_return e));
 }
 
 -- ══ A phi takes another register ══
 
-abbrev phis_old : FunctionData
-phis_old = function_of (block_of (1 ∷ []) (copy_in 0 10 s32 ∷ copy_in 1 11 s32 ∷ []) ∷ block_of ([]) (phi_of 2 0 s32 ∷ copy_out 10 2 ∷ return_10 ∷ []) ∷ [])
-
-abbrev phis_new : FunctionData
-phis_new = function_of (block_of (1 ∷ []) (copy_in 0 10 s32 ∷ copy_in 1 11 s32 ∷ []) ∷ block_of ([]) (phi_of 2 1 s32 ∷ copy_out 10 2 ∷ return_10 ∷ []) ∷ [])
-
-phis_places : (b : ℕ) → BlockButAt (Some PhisFollowing) 32 phis_old phis_new (λ b. all_seen) (λ r. r) b (slice_get phis_old.blocks b) (slice_get phis_new.blocks b)
+phis_places : (b : ℕ) → BlockButAt (Some PhisFollowing) 32 phi_takes_0 phi_takes_1 (λ b. all_seen) (λ r. r) b (slice_get phi_takes_0.blocks b) (slice_get phi_takes_1.blocks b)
 phis_places zero = record {
   middle = all_seen;
   pieces = (Kept (copy_in 0 10 s32) (copy_in 0 10 s32), all_seen) ∷ (Kept (copy_in 1 11 s32) (copy_in 1 11 s32), all_seen) ∷ [];
@@ -296,7 +267,7 @@ phis_places zero = record {
   splits = refl;
   new_splits = refl;
   phis = tt;
-  body = λ w is_world. (record { kept = kept_reused (λ r. r) ((copy_in 0 10 s32).1) ((copy_in 0 10 s32).1) refl; seen = seen_by (setting_of 32 names phis_old) (setting_of 32 names phis_new) none (λ r. r) ((copy_in 0 10 s32).1.operands) refl; holds = λ state reached. alone_holds (λ r. r) state ((copy_in 0 10 s32).1.operands) refl; hides = hides_so all_seen (written_places (meaning_of (copy_in 0 10 s32).1.flags (copy_in 0 10 s32).1.op) ((copy_in 0 10 s32).1.operands)); leaves = λ c h. absurd (never_true h) }, (record { kept = kept_reused (λ r. r) ((copy_in 1 11 s32).1) ((copy_in 1 11 s32).1) refl; seen = seen_by (setting_of 32 names phis_old) (setting_of 32 names phis_new) none (λ r. r) ((copy_in 1 11 s32).1.operands) refl; holds = λ state reached. alone_holds (λ r. r) state ((copy_in 1 11 s32).1.operands) refl; hides = hides_so all_seen (written_places (meaning_of (copy_in 1 11 s32).1.flags (copy_in 1 11 s32).1.op) ((copy_in 1 11 s32).1.operands)); leaves = λ c h. absurd (never_true h) }, tt));
+  body = λ w is_world. (record { kept = kept_reused (λ r. r) ((copy_in 0 10 s32).1) ((copy_in 0 10 s32).1) refl; seen = seen_by (setting_of 32 names phi_takes_0) (setting_of 32 names phi_takes_1) nothing (λ r. r) ((copy_in 0 10 s32).1.operands) refl; holds = λ state reached. alone_holds (λ r. r) state ((copy_in 0 10 s32).1.operands) refl; hides = hides_so all_seen (written_places (meaning_of (copy_in 0 10 s32).1.flags (copy_in 0 10 s32).1.op) ((copy_in 0 10 s32).1.operands)); leaves = λ c h. absurd (false≢true h) }, (record { kept = kept_reused (λ r. r) ((copy_in 1 11 s32).1) ((copy_in 1 11 s32).1) refl; seen = seen_by (setting_of 32 names phi_takes_0) (setting_of 32 names phi_takes_1) nothing (λ r. r) ((copy_in 1 11 s32).1.operands) refl; holds = λ state reached. alone_holds (λ r. r) state ((copy_in 1 11 s32).1.operands) refl; hides = hides_so all_seen (written_places (meaning_of (copy_in 1 11 s32).1.flags (copy_in 1 11 s32).1.op) ((copy_in 1 11 s32).1.operands)); leaves = λ c h. absurd (false≢true h) }, tt));
   falls = λ among. covers_so all_seen;
 }
 phis_places (suc zero) = record {
@@ -306,17 +277,17 @@ phis_places (suc zero) = record {
   splits = refl;
   new_splits = refl;
   phis = tt;
-  body = λ w is_world. (record { kept = kept_reused (λ r. r) ((copy_out 10 2).1) ((copy_out 10 2).1) refl; seen = seen_by (setting_of 32 names phis_old) (setting_of 32 names phis_new) none (λ r. r) ((copy_out 10 2).1.operands) refl; holds = λ state reached. alone_holds (λ r. r) state ((copy_out 10 2).1.operands) refl; hides = hides_so all_seen (written_places (meaning_of (copy_out 10 2).1.flags (copy_out 10 2).1.op) ((copy_out 10 2).1.operands)); leaves = λ c h. absurd (never_true h) }, (record { kept = kept_reused (λ r. r) ((return_10).1) ((return_10).1) refl; seen = seen_by (setting_of 32 names phis_old) (setting_of 32 names phis_new) none (λ r. r) ((return_10).1.operands) refl; holds = λ state reached. alone_holds (λ r. r) state ((return_10).1.operands) refl; hides = hides_so all_seen (written_places (meaning_of (return_10).1.flags (return_10).1.op) ((return_10).1.operands)); leaves = λ c h. absurd (never_true h) }, tt));
-  falls = λ among. absurd (never_true among);
+  body = λ w is_world. (record { kept = kept_reused (λ r. r) ((copy_out 10 2).1) ((copy_out 10 2).1) refl; seen = seen_by (setting_of 32 names phi_takes_0) (setting_of 32 names phi_takes_1) nothing (λ r. r) ((copy_out 10 2).1.operands) refl; holds = λ state reached. alone_holds (λ r. r) state ((copy_out 10 2).1.operands) refl; hides = hides_so all_seen (written_places (meaning_of (copy_out 10 2).1.flags (copy_out 10 2).1.op) ((copy_out 10 2).1.operands)); leaves = λ c h. absurd (false≢true h) }, (record { kept = kept_reused (λ r. r) ((return_10).1) ((return_10).1) refl; seen = seen_by (setting_of 32 names phi_takes_0) (setting_of 32 names phi_takes_1) nothing (λ r. r) ((return_10).1.operands) refl; holds = λ state reached. alone_holds (λ r. r) state ((return_10).1.operands) refl; hides = hides_so all_seen (written_places (meaning_of (return_10).1.flags (return_10).1.op) ((return_10).1.operands)); leaves = λ c h. absurd (false≢true h) }, tt));
+  falls = λ among. absurd (false≢true among);
 }
 phis_places (suc (suc b)) = tt
 
 phis_not_idle : IsPieceNotIdle PhisFollowing
 phis_not_idle = record {
-  old = phis_old;
-  new = phis_new;
+  old = phi_takes_0;
+  new = phi_takes_1;
   owes = record { entries = (λ b. all_seen); rename = (λ r. r); places = phis_places };
-  refuted = refutes 32 names phis_old phis_new (world 1 2) (is_world_of 1 2 (lit< tt) (lit< tt)) 4 (Returned (1 ∷ []) counting 0) (Returned (2 ∷ []) counting 0) refl refl (λ e. apart_by 2 1 refl (returned_is 2 1 e)) (λ e. never_true (ap is_return e));
+  refuted = refutes 32 names phi_takes_0 phi_takes_1 (world 1 2) (is_world_of 1 2 (lit< tt) (lit< tt)) 4 (Returned (1 ∷ []) counting 0) (Returned (2 ∷ []) counting 0) refl refl (λ e. eqb-false 2 1 refl (returned_is 2 1 e)) (λ e. false≢true (ap is_return e));
 }
 
 -- ══ The next block is entered where less is hidden ══
@@ -335,7 +306,7 @@ falls_places zero = record {
   splits = refl;
   new_splits = refl;
   phis = λ w is_world. no_phis_follow falls_old falls_new 0 all_seen w;
-  body = λ w is_world. (record { kept = kept_reused (λ r. r) ((copy_in 1 10 s32).1) ((copy_in 1 10 s32).1) refl; seen = seen_by (setting_of 32 names falls_old) (setting_of 32 names falls_new) none (λ r. r) ((copy_in 1 10 s32).1.operands) refl; holds = λ state reached. alone_holds (λ r. r) state ((copy_in 1 10 s32).1.operands) refl; hides = hides_so all_seen (written_places (meaning_of (copy_in 1 10 s32).1.flags (copy_in 1 10 s32).1.op) ((copy_in 1 10 s32).1.operands)); leaves = λ c h. absurd (never_true h) }, (hides_1 falls_old falls_new (λ b. all_seen) w 0 (copy_in 1 10 s32 ∷ []) all_seen all_seen_so (λ state. refl), tt));
+  body = λ w is_world. (record { kept = kept_reused (λ r. r) ((copy_in 1 10 s32).1) ((copy_in 1 10 s32).1) refl; seen = seen_by (setting_of 32 names falls_old) (setting_of 32 names falls_new) nothing (λ r. r) ((copy_in 1 10 s32).1.operands) refl; holds = λ state reached. alone_holds (λ r. r) state ((copy_in 1 10 s32).1.operands) refl; hides = hides_so all_seen (written_places (meaning_of (copy_in 1 10 s32).1.flags (copy_in 1 10 s32).1.op) ((copy_in 1 10 s32).1.operands)); leaves = λ c h. absurd (false≢true h) }, (hides_1 falls_old falls_new (λ b. all_seen) w 0 (copy_in 1 10 s32 ∷ []) all_seen all_seen_so (λ state. refl), tt));
   falls = tt;
 }
 falls_places (suc zero) = record {
@@ -345,7 +316,7 @@ falls_places (suc zero) = record {
   splits = refl;
   new_splits = refl;
   phis = λ w is_world. no_phis_follow falls_old falls_new 1 all_seen w;
-  body = λ w is_world. (record { kept = kept_reused (λ r. r) ((copy_out 10 1).1) ((copy_out 10 1).1) refl; seen = seen_by (setting_of 32 names falls_old) (setting_of 32 names falls_new) none (λ r. r) ((copy_out 10 1).1.operands) refl; holds = λ state reached. alone_holds (λ r. r) state ((copy_out 10 1).1.operands) refl; hides = hides_so all_seen (written_places (meaning_of (copy_out 10 1).1.flags (copy_out 10 1).1.op) ((copy_out 10 1).1.operands)); leaves = λ c h. absurd (never_true h) }, (record { kept = kept_reused (λ r. r) ((return_10).1) ((return_10).1) refl; seen = seen_by (setting_of 32 names falls_old) (setting_of 32 names falls_new) none (λ r. r) ((return_10).1.operands) refl; holds = λ state reached. alone_holds (λ r. r) state ((return_10).1.operands) refl; hides = hides_so all_seen (written_places (meaning_of (return_10).1.flags (return_10).1.op) ((return_10).1.operands)); leaves = λ c h. absurd (never_true h) }, tt));
+  body = λ w is_world. (record { kept = kept_reused (λ r. r) ((copy_out 10 1).1) ((copy_out 10 1).1) refl; seen = seen_by (setting_of 32 names falls_old) (setting_of 32 names falls_new) nothing (λ r. r) ((copy_out 10 1).1.operands) refl; holds = λ state reached. alone_holds (λ r. r) state ((copy_out 10 1).1.operands) refl; hides = hides_so all_seen (written_places (meaning_of (copy_out 10 1).1.flags (copy_out 10 1).1.op) ((copy_out 10 1).1.operands)); leaves = λ c h. absurd (false≢true h) }, (record { kept = kept_reused (λ r. r) ((return_10).1) ((return_10).1) refl; seen = seen_by (setting_of 32 names falls_old) (setting_of 32 names falls_new) nothing (λ r. r) ((return_10).1.operands) refl; holds = λ state reached. alone_holds (λ r. r) state ((return_10).1.operands) refl; hides = hides_so all_seen (written_places (meaning_of (return_10).1.flags (return_10).1.op) ((return_10).1.operands)); leaves = λ c h. absurd (false≢true h) }, tt));
   falls = tt;
 }
 falls_places (suc (suc b)) = tt
@@ -355,26 +326,20 @@ falls_not_idle = record {
   old = falls_old;
   new = falls_new;
   owes = record { entries = (λ b. all_seen); rename = (λ r. r); places = falls_places };
-  refuted = refutes 32 names falls_old falls_new (world 1 2) (is_world_of 1 2 (lit< tt) (lit< tt)) 4 (Returned (1 ∷ []) counting 0) (Returned (2 ∷ []) counting 0) refl refl (λ e. apart_by 2 1 refl (returned_is 2 1 e)) (λ e. never_true (ap is_return e));
+  refuted = refutes 32 names falls_old falls_new (world 1 2) (is_world_of 1 2 (lit< tt) (lit< tt)) 4 (Returned (1 ∷ []) counting 0) (Returned (2 ∷ []) counting 0) refl refl (λ e. eqb-false 2 1 refl (returned_is 2 1 e)) (λ e. false≢true (ap is_return e));
 }
 
 -- ══ A block has lost its successor ══
 
-abbrev successors_old : FunctionData
-successors_old = function_of (block_of (1 ∷ []) (copy_in 0 10 s32 ∷ []) ∷ block_of ([]) (copy_out 10 0 ∷ return_10 ∷ []) ∷ [])
-
-abbrev successors_new : FunctionData
-successors_new = function_of (block_of ([]) (copy_in 0 10 s32 ∷ []) ∷ block_of ([]) (copy_out 10 0 ∷ return_10 ∷ []) ∷ [])
-
-successors_places : (b : ℕ) → BlockButAt (Some BlockSuccessors) 32 successors_old successors_new (λ b. all_seen) (λ r. r) b (slice_get successors_old.blocks b) (slice_get successors_new.blocks b)
+successors_places : (b : ℕ) → BlockButAt (Some BlockSuccessors) 32 goes_on stays_there (λ b. all_seen) (λ r. r) b (slice_get goes_on.blocks b) (slice_get stays_there.blocks b)
 successors_places zero = record {
   middle = all_seen;
   pieces = (Kept (copy_in 0 10 s32) (copy_in 0 10 s32), all_seen) ∷ [];
   successors = tt;
   splits = refl;
   new_splits = refl;
-  phis = λ w is_world. no_phis_follow successors_old successors_new 0 all_seen w;
-  body = λ w is_world. (record { kept = kept_reused (λ r. r) ((copy_in 0 10 s32).1) ((copy_in 0 10 s32).1) refl; seen = seen_by (setting_of 32 names successors_old) (setting_of 32 names successors_new) none (λ r. r) ((copy_in 0 10 s32).1.operands) refl; holds = λ state reached. alone_holds (λ r. r) state ((copy_in 0 10 s32).1.operands) refl; hides = hides_so all_seen (written_places (meaning_of (copy_in 0 10 s32).1.flags (copy_in 0 10 s32).1.op) ((copy_in 0 10 s32).1.operands)); leaves = λ c h. absurd (never_true h) }, tt);
+  phis = λ w is_world. no_phis_follow goes_on stays_there 0 all_seen w;
+  body = λ w is_world. (record { kept = kept_reused (λ r. r) ((copy_in 0 10 s32).1) ((copy_in 0 10 s32).1) refl; seen = seen_by (setting_of 32 names goes_on) (setting_of 32 names stays_there) nothing (λ r. r) ((copy_in 0 10 s32).1.operands) refl; holds = λ state reached. alone_holds (λ r. r) state ((copy_in 0 10 s32).1.operands) refl; hides = hides_so all_seen (written_places (meaning_of (copy_in 0 10 s32).1.flags (copy_in 0 10 s32).1.op) ((copy_in 0 10 s32).1.operands)); leaves = λ c h. absurd (false≢true h) }, tt);
   falls = λ among. covers_so all_seen;
 }
 successors_places (suc zero) = record {
@@ -383,18 +348,18 @@ successors_places (suc zero) = record {
   successors = tt;
   splits = refl;
   new_splits = refl;
-  phis = λ w is_world. no_phis_follow successors_old successors_new 1 all_seen w;
-  body = λ w is_world. (record { kept = kept_reused (λ r. r) ((copy_out 10 0).1) ((copy_out 10 0).1) refl; seen = seen_by (setting_of 32 names successors_old) (setting_of 32 names successors_new) none (λ r. r) ((copy_out 10 0).1.operands) refl; holds = λ state reached. alone_holds (λ r. r) state ((copy_out 10 0).1.operands) refl; hides = hides_so all_seen (written_places (meaning_of (copy_out 10 0).1.flags (copy_out 10 0).1.op) ((copy_out 10 0).1.operands)); leaves = λ c h. absurd (never_true h) }, (record { kept = kept_reused (λ r. r) ((return_10).1) ((return_10).1) refl; seen = seen_by (setting_of 32 names successors_old) (setting_of 32 names successors_new) none (λ r. r) ((return_10).1.operands) refl; holds = λ state reached. alone_holds (λ r. r) state ((return_10).1.operands) refl; hides = hides_so all_seen (written_places (meaning_of (return_10).1.flags (return_10).1.op) ((return_10).1.operands)); leaves = λ c h. absurd (never_true h) }, tt));
-  falls = λ among. absurd (never_true among);
+  phis = λ w is_world. no_phis_follow goes_on stays_there 1 all_seen w;
+  body = λ w is_world. (record { kept = kept_reused (λ r. r) ((copy_out 10 0).1) ((copy_out 10 0).1) refl; seen = seen_by (setting_of 32 names goes_on) (setting_of 32 names stays_there) nothing (λ r. r) ((copy_out 10 0).1.operands) refl; holds = λ state reached. alone_holds (λ r. r) state ((copy_out 10 0).1.operands) refl; hides = hides_so all_seen (written_places (meaning_of (copy_out 10 0).1.flags (copy_out 10 0).1.op) ((copy_out 10 0).1.operands)); leaves = λ c h. absurd (false≢true h) }, (record { kept = kept_reused (λ r. r) ((return_10).1) ((return_10).1) refl; seen = seen_by (setting_of 32 names goes_on) (setting_of 32 names stays_there) nothing (λ r. r) ((return_10).1.operands) refl; holds = λ state reached. alone_holds (λ r. r) state ((return_10).1.operands) refl; hides = hides_so all_seen (written_places (meaning_of (return_10).1.flags (return_10).1.op) ((return_10).1.operands)); leaves = λ c h. absurd (false≢true h) }, tt));
+  falls = λ among. absurd (false≢true among);
 }
 successors_places (suc (suc b)) = tt
 
 successors_not_idle : IsPieceNotIdle BlockSuccessors
 successors_not_idle = record {
-  old = successors_old;
-  new = successors_new;
+  old = goes_on;
+  new = stays_there;
   owes = record { entries = (λ b. all_seen); rename = (λ r. r); places = successors_places };
-  refuted = refutes 32 names successors_old successors_new (world 1 2) (is_world_of 1 2 (lit< tt) (lit< tt)) 4 (Returned (1 ∷ []) counting 0) Fails refl refl (λ e. never_true (ap is_return e)) (λ e. never_true (ap is_return e));
+  refuted = refutes 32 names goes_on stays_there (world 1 2) (is_world_of 1 2 (lit< tt) (lit< tt)) 4 (Returned (1 ∷ []) counting 0) Fails refl refl (λ e. false≢true (ap is_return e)) (λ e. false≢true (ap is_return e));
 }
 
 pub no_piece_idle : (dropped : PiecePremise) → IsPieceNotIdle dropped

@@ -1,6 +1,7 @@
 -- Instructions that come where nothing was, and write what is hidden.
 use Rattle.std.proofs.Common.{◌≡◌, ℕ, zero, suc, Bool, true, false, cond, ◌==◌, List, [], ◌∷◌, ◌++◌, Option, Some, None, unwrap_or, slice_get, inl, refl, sym, ap, ◌∙◌, subst, ◌&&◌, length, arith}
-use Rattle.std.proofs.lemmas.Bool.{eq-eqb, eqb-true}
+use Rattle.std.proofs.lemmas.Option.{none-some}
+use Rattle.std.proofs.lemmas.Bool.{eq-eqb, eqb-true, and_parts, true≢false}
 use Rattle.gi_mir.specs.Data.{InstrData, BlockData}
 use Rattle.gi_meaning.specs.State.{World, State, Place, Virtual, Physical, put}
 use Rattle.gi_meaning.specs.Runs.{Setting, Progress, On, Left, Over, Steps, After, Executes, after_phis, put_value, put_all}
@@ -9,19 +10,19 @@ use Rattle.gi_refine.specs.Evaluation.{steps_of}
 use Rattle.gi_refine.specs.OnePlace.{only_virtual}
 use Rattle.gi_refine.specs.Reached.{GoesTo, Passes, Arrives}
 use Rattle.gi_refine.specs.Simulation.{Stands, IsFollowed}
+use Rattle.gi_refine.proofs.Basics.{some_is}
 use Rattle.gi_refine.proofs.Agreeing.{alone_is}
-use Rattle.gi_refine.proofs.Basics.{both_true, contrary, none_some, some_is}
 use Rattle.gi_refine.proofs.Evaluating.{steps_so}
 use Rattle.gi_refine.proofs.Simulating.{Split, split}
 
 -- ══ What is hidden may be written on one side ══
 
 value_aside : (hidden : Place → Bool) (q r : ℕ) (b : Bool) → (r == q) ≡ b → hidden (Virtual q) ≡ true → hidden (Virtual r) ≡ false → (x m n v : ℕ) (old new : Option ℕ) → ValueStands x m n old new → ValueStands x m n old (cond b (Some v) new)
-value_aside hidden q r true is h seen x m n v old new stands = absurd (contrary (sym h ∙ (ap (λ k. hidden (Virtual k)) (sym (eqb-true r q is)) ∙ seen)))
+value_aside hidden q r true is h seen x m n v old new stands = absurd (true≢false (sym h ∙ (ap (λ k. hidden (Virtual k)) (sym (eqb-true r q is)) ∙ seen)))
 value_aside hidden q r false is h seen x m n v old new stands = stands
 
 word_aside : (hidden : Place → Bool) (q r : ℕ) (b : Bool) → (r == q) ≡ b → hidden (Physical q) ≡ true → hidden (Physical r) ≡ false → (v old new : ℕ) → new ≡ old → cond b v new ≡ old
-word_aside hidden q r true is h seen v old new same = absurd (contrary (sym h ∙ (ap (λ k. hidden (Physical k)) (sym (eqb-true r q is)) ∙ seen)))
+word_aside hidden q r true is h seen v old new same = absurd (true≢false (sym h ∙ (ap (λ k. hidden (Physical k)) (sym (eqb-true r q is)) ∙ seen)))
 word_aside hidden q r false is h seen v old new same = same
 
 pub put_aside : (s t : Setting) (hidden : Place → Bool) (old new : State) (p : Place) (v : ℕ) → hidden p ≡ true → Agree s t hidden old new → Agree s t hidden old (put new p v)
@@ -44,10 +45,10 @@ are_hidden hidden (p ∷ ps) = hidden p && are_hidden hidden ps
 
 pub all_aside : (s t : Setting) (hidden : Place → Bool) (old new mid : State) (ps : List Place) (vs : List ℕ) → are_hidden hidden ps ≡ true → Agree s t hidden old new → put_all new ps vs ≡ Some mid → Agree s t hidden old mid
 all_aside s t hidden old new mid [] [] h agree is = subst (λ σ. Agree s t hidden old σ) (ap (λ o. unwrap_or o new) is) agree
-all_aside s t hidden old new mid [] (v ∷ vs) h agree is = absurd (none_some mid is)
-all_aside s t hidden old new mid (p ∷ ps) [] h agree is = absurd (none_some mid is)
+all_aside s t hidden old new mid [] (v ∷ vs) h agree is = absurd (none-some mid is)
+all_aside s t hidden old new mid (p ∷ ps) [] h agree is = absurd (none-some mid is)
 all_aside s t hidden old new mid (p ∷ ps) (v ∷ vs) h agree is =
-    let each : (hidden p ≡ true) × (are_hidden hidden ps ≡ true) = both_true (hidden p) (are_hidden hidden ps) h in
+    let each : (hidden p ≡ true) × (are_hidden hidden ps ≡ true) = and_parts (hidden p) (are_hidden hidden ps) h in
     all_aside s t hidden old (put new p v) mid ps vs each.1 (put_aside s t hidden old new p v each.0 agree) is
 
 -- writes one after the other
@@ -60,7 +61,7 @@ put_front state (p ∷ ps) [] qs us h = absurd (omega (arith, h))
 put_front state (p ∷ ps) (v ∷ vs) qs us h = put_front (put state p v) ps vs qs us (omega (arith, h))
 
 other_than : (q r : ℕ) (hidden : ℕ → Bool) → hidden q ≡ true → hidden r ≡ false → (r == q) ≡ true → ⊥
-other_than q r hidden h seen same = contrary (sym h ∙ (ap hidden (sym (eqb-true r q same)) ∙ seen))
+other_than q r hidden h seen same = true≢false (sym h ∙ (ap hidden (sym (eqb-true r q same)) ∙ seen))
 
 old_value : (q r : ℕ) (b : Bool) → (r == q) ≡ b → (hidden : ℕ → Bool) → hidden q ≡ true → hidden r ≡ false → (x m n v : ℕ) (old new : Option ℕ) → ValueStands x m n old new → ValueStands x m n (cond b (Some v) old) new
 old_value q r true is hidden h seen x m n v old new stands = absurd (other_than q r hidden h seen is)
@@ -95,8 +96,8 @@ inserted_follows s t w before hidden exit i q h steps agrees = record {
 
 -- a phi that gave a state gave a value
 pub put_has : (q : ℕ) (σ : Option State) (v : Option ℕ) (state : State) → put_value σ (Virtual q ∷ []) v ≡ Some state → (u : ℕ) × (v ≡ Some u) × (state.values q ≡ Some u)
-put_has q None v state h = absurd (none_some state h)
-put_has q (Some entered) None state h = absurd (none_some state h)
+put_has q None v state h = absurd (none-some state h)
+put_has q (Some entered) None state h = absurd (none-some state h)
 put_has q (Some entered) (Some u) state h = (u, refl, ap (λ (o : Option State). (unwrap_or o entered).values q) (sym h) ∙ same_register q u (entered.values q))
   where
     same_register : (r v' : ℕ) (old : Option ℕ) → cond (r == r) (Some v') old ≡ Some v'
@@ -127,7 +128,7 @@ pub arrives_from : (s : Setting) (w : World) (blocks : List BlockData) (k : ℕ)
     → after_phis block.instrs ≡ front ++ (branch ∷ []) → (end : State → State) → ((middle : State) → steps_of s w front middle ≡ Some (On (end middle)))
     → ((state : State) (p : Progress) → Steps s w branch.1 state p → IsAt state p)
     → (n c : ℕ) (state : State) → Arrives s w blocks n (Some k) c state → (middle : State) × (state ≡ end middle)
-arrives_from s w blocks k block here front branch body end steps keeps zero c state arrives = absurd (none_some k (sym arrives.0))
+arrives_from s w blocks k block here front branch body end steps keeps zero c state arrives = absurd (none-some k (sym arrives.0))
 arrives_from s w blocks k block here front branch body end steps keeps (suc n) c state arrives =
     let passes : Passes s w blocks arrives.0 arrives.1 arrives.2 c state = arrives.4 in
     let from : arrives.1 ≡ k = some_is k arrives.1 arrives.5 in

@@ -15,11 +15,11 @@ use Rattle.gi_meaning.specs.Meaning.{Machine}
 use Rattle.gi_meaning.specs.State.{World, State, outside_of, start, Returned, Virtual, put}
 use Rattle.gi_meaning.specs.Act.{Results, AllReadAs, AnswersWords, all_fitted}
 use Rattle.gi_meaning.specs.Runs.{Setting, progress_of, On, Over}
-use Rattle.gi_refine.specs.Examples.{counting, names, world_of}
+use Rattle.gi_refine.specs.Examples.{counting, names, world_of, one_block}
 use Rattle.gi_refine.specs.Outcomes.{ComesTo, ReturnsAny, has_low_bits}
-use Rattle.gi_refine.specs.TargetExamples.{on_number, adds_low_halves, takes_upper_half, one_block}
+use Rattle.gi_refine.specs.TargetExamples.{on_number, adds_low_halves, takes_upper_half}
 use Rattle.gi_refine.proofs.Doing.{ActsSo, does_from, DoesAll, does_next, EntersSo, enters_over}
-use Rattle.gi_refine.proofs.Computing.{does_exactly, does_all_exactly}
+use Rattle.gi_refine.proofs.Evaluating.{step_so, steps_so}
 use Rattle.gi_refine.proofs.Choosing.{Chooses, choose, before_choice, returns_any}
 use Rattle.gi_refine.proofs.FreeRuns.{set_of, with_one, with_two}
 
@@ -75,11 +75,11 @@ pub low_halves_come_to : (n : ℕ) → ComesTo 64 names (one_block adds_low_halv
 low_halves_come_to n =
     let s : Setting = set_of 64 adds_low_halves in
     let all : DoesAll s halves_world adds_low_halves (start halves_world) (Over (Returned (halves_sum ∷ []) counting 0)) =
-    does_next s halves_world _ _ (start halves_world) (with_one halves_world 2147483647) _ (does_exactly s halves_world _ (start halves_world) (On (with_one halves_world 2147483647)) refl)
-    (does_next s halves_world _ _ (with_one halves_world 2147483647) halves_state _ (does_exactly s halves_world _ (with_one halves_world 2147483647) (On halves_state) refl)
+    does_next s halves_world _ _ (start halves_world) (with_one halves_world 2147483647) _ (step_so s halves_world _ (start halves_world) (On (with_one halves_world 2147483647)) refl)
+    (does_next s halves_world _ _ (with_one halves_world 2147483647) halves_state _ (step_so s halves_world _ (with_one halves_world 2147483647) (On halves_state) refl)
     (does_next s halves_world _ _ halves_state (put halves_state (Virtual 2) halves_sum) _
     (does_from s halves_world _ halves_state (Value 32 2147483647 ∷ Value 32 1 ∷ []) (Results (halves_sum ∷ []) (outside_of halves_state)) (On (put halves_state (Virtual 2) halves_sum)) refl acts_on_halves refl)
-    (does_all_exactly s halves_world _ (put halves_state (Virtual 2) halves_sum) (Over (Returned (halves_sum ∷ []) counting 0)) refl))) in
+    (steps_so s halves_world _ (put halves_state (Virtual 2) halves_sum) (Over (Returned (halves_sum ∷ []) counting 0)) refl))) in
     let enters : EntersSo s halves_world (one_block adds_low_halves).blocks (suc n) None 0 (start halves_world) (Returned (halves_sum ∷ []) counting 0) =
     enters_over s halves_world (one_block adds_low_halves).blocks n None 0 (start halves_world) (start halves_world) _ _ refl refl all in
     record { can = enters.can; only = enters.only }
@@ -114,7 +114,7 @@ half_below v small = grind (arith, nat_tests, small, mod-one v)
 abbrev halved : ℕ → List Argument → Given
 halved = by_amount (λ x. x) right_word
 
-pub chooses_upper : Chooses (set_of 64 takes_upper_half) upper_world (on_number op.ShiftRightLogicalImmediate Class 2 0 (pos 32)) upper_state (Virtual 2 ∷ []) (has_low_bits 0 32 0)
+pub chooses_upper : Chooses (set_of 64 takes_upper_half) upper_world (on_number op.ShiftRightLogicalImmediate 2 Class 0 (pos 32)) upper_state (Virtual 2 ∷ []) (has_low_bits 0 32 0)
 chooses_upper = record {
   can = λ v h.
       let small : v < 4294967296 = below_half v h in

@@ -1,5 +1,7 @@
 -- A function of one block that goes nowhere: a run enters it once, at the start.
 use Rattle.std.proofs.Common.{◌≡◌, ℕ, zero, suc, Bool, true, false, ◌&&◌, List, [], ◌∷◌, Option, Some, None, slice_get, sym, ap, ◌∙◌, subst}
+use Rattle.std.proofs.lemmas.Bool.{and_parts}
+use Rattle.std.proofs.lemmas.Option.{same_Some}
 use Rattle.gi_mir.specs.Data.{InstrData, BlockData}
 use Rattle.gi_mir.specs.declared.operand.MemOp.{MemOp}
 use Rattle.gi_meaning.specs.Argument.{Argument}
@@ -8,8 +10,7 @@ use Rattle.gi_meaning.specs.Meaning.{Meaning, Copying, Generic, Machine, Loading
 use Rattle.gi_meaning.specs.Act.{Answer, Results, Leaves, Returns, Asks, Breaks, Act, generic_load, copy}
 use Rattle.gi_meaning.specs.Runs.{Setting, arguments_of, written_places, put_all, Progress, On, Left, Over, going_on, progress_of, StepsFrom, After, Executes, phis_of, after_phis, joined}
 use Rattle.gi_refine.specs.Reached.{GoesTo, Passes, Arrives, IsReached}
-use Rattle.gi_refine.proofs.ValuesPlaced.{IsPlain, answers_plain, words_plain}
-use Rattle.gi_refine.proofs.Tests.{both_left, both_right, same_some}
+use Rattle.gi_refine.proofs.ValuesStepped.{IsPlain, answers_plain, words_plain}
 
 -- ══ Instructions that leave no block ══
 
@@ -76,8 +77,8 @@ pub executes_stays : (s : Setting) (w : World) (is : List (ℕ × InstrData)) (s
 executes_stays s w [] state p h run = subst NotLeft (sym run) tt
 executes_stays s w (i ∷ is) state p h run =
     after_stays s w is run.0 p
-    (step_stays s w i.1 state (arguments_of s w state i.1.operands) run.0 (both_left (is_straight (meaning_of i.1.flags i.1.op)) (are_straight is) h) run.1)
-    (λ state' run'. executes_stays s w is state' p (both_right (is_straight (meaning_of i.1.flags i.1.op)) (are_straight is) h) run') run.2
+    (step_stays s w i.1 state (arguments_of s w state i.1.operands) run.0 (and_parts (is_straight (meaning_of i.1.flags i.1.op)) (are_straight is) h).0 run.1)
+    (λ state' run'. executes_stays s w is state' p (and_parts (is_straight (meaning_of i.1.flags i.1.op)) (are_straight is) h).1 run') run.2
 
 -- ══ One entry ══
 
@@ -114,5 +115,5 @@ reached_from_start s w block last before state reached =
     let same : block ≡ reached.block = the_block block reached.block 0 reached.enters.joins.here in
     let phis : joined reached.enters.entered reached.enters.from (phis_of reached.block.instrs) ≡ Some reached.enters.entered =
     ap (joined reached.enters.entered reached.enters.from) (subst (λ k. phis_of k.instrs ≡ []) same last.phis) in
-    let middle : reached.enters.entered ≡ reached.middle = same_some reached.enters.entered reached.middle (sym phis ∙ reached.enters.joins.phis) in
+    let middle : reached.enters.entered ≡ reached.middle = same_Some reached.enters.entered reached.middle (sym phis ∙ reached.enters.joins.phis) in
     subst (λ st. Executes s w before st (On state)) (sym middle ∙ arrives_once s w block last reached.enters.entries reached.enters.from 0 reached.enters.entered reached.enters.arrives) reached.ran

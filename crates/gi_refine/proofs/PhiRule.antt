@@ -1,6 +1,7 @@
 -- The trial rule of a phi, in steps: what comes first stands beside the old code where nothing reads it, and has its value in
 -- reached states from then on.
 use Rattle.std.proofs.Common.{◌≡◌, ℕ, zero, suc, ◌%◌, ◌^◌, Bool, true, false, cond, ◌||◌, ◌==◌, if◌then◌else◌, List, [], ◌∷◌, Option, Some, None, option_map, slice_get, unwrap_or, ◌⊎◌, inl, inr, refl, sym, ap, ◌∙◌, subst}
+use Rattle.std.proofs.lemmas.Option.{none-some}
 use Rattle.std.proofs.lemmas.Bool.{eqb-true}
 use Rattle.std.proofs.Math.Nat.{mod-mod}
 use Rattle.gi_mir.specs.Data.{InstrData, BlockData, FunctionData}
@@ -12,18 +13,18 @@ use Rattle.gi_meaning.specs.Act.{Results, Leaves, machine_branch}
 use Rattle.gi_meaning.specs.Runs.{Setting, setting_of, written_places, Progress, On, progress_of, StepsFrom, Steps, arguments_of, Executes, phis_of, joined, joined_lists, value_at, from_block, put_value}
 use Rattle.gi_refine.specs.Agreement.{ValueStands, Agree, AgreeAt, all_shown}
 use Rattle.gi_refine.specs.Evaluation.{step_from, then_on, steps_of}
-use Rattle.gi_refine.specs.Examples.{names, s32, copy_in, copy_out, return_of, block_of}
+use Rattle.gi_refine.specs.Examples.{names, s32, copy_in, copy_out, return_of, block_of, s16}
 use Rattle.gi_refine.specs.Kept.{HasSameValue}
-use Rattle.gi_refine.specs.OnePlace.{only_virtual}
-use Rattle.gi_refine.specs.Trials.{s16, extension, truncation, phi_of, choice, on_to_2, narrow_phi, with_extensions, with_wide_phi, with_truncation, wide_phi}
+use Rattle.gi_refine.specs.OnePlace.{only_virtual, nothing, only}
+use Rattle.gi_refine.specs.Trials.{extension, truncation, phi_of, choice, on_to_2, narrow_phi, with_extensions, with_wide_phi, with_truncation, wide_phi}
 use Rattle.gi_refine.specs.Reached.{Arrives, IsReached, WhereReached}
 use Rattle.gi_refine.specs.Refinement.{IsRefinement}
 use Rattle.gi_refine.specs.Rewriting.{Kept, Changed, Covers, PieceFollows, PhisFollow, RewrittenAt, shown_by_phis}
 use Rattle.gi_refine.specs.Simulation.{PhisStand}
+use Rattle.gi_refine.proofs.Basics.{some_is}
 use Rattle.gi_refine.proofs.Agreeing.{same_value}
-use Rattle.gi_refine.proofs.Basics.{none_some, some_is}
 use Rattle.gi_refine.proofs.Evaluating.{steps_so}
-use Rattle.gi_refine.proofs.IdlePlaces.{seen_by, all_seen_by, alone_holds}
+use Rattle.gi_refine.proofs.StayingTested.{seen_by, all_seen_by, alone_holds}
 use Rattle.gi_refine.proofs.Inserting.{hide_put, hide_put_old, inserted_follows, put_has, IsAt, arrives_from}
 use Rattle.gi_refine.proofs.Keeping.{RegisterSeen, taken_same, from_seen, all_shown_less, phis_stand, phis_within, put_values_stand, agree_but, shown_by_phis_less}
 use Rattle.gi_refine.proofs.Refining.{refines_through}
@@ -68,14 +69,8 @@ on_at s w state p step = subst (IsAt state) (sym (step.2 ∙ ap (progress_of sta
 
 -- ══ What is hidden ══
 
-abbrev none : ℕ → Bool
-none r = false
-
 abbrev extensions : ℕ → Bool
 extensions r = (r == 5) || (r == 6)
-
-abbrev only : ℕ → ℕ → Bool
-only q r = r == q
 
 -- 8 replaces 2
 abbrev two_by_eight : ℕ → ℕ
@@ -196,7 +191,7 @@ wide_operands = (phi_of 7 5 6 s32).1.operands
 
 -- where the narrow phi takes a value, the wide one does
 wide_has : (narrow wide : Option ℕ) → BothTaken narrow wide → (v : ℕ) → narrow ≡ Some v → (u : ℕ) × (wide ≡ Some u)
-wide_has narrow wide (inl none) v has = absurd (none_some v (sym none ∙ has))
+wide_has narrow wide (inl nothing) v has = absurd (none-some v (sym nothing ∙ has))
 wide_has narrow wide (inr both) v has = (both.0 % 2 ^ 16, both.2)
 
 phi_beside : (w : World) → IsWorld 32 w → PhisFollow 32 names with_extensions with_wide_phi w 2 (only_virtual (only 7)) (only_virtual (only 7)) (phi_of 2 0 1 s16 ∷ []) (phi_of 7 5 6 s32 ∷ phi_of 2 0 1 s16 ∷ [])
@@ -336,13 +331,13 @@ narrow_gone w is_world = record {
 -- both phis gave a value
 both_gave : (entered : State) (narrow wide : Option ℕ) (state : State) → put_value (put_value (Some entered) (Virtual 2 ∷ []) narrow) (Virtual 7 ∷ []) wide ≡ Some state
     → (a : ℕ) × (b : ℕ) × (narrow ≡ Some a) × (wide ≡ Some b) × (state ≡ put (put entered (Virtual 2) a) (Virtual 7) b)
-both_gave entered None wide state h = absurd (none_some state h)
-both_gave entered (Some a) None state h = absurd (none_some state h)
+both_gave entered None wide state h = absurd (none-some state h)
+both_gave entered (Some a) None state h = absurd (none-some state h)
 both_gave entered (Some a) (Some b) state h = (a, b, refl, refl, ap (λ o. unwrap_or o entered) (sym h))
 
 -- then the low bits of the wide one are the narrow one
 low_is : (narrow wide : Option ℕ) → BothTaken narrow wide → (a b : ℕ) → narrow ≡ Some a → wide ≡ Some b → b % 2 ^ 16 ≡ a
-low_is narrow wide (inl none) a b is is' = absurd (none_some a (sym none ∙ is))
+low_is narrow wide (inl nothing) a b is is' = absurd (none-some a (sym nothing ∙ is))
 low_is narrow wide (inr both) a b is is' =
     let first : a ≡ both.0 % 2 ^ 16 = value_is a (both.0 % 2 ^ 16) (sym is ∙ both.1) in
     let second : b ≡ both.0 % 2 ^ 16 = value_is b (both.0 % 2 ^ 16) (sym is' ∙ both.2) in

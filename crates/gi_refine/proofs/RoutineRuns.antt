@@ -9,11 +9,11 @@ use Rattle.gi_meaning.specs.Routine.{InTwoWords}
 use Rattle.gi_meaning.specs.State.{World, outside_of, start, Outcome, Returned, Place, Physical, AreWords}
 use Rattle.gi_meaning.specs.Act.{Results, clobbered, routine_given, LeavesFree}
 use Rattle.gi_meaning.specs.Runs.{Setting, progress_of, Progress, Over, Steps, After, Executes}
-use Rattle.gi_refine.specs.Examples.{made, counting, names, world_of}
+use Rattle.gi_refine.specs.Examples.{made, counting, names, world_of, one_block}
 use Rattle.gi_refine.specs.Outcomes.{ComesTo, ReturnsAny, has_low_bits}
-use Rattle.gi_refine.specs.TargetExamples.{one_block, routine_call, divides_by_routine}
+use Rattle.gi_refine.specs.TargetExamples.{routine_call, divides_by_routine}
 use Rattle.gi_refine.proofs.Doing.{DoesAll, EntersSo, enters_over}
-use Rattle.gi_refine.proofs.Computing.{exact_after, exact_all}
+use Rattle.gi_refine.specs.Evaluation.{then_on, steps_of}
 use Rattle.gi_refine.proofs.Choosing.{low_bits_of, has_low, one_after, ReturnsAll, returns_any}
 use Rattle.gi_refine.proofs.FreeRuns.{set_of}
 
@@ -91,7 +91,7 @@ quotient_words : (words : List ℕ) → AreQuotient 2 words → words ≡ 214748
 quotient_words words h = h
 
 returns_one_way : (registers : List Operand) (o : Outcome) (n : ℕ)
-    → ((free : ℕ → ℕ) → exact_after (Some (called 2 free (2147483651 ∷ 0 ∷ []))) (exact_all (set_of 32 (divides_by_routine registers)) (dividing 2) (rest_of registers)) ≡ Some (Over o))
+    → ((free : ℕ → ℕ) → then_on (Some (called 2 free (2147483651 ∷ 0 ∷ []))) (steps_of (set_of 32 (divides_by_routine registers)) (dividing 2) (rest_of registers)) ≡ Some (Over o))
     → ComesTo 32 names (one_block (divides_by_routine registers)) (dividing 2) (suc n) o
 returns_one_way registers o n goes =
     let s : Setting = set_of 32 (divides_by_routine registers) in

@@ -1,14 +1,13 @@
 -- Steps of a proof that a rule on values is sound.
-use Rattle.std.proofs.Common.{◌≡◌, ℕ, ◌^◌, ◌%◌, ◌<◌, ◌==◌, Bool, true, false, cond, List, [], ◌∷◌, ◌++◌, Option, Some, None, slice_get, refl, sym, ap, ◌∙◌, subst, arith}
-use Rattle.std.specs.Prelude.{nat_lt}
+use Rattle.std.proofs.Common.{◌≡◌, ℕ, ◌^◌, ◌%◌, ◌<◌, ◌==◌, Bool, true, false, cond, List, [], ◌∷◌, ◌++◌, Option, Some, None, slice_get, refl, sym, ap, ◌∙◌, subst}
 use Rattle.std.proofs.Math.Nat.{mod-one}
 use Rattle.gi_meaning.specs.Argument.{Argument, Value}
 use Rattle.gi_meaning.specs.Given.{Given, Exactly, LowBits, Undefined, IsGiven, one, in_low_bits, unless_broken}
 use Rattle.gi_meaning.specs.State.{World, Outside}
-use Rattle.gi_llt.specs.Bits.{wrapped}
-use Rattle.gi_meaning.specs.Act.{Answer, Results, Breaks, AllReadAs, Answers, AnswersWords, all_fitted, fitted, IsWordOf}
+use Rattle.gi_meaning.specs.Act.{Answer, Results, Breaks, AllReadAs, Answers, AnswersWords, all_fitted, IsWordOf}
 use Rattle.gi_refine.specs.Values.{Environment, appended, answered, Then, Holds, Defines, StandAt}
 use Rattle.gi_refine.specs.TrialRules.{constant}
+use Rattle.gi_refine.proofs.Basics.{not_below_itself}
 
 -- ══ What is given ══
 
@@ -54,18 +53,12 @@ entry_value n a m b h = ap value_of h
 
 -- ══ Words ══
 
-pub not_below_itself : (x : ℕ) → nat_lt x x ≡ false
-not_below_itself x = grind arith
-
 -- a register of a word's width is read as it is
 pub whole_word : (x a : ℕ) (word : Argument) → IsWordOf x x a word → word ≡ Value x a
 whole_word x a word h =
     subst (λ b. cond b ((u : ℕ) × (u < 2 ^ x) × (u % 2 ^ x ≡ a) × (word ≡ Value x u)) (word ≡ Value x a)) (not_below_itself x) h
 
 -- what is written to a register of a word's width stays whole
-pub whole_fitted : (x v : ℕ) → fitted x x v ≡ v
-whole_fitted x v = ap (λ b. cond b (wrapped x v) v) (not_below_itself x)
-
 -- two registers as words
 pub record ReadTwo (x m n a b : ℕ) (words : List Argument) : Type 0 where
   pub left : Argument

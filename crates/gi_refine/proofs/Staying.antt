@@ -1,5 +1,6 @@
 -- What instructions that stay owe, from tests of their operands.
 use Rattle.std.proofs.Common.{◌≡◌, ℕ, zero, suc, Bool, true, false, cond, ◌||◌, List, [], ◌∷◌, ◌++◌, map, Option, Some, None, slice_get, slice_set, unwrap_or, refl, sym, ap, ap₂, ◌∙◌, subst}
+use Rattle.std.proofs.lemmas.Bool.{or_parts}
 use Rattle.gi_mir.specs.Data.{InstrData, BlockData, FunctionData}
 use Rattle.gi_mir.specs.Registers.{first_there, kind_in_operands, kind_in_instrs, kind_in_blocks}
 use Rattle.gi_mir.specs.declared.operand.Kind.{Kind}
@@ -69,10 +70,6 @@ body_holds_alone x names f b before is = record { by = λ w is_world front i bac
 
 -- ══ Nothing hidden is touched ══
 
-neither : (a b : Bool) → (a || b) ≡ false → (a ≡ false) × (b ≡ false)
-neither true b h = (h, cc)
-neither false b h = (refl, h)
-
 -- registers that aren't hidden have their widths, and so has what replaces one
 pub record KeepsWidths (s t : Setting) (hidden : ℕ → Bool) (rename : ℕ → ℕ) : Type 0 where
   pub same : (r : ℕ) → hidden r ≡ false → t.width r ≡ s.width r
@@ -82,10 +79,10 @@ pub seen_untouched : (s t : Setting) (hidden : ℕ → Bool) (rename : ℕ → �
     → touches hidden rename os ≡ false → AreSeenAs s t (only_virtual hidden) rename os
 seen_untouched s t hidden rename widths [] clear = tt
 seen_untouched s t hidden rename widths (operand.Use r ∷ os) clear =
-    let each : (hidden (rename r.0) ≡ false) × (touches hidden rename os ≡ false) = neither (hidden (rename r.0)) (touches hidden rename os) clear in
+    let each : (hidden (rename r.0) ≡ false) × (touches hidden rename os ≡ false) = or_parts (hidden (rename r.0)) (touches hidden rename os) clear in
     (each.0, widths.replaced r.0, widths.same (rename r.0) each.0 ∙ widths.replaced r.0, seen_untouched s t hidden rename widths os each.1)
 seen_untouched s t hidden rename widths (operand.Def r k ∷ os) clear =
-    let each : (hidden r.0 ≡ false) × (touches hidden rename os ≡ false) = neither (hidden r.0) (touches hidden rename os) clear in
+    let each : (hidden r.0 ≡ false) × (touches hidden rename os ≡ false) = or_parts (hidden r.0) (touches hidden rename os) clear in
     (widths.same r.0 each.0, seen_untouched s t hidden rename widths os each.1)
 seen_untouched s t hidden rename widths (operand.Phys n ∷ os) clear = (refl, seen_untouched s t hidden rename widths os clear)
 seen_untouched s t hidden rename widths (operand.ImplicitUse n ∷ os) clear = (refl, seen_untouched s t hidden rename widths os clear)
@@ -95,14 +92,14 @@ pub all_seen_untouched : (s t : Setting) (hidden : ℕ → Bool) (rename : ℕ �
     → any_touches hidden rename is ≡ false → AllSeenAs s t (only_virtual hidden) rename is
 all_seen_untouched s t hidden rename widths [] clear = tt
 all_seen_untouched s t hidden rename widths (i ∷ is) clear =
-    let each : (touches hidden rename i.1.operands ≡ false) × (any_touches hidden rename is ≡ false) = neither (touches hidden rename i.1.operands) (any_touches hidden rename is) clear in
+    let each : (touches hidden rename i.1.operands ≡ false) × (any_touches hidden rename is ≡ false) = or_parts (touches hidden rename i.1.operands) (any_touches hidden rename is) clear in
     (seen_untouched s t hidden rename widths i.1.operands each.0, all_seen_untouched s t hidden rename widths is each.1)
 
 -- what parts of a block touch, the phis and the rest touch
 pub phis_clear : (hidden : ℕ → Bool) (rename : ℕ → ℕ) (is : List (ℕ × InstrData)) → any_touches hidden rename is ≡ false → any_touches hidden rename (phis_of is) ≡ false
 phis_clear hidden rename [] clear = refl
 phis_clear hidden rename (i ∷ is) clear =
-    let each : (touches hidden rename i.1.operands ≡ false) × (any_touches hidden rename is ≡ false) = neither (touches hidden rename i.1.operands) (any_touches hidden rename is) clear in
+    let each : (touches hidden rename i.1.operands ≡ false) × (any_touches hidden rename is ≡ false) = or_parts (touches hidden rename i.1.operands) (any_touches hidden rename is) clear in
     either (is_phi i.1) (ap₂ (λ a b. a || b) each.0 (phis_clear hidden rename is each.1))
   where
     either : (b : Bool) → any_touches hidden rename (i ∷ phis_of is) ≡ false → any_touches hidden rename (cond b (i ∷ phis_of is) []) ≡ false
@@ -112,7 +109,7 @@ phis_clear hidden rename (i ∷ is) clear =
 pub bodies_clear : (hidden : ℕ → Bool) (rename : ℕ → ℕ) (is : List (ℕ × InstrData)) → any_touches hidden rename is ≡ false → any_touches hidden rename (after_phis is) ≡ false
 bodies_clear hidden rename [] clear = refl
 bodies_clear hidden rename (i ∷ is) clear =
-    let each : (touches hidden rename i.1.operands ≡ false) × (any_touches hidden rename is ≡ false) = neither (touches hidden rename i.1.operands) (any_touches hidden rename is) clear in
+    let each : (touches hidden rename i.1.operands ≡ false) × (any_touches hidden rename is ≡ false) = or_parts (touches hidden rename i.1.operands) (any_touches hidden rename is) clear in
     either (is_phi i.1) (bodies_clear hidden rename is each.1)
   where
     either : (b : Bool) → any_touches hidden rename (after_phis is) ≡ false → any_touches hidden rename (cond b (after_phis is) (i ∷ is)) ≡ false

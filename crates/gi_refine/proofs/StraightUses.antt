@@ -7,13 +7,12 @@ use Rattle.gi_mir.specs.declared.operand.Kind.TheVariants.{Class}
 use Rattle.gi_meaning.specs.State.{World, State}
 use Rattle.gi_meaning.specs.Runs.{Setting, setting_of, width_of_kind, On, Executes, phis_of, after_phis}
 use Rattle.gi_refine.specs.Agreement.{AgreeAt}
-use Rattle.gi_refine.specs.Examples.{block_of}
+use Rattle.gi_refine.specs.Examples.{block_of, one_block}
 use Rattle.gi_refine.specs.Lifting.{Placing}
 use Rattle.gi_refine.specs.OnePlace.{only_virtual}
 use Rattle.gi_refine.specs.Refinement.{IsRefinement}
 use Rattle.gi_refine.specs.Replacing.{any_touches}
 use Rattle.gi_refine.specs.RuleUse.{IsRuleUse}
-use Rattle.gi_refine.specs.TrialFunctions.{straight}
 use Rattle.gi_refine.specs.Values.{Rule}
 use Rattle.gi_refine.proofs.Doing.{DoesAll}
 use Rattle.gi_refine.proofs.RulesUsed.{use_followed}
@@ -37,7 +36,7 @@ another_kind false k rest h = refl
 
 -- with the old instructions and with the new ones
 pub record StraightUse (x : ℕ) (names : List (List ℕ)) (before old new after : List (ℕ × InstrData)) (hidden : ℕ → Bool) (rule : World → Rule) (placing : Placing) : Type 0 where
-  pub used : IsRuleUse x names (straight (before ++ (old ++ after))) (straight (before ++ (new ++ after))) (only_virtual hidden) (only_virtual hidden) rule placing 0 (after_phis before) old new
+  pub used : IsRuleUse x names (one_block (before ++ (old ++ after))) (one_block (before ++ (new ++ after))) (only_virtual hidden) (only_virtual hidden) rule placing 0 (after_phis before) old new
   pub no_phi : phis_of (old ++ after) ≡ []
   pub no_new_phi : phis_of (new ++ after) ≡ []
   pub before_clear : any_touches hidden (λ q. q) before ≡ false
@@ -45,10 +44,10 @@ pub record StraightUse (x : ℕ) (names : List (List ℕ)) (before old new after
   pub kinds : (q : ℕ) → hidden q ≡ false → kind_in_instrs q new ≡ kind_in_instrs q old
 
 pub straight_refines : (x : ℕ) (names : List (List ℕ)) (before old new after : List (ℕ × InstrData)) (hidden : ℕ → Bool) (rule : World → Rule) (placing : Placing)
-    → StraightUse x names before old new after hidden rule placing → IsRefinement x names (straight (before ++ (old ++ after))) (straight (before ++ (new ++ after)))
+    → StraightUse x names before old new after hidden rule placing → IsRefinement x names (one_block (before ++ (old ++ after))) (one_block (before ++ (new ++ after)))
 straight_refines x names before old new after hidden rule placing use_here =
-    let f : FunctionData = straight (before ++ (old ++ after)) in
-    let g : FunctionData = straight (before ++ (new ++ after)) in
+    let f : FunctionData = one_block (before ++ (old ++ after)) in
+    let g : FunctionData = one_block (before ++ (new ++ after)) in
     replacement_refines x names f g (record { block = 0; before = before; old = old; new = new; after = after; hidden = hidden })
     (record {
       block = block_of [] (before ++ (old ++ after));

@@ -1,6 +1,6 @@
 -- An instruction leaves its block for one of the blocks among its operands, and for no other.
 use Rattle.std.proofs.Common.{◌≡◌, ℕ, Bool, true, false, cond, ◌&&◌, ◌||◌, ◌==◌, List, [], ◌∷◌, ◌++◌, length, map, Option, Some, None, option_map, ◌⊎◌, inl, inr, ⊎_elim, nat_lt, nat_le, ◌+◌, ◌%◌, ◌^◌, ◌<◌, refl, sym, subst}
-use Rattle.std.proofs.lemmas.Bool.{eq-eqb}
+use Rattle.std.proofs.lemmas.Bool.{eq-eqb, or_cases, or_left, or_right}
 use Rattle.gi_mir.specs.Data.{InstrData}
 use Rattle.gi_mir.specs.declared.operand.MemOp.{MemOp}
 use Rattle.gi_mir.specs.declared.operand.Operand.{Operand}
@@ -48,24 +48,12 @@ abbrev is_aimed_at : (c : ℕ) → Option (List Argument) → Bool
 is_aimed_at c None = false
 is_aimed_at c (Some arguments) = is_aimed c arguments
 
-either_true : (a b : Bool) → (a || b) ≡ true → (a ≡ true) ⊎ (b ≡ true)
-either_true true b h = inl refl
-either_true false b h = inr h
-
-first_true : (a b : Bool) → a ≡ true → (a || b) ≡ true
-first_true true b h = refl
-first_true false b h = cc
-
-second_true : (a b : Bool) → b ≡ true → (a || b) ≡ true
-second_true true b h = refl
-second_true false b h = h
-
 aimed_appended : (c : ℕ) (xs ys : List Argument) → is_aimed c (xs ++ ys) ≡ true → (is_aimed c xs ≡ true) ⊎ (is_aimed c ys ≡ true)
 aimed_appended c [] ys h = inr h
 aimed_appended c (To b ∷ xs) ys h = ⊎_elim
-    (λ here. inl (first_true (b == c) (is_aimed c xs) here))
-    (λ later. ⊎_elim (λ first. inl (second_true (b == c) (is_aimed c xs) first)) (λ second. inr second) (aimed_appended c xs ys later))
-    (either_true (b == c) (is_aimed c (xs ++ ys)) h)
+    (λ here. inl (or_left (b == c) (is_aimed c xs) here))
+    (λ later. ⊎_elim (λ first. inl (or_right (b == c) (is_aimed c xs) first)) (λ second. inr second) (aimed_appended c xs ys later))
+    (or_cases (b == c) (is_aimed c (xs ++ ys)) h)
 aimed_appended c (Value n v ∷ xs) ys h = aimed_appended c xs ys h
 aimed_appended c (_ ∷ xs) ys h = aimed_appended c xs ys h
 
@@ -79,7 +67,7 @@ value_not_aimed c width None h = h
 value_not_aimed c width (Some v) h = h
 
 argument_target : (s : Setting) (w : World) (state : State) (c : ℕ) (o : Operand) (os : List Operand) → is_aimed_at c (argument_of s w state o) ≡ true → is_target c (o ∷ os) ≡ true
-argument_target s w state c (operand.Block b) os h = ⊎_elim (λ here. first_true (b == c) (is_target c os) here) (λ never. cc) (either_true (b == c) false h)
+argument_target s w state c (operand.Block b) os h = ⊎_elim (λ here. or_left (b == c) (is_target c os) here) (λ never. cc) (or_cases (b == c) false h)
 argument_target s w state c (operand.Use r) os h = absurd (true_is (value_not_aimed c (s.width r.0) (state.values r.0) h))
   where
     true_is : false ≡ true → ⊥
@@ -88,7 +76,7 @@ argument_target s w state c (operand.Def r k) os h = cc
 argument_target s w state c _ os h = cc
 
 later_target : (c : ℕ) (o : Operand) (os : List Operand) → is_target c os ≡ true → is_target c (o ∷ os) ≡ true
-later_target c (operand.Block b) os h = second_true (b == c) (is_target c os) h
+later_target c (operand.Block b) os h = or_right (b == c) (is_target c os) h
 later_target c (operand.Def r k) os h = h
 later_target c _ os h = h
 
@@ -143,11 +131,8 @@ machine_stores_have Q breaks stores x exists bytes (Value n value ∷ Value l ba
     or_breaks Q breaks (exists x && is_immediate offset) (Stores x bytes bytes _ value outside a) a (stores_have Q breaks stores x bytes bytes _ value outside a) h
 machine_stores_have Q breaks stores x exists bytes _ outside a h = subst Q (sym h) breaks
 
-same_number : (b : ℕ) → (b == b) ≡ true
-same_number b = eq-eqb b b refl
-
 jump_in : (arguments : List Argument) → LeavesIn (λ c. is_aimed c arguments ≡ true) (jump arguments)
-jump_in (To b ∷ []) = first_true (b == b) false (same_number b)
+jump_in (To b ∷ []) = or_left (b == b) false (eq-eqb b b refl)
 jump_in _ = tt
 
 either_in : (P : ℕ → Type 0) (b : Bool) (c : ℕ) (outside : Outside) → P c → LeavesIn P (cond b (Results [] outside) (Leaves c))
@@ -159,11 +144,11 @@ or_in P true c outside h = h
 or_in P false c outside h = tt
 
 branch_in : (arguments : List Argument) (outside : Outside) → LeavesIn (λ c. is_aimed c arguments ≡ true) (branch arguments outside)
-branch_in (Value n v ∷ To b ∷ []) outside = either_in (λ c. is_aimed c (To b ∷ []) ≡ true) (v == 0) b outside (first_true (b == b) false (same_number b))
+branch_in (Value n v ∷ To b ∷ []) outside = either_in (λ c. is_aimed c (To b ∷ []) ≡ true) (v == 0) b outside (or_left (b == b) false (eq-eqb b b refl))
 branch_in _ outside = tt
 
 machine_branch_in : (x : ℕ) (test : ℕ → ℕ → ℕ → Bool) (arguments : List Argument) (outside : Outside) → LeavesIn (λ c. is_aimed c arguments ≡ true) (machine_branch x test arguments outside)
-machine_branch_in x test (Value l v ∷ Value m u ∷ To b ∷ []) outside = or_in (λ c. is_aimed c (To b ∷ []) ≡ true) (test x v u) b outside (first_true (b == b) false (same_number b))
+machine_branch_in x test (Value l v ∷ Value m u ∷ To b ∷ []) outside = or_in (λ c. is_aimed c (To b ∷ []) ≡ true) (test x v u) b outside (or_left (b == b) false (eq-eqb b b refl))
 machine_branch_in x test _ outside = tt
 
 global_in : (P : ℕ → Type 0) (x : ℕ) (w : World) (callee words : List ℕ) (results : ℕ) (outside : Outside) (a : Answer) → CallsGlobal x w callee words results outside a → LeavesIn P a
@@ -193,9 +178,9 @@ read_aimed : (x c : ℕ) (argument word : Argument) (rest arguments : List Argum
     → is_aimed c (word ∷ rest) ≡ true → is_aimed c (argument ∷ arguments) ≡ true
 read_aimed x c (Value width value) word rest arguments reads goes aimed = goes (word_not_aimed c x width value (nat_lt width x) word rest reads aimed)
 read_aimed x c (To b) word rest arguments reads goes aimed = ⊎_elim
-    (λ here. first_true (b == c) (is_aimed c arguments) here)
-    (λ later. second_true (b == c) (is_aimed c arguments) (goes later))
-    (either_true (b == c) (is_aimed c rest) (subst (λ u. is_aimed c (u ∷ rest) ≡ true) reads aimed))
+    (λ here. or_left (b == c) (is_aimed c arguments) here)
+    (λ later. or_right (b == c) (is_aimed c arguments) (goes later))
+    (or_cases (b == c) (is_aimed c rest) (subst (λ u. is_aimed c (u ∷ rest) ≡ true) reads aimed))
 read_aimed x c (Number z) word rest arguments reads goes aimed = goes (subst (λ u. is_aimed c (u ∷ rest) ≡ true) reads aimed)
 read_aimed x c _ word rest arguments reads goes aimed = goes (subst (λ u. is_aimed c (u ∷ rest) ≡ true) reads aimed)
 

@@ -1,5 +1,6 @@
 -- A use of a rule whose premises are tests follows where runs reach it.
 use Rattle.std.proofs.Common.{◌≡◌, ℕ, suc, Bool, true, false, List, [], ◌∷◌, ◌++◌, Option, Some, slice_get, sym, subst}
+use Rattle.std.proofs.lemmas.Bool.{and_parts}
 use Rattle.gi_mir.specs.Data.{InstrData, BlockData, FunctionData}
 use Rattle.gi_meaning.specs.State.{World, State, outside_of, Place}
 use Rattle.gi_meaning.specs.Runs.{Setting, setting_of, after_phis}
@@ -11,13 +12,12 @@ use Rattle.gi_refine.specs.TestedUse.{ConstantInput, constant_facts, AreConstant
 use Rattle.gi_refine.specs.Values.{Environment, Slot, AllHold, Rule}
 use Rattle.gi_refine.proofs.ConstantsHeld.{constant_where_reached, constant_fact}
 use Rattle.gi_refine.proofs.Fitted.{fit_where_reached, fit_sized}
-use Rattle.gi_refine.proofs.Tests.{both_left, both_right}
 
 taken_there : (slots : List Slot) (values : ℕ → Option ℕ) (place : ℕ) (rs : List ℕ) → takes_all slots place rs ≡ true → AreThere slots values place rs
 taken_there slots values place [] h = tt
 taken_there slots values place (r ∷ rs) h = (
-  (λ not_taken. both_ways (takes place slots) (values r) (both_left (takes place slots) (takes_all slots (suc place) rs) h) not_taken),
-  taken_there slots values (suc place) rs (both_right (takes place slots) (takes_all slots (suc place) rs) h),
+  (λ not_taken. both_ways (takes place slots) (values r) (and_parts (takes place slots) (takes_all slots (suc place) rs) h).0 not_taken),
+  taken_there slots values (suc place) rs (and_parts (takes place slots) (takes_all slots (suc place) rs) h).1,
 )
   where
     both_ways : (b : Bool) (v : Option ℕ) → b ≡ true → b ≡ false → HasValue v
@@ -40,11 +40,11 @@ tested_use x names f g now next rule placing block before old new tested = recor
   placed = tested.placed;
   known = λ w is_world state reached.
       let s : Setting = setting_of x names f in
-      let fit : IsFit s state = fit_where_reached x names f w is_world tested.fit block tested.data_of before tested.back tested.here tested.splits state reached in
+      let fit : IsFit s state = fit_where_reached x names f w is_world tested.fit block tested.block_data before tested.back tested.here tested.splits state reached in
       record {
         there = taken_there (first_slots rule.old) state.values 0 placing.inputs tested.taken;
         sized = fit_sized s state fit placing.inputs;
         facts = λ env reads. subst (AllHold x w (outside_of state) env) (sym tested.facts)
-            (constants_held s w f.blocks block tested.data_of before tested.back tested.here tested.splits state reached placing.inputs env reads tested.constants tested.hold);
+            (constants_held s w f.blocks block tested.block_data before tested.back tested.here tested.splits state reached placing.inputs env reads tested.constants tested.hold);
       };
 }

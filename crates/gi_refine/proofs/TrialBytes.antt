@@ -7,13 +7,13 @@ use Rattle.gi_meaning.specs.Argument.{Value}
 use Rattle.gi_meaning.specs.State.{World, IsWorld, State, outside_of, start, Virtual, put}
 use Rattle.gi_meaning.specs.Act.{Results}
 use Rattle.gi_meaning.specs.Runs.{Setting, setting_of, On}
-use Rattle.gi_refine.specs.Examples.{names, s32, copy_out, return_of}
+use Rattle.gi_refine.specs.Examples.{names, s32, copy_out, return_of, bits}
 use Rattle.gi_refine.specs.Lifting.{IsKnown}
 use Rattle.gi_refine.specs.OnePlace.{only_virtual}
 use Rattle.gi_refine.specs.Reached.{IsReached}
 use Rattle.gi_refine.specs.Refinement.{IsRefinement}
 use Rattle.gi_refine.specs.RuleUse.{IsRuleUse}
-use Rattle.gi_refine.specs.TrialFunctions.{bits, address_in, half_loaded, bytes_loaded, on_address, is_one_of, byte_registers, bytes_placed}
+use Rattle.gi_refine.specs.TrialFunctions.{address_in, half_loaded, bytes_loaded, on_address, is_one_of, byte_registers, bytes_placed}
 use Rattle.gi_refine.specs.TrialRules.{split_load}
 use Rattle.gi_refine.proofs.Covering.{covered_by, known_at}
 use Rattle.gi_refine.proofs.Doing.{does_from, does_next, does_none}

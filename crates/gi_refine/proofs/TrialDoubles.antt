@@ -1,5 +1,7 @@
 -- A trial rule that narrows a sum, in a whole function.
 use Rattle.std.proofs.Common.{◌≡◌, ℕ, zero, suc, ◌+◌, ◌*◌, ◌^◌, ◌<◌, ◌==◌, Bool, true, false, cond, List, [], ◌∷◌, Option, Some, None, slice_get, refl, sym, ap, ◌∙◌, subst, arith}
+use Rattle.std.proofs.lemmas.Bool.{or_parts}
+use Rattle.std.proofs.lemmas.Option.{same_Some}
 use Rattle.std.proofs.Math.Nat.{mul-zero, add-zero, mul_comm}
 use Rattle.std.proofs.lemmas.Nat.{pow-add, mul-add-lt}
 use Rattle.gi_mir.specs.Registers.{first_there, kind_in_instrs}
@@ -9,13 +11,13 @@ use Rattle.gi_meaning.specs.Argument.{Value}
 use Rattle.gi_meaning.specs.State.{World, IsWorld, State, outside_of, start, Virtual, put}
 use Rattle.gi_meaning.specs.Act.{Results}
 use Rattle.gi_meaning.specs.Runs.{Setting, setting_of, On}
-use Rattle.gi_refine.specs.Examples.{names}
+use Rattle.gi_refine.specs.Examples.{names, bits}
 use Rattle.gi_refine.specs.Lifting.{IsKnown}
 use Rattle.gi_refine.specs.OnePlace.{only_virtual}
 use Rattle.gi_refine.specs.Reached.{IsReached}
 use Rattle.gi_refine.specs.Refinement.{IsRefinement}
 use Rattle.gi_refine.specs.RuleUse.{IsRuleUse}
-use Rattle.gi_refine.specs.TrialFunctions.{bits, two_doubles, double_returned, sum_of_doubles, sum_by_words, on_doubles, is_one_of, word_registers, double_placed}
+use Rattle.gi_refine.specs.TrialFunctions.{two_doubles, double_returned, sum_of_doubles, sum_by_words, on_doubles, is_one_of, word_registers, double_placed}
 use Rattle.gi_refine.specs.TrialRules.{narrow_add}
 use Rattle.gi_refine.proofs.Covering.{covered_by, known_at}
 use Rattle.gi_refine.proofs.Doing.{gives_one, does_from, does_next, does_none, DoesAll}
@@ -23,7 +25,6 @@ use Rattle.gi_refine.proofs.OneBlock.{reached_from_start}
 use Rattle.gi_refine.proofs.StraightUses.{state_is, straight_refines}
 use Rattle.gi_refine.proofs.TrialParts.{copies_so}
 use Rattle.gi_refine.proofs.TrialRulesMore.{narrow_add_sound}
-use Rattle.gi_refine.proofs.Tests.{neither_left, neither_right, same_some}
 
 -- two words as one value, as a merge gives it
 abbrev double : (x lo hi : ℕ) → ℕ
@@ -116,8 +117,8 @@ double_used x = record {
 
 pub not_one_of : (rs : List ℕ) (q k r : ℕ) → is_one_of rs q ≡ false → slice_get rs k ≡ Some r → (r == q) ≡ false
 not_one_of [] q k r none here = cc
-not_one_of (p ∷ rs) q zero r none here = subst (λ t. (t == q) ≡ false) (same_some p r here) (neither_left (p == q) (is_one_of rs q) none)
-not_one_of (p ∷ rs) q (suc k) r none here = not_one_of rs q k r (neither_right (p == q) (is_one_of rs q) none) here
+not_one_of (p ∷ rs) q zero r none here = subst (λ t. (t == q) ≡ false) (same_Some p r here) (or_parts (p == q) (is_one_of rs q) none).0
+not_one_of (p ∷ rs) q (suc k) r none here = not_one_of rs q k r (or_parts (p == q) (is_one_of rs q) none).1 here
 
 -- a definition of two other registers
 two_other_kinds : (b c : Bool) (k l : Kind) (rest : Option Kind) → b ≡ false → c ≡ false → first_there (first_there (cond b (Some k) None) (first_there (cond c (Some l) None) None)) rest ≡ rest

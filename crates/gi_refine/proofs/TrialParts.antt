@@ -1,41 +1,33 @@
 -- Trial rules on a sum of parts of words, in whole functions: widened, and selected as ADDW.
-use Rattle.std.proofs.Common.{◌≡◌, ℕ, ◌+◌, ◌^◌, ◌==◌, ◌||◌, true, false, cond, List, [], ◌∷◌, None, refl, sym, ap, ◌∙◌, subst, eq-eqb}
+use Rattle.std.proofs.Common.{◌≡◌, ℕ, ◌+◌, ◌^◌, ◌==◌, ◌||◌, false, List, [], ◌∷◌, None, refl, sym, ◌∙◌, subst}
+use Rattle.std.proofs.lemmas.Bool.{or_parts}
 use Rattle.std.proofs.lemmas.Nat.{pow_pos, mod_below}
 use Rattle.gi_llt.specs.Bits.{wrapped}
 use Rattle.gi_mir.specs.Data.{InstrData}
 use Rattle.gi_mir.specs.Registers.{kind_in_instrs}
 use Rattle.gi_mir.specs.Stated.{no_flags}
 use Rattle.gi_meaning.specs.Argument.{Value}
-use Rattle.gi_meaning.specs.Given.{one, LowBits}
 use Rattle.gi_meaning.specs.Meaning.{Copying}
 use Rattle.gi_meaning.specs.State.{World, State, Outside, outside_of, start, Virtual, put}
-use Rattle.gi_meaning.specs.Act.{Results, Answers, copied}
+use Rattle.gi_meaning.specs.Act.{Results, Answers}
 use Rattle.gi_meaning.specs.Runs.{Setting, setting_of, On}
-use Rattle.gi_refine.specs.Examples.{names}
+use Rattle.gi_refine.specs.Examples.{names, bits}
 use Rattle.gi_refine.specs.Lifting.{IsKnown}
 use Rattle.gi_refine.specs.OnePlace.{only_virtual}
 use Rattle.gi_refine.specs.Reached.{IsReached}
 use Rattle.gi_refine.specs.Refinement.{IsRefinement}
 use Rattle.gi_refine.specs.RuleUse.{IsRuleUse}
-use Rattle.gi_refine.specs.TrialFunctions.{bits, two_parts, part_returned, sum_of_parts, wide_sum, word_sum, on_parts, wide_hidden, wide_placed, word_placed}
+use Rattle.gi_refine.specs.TrialFunctions.{two_parts, part_returned, sum_of_parts, wide_sum, word_sum, on_parts, wide_hidden, wide_placed, word_placed}
 use Rattle.gi_refine.specs.TrialRules.{widen_add, select_add_word}
 use Rattle.gi_refine.specs.Values.{Rule, AllHold}
+use Rattle.gi_refine.proofs.Basics.{copied_whole}
 use Rattle.gi_refine.proofs.Covering.{covered_by, known_at}
 use Rattle.gi_refine.proofs.Doing.{ActsSo, gives_one, does_from, does_next, does_none, DoesAll}
 use Rattle.gi_refine.proofs.OneBlock.{reached_from_start}
-use Rattle.gi_refine.proofs.RuleSteps.{not_below_itself}
 use Rattle.gi_refine.proofs.StraightUses.{state_is, another_kind, straight_refines}
 use Rattle.gi_refine.proofs.TrialRulesMore.{widen_add_sound, select_add_word_sound}
-use Rattle.gi_refine.proofs.Tests.{neither_left, neither_right}
 
 -- ══ The parts ══
-
-equal_to_itself : (x : ℕ) → (x == x) ≡ true
-equal_to_itself x = eq-eqb x x refl
-
--- a copy between registers of one width
-copied_whole : (x v : ℕ) → copied x x v ≡ one v
-copied_whole x v = ap (λ b. cond b (LowBits x x v) (cond (x == x) (one v) (one (wrapped x v)))) (not_below_itself x) ∙ ap (λ b. cond b (one v) (one (wrapped x v))) (equal_to_itself x)
 
 pub copies_so : (x : ℕ) (w : World) (v : ℕ) (outside : Outside) → ActsSo x w Copying None (x ∷ []) (Value x v ∷ []) outside (Results (v ∷ []) outside)
 copies_so x w v outside = record {
@@ -115,10 +107,10 @@ wide_used n y = record {
 
 wide_kinds : (x n q : ℕ) → wide_hidden q ≡ false → kind_in_instrs q (wide_sum x n) ≡ kind_in_instrs q (sum_of_parts n)
 wide_kinds x n q shown =
-    let first_two : ((6 == q) || (7 == q)) ≡ false = neither_left ((6 == q) || (7 == q)) (8 == q) shown in
-    another_kind (6 == q) (bits x) _ (neither_left (6 == q) (7 == q) first_two)
-    ∙ another_kind (7 == q) (bits x) _ (neither_right (6 == q) (7 == q) first_two)
-    ∙ another_kind (8 == q) (bits x) _ (neither_right ((6 == q) || (7 == q)) (8 == q) shown)
+    let first_two : ((6 == q) || (7 == q)) ≡ false = (or_parts ((6 == q) || (7 == q)) (8 == q) shown).0 in
+    another_kind (6 == q) (bits x) _ (or_parts (6 == q) (7 == q) first_two).0
+    ∙ another_kind (7 == q) (bits x) _ (or_parts (6 == q) (7 == q) first_two).1
+    ∙ another_kind (8 == q) (bits x) _ (or_parts ((6 == q) || (7 == q)) (8 == q) shown).1
 
 -- a sum of n bits by one of words of y + n bits
 pub widening_refines : (n y : ℕ) → IsRefinement (y + n) names (on_parts (y + n) n (sum_of_parts n)) (on_parts (y + n) n (wide_sum (y + n) n))

@@ -1,5 +1,6 @@
 -- The trial rules are sound.
 use Rattle.std.proofs.Common.{◌≡◌, ℕ, ◌+◌, ◌^◌, ◌<◌, List, [], ◌∷◌, Some, inl, refl, sym, ap, ap₂, ◌∙◌, subst, arith}
+use Rattle.std.proofs.lemmas.Option.{same_Some}
 use Rattle.std.proofs.Math.Nat.{mod-eq_of_lt}
 use Rattle.std.proofs.lemmas.Nat.{pow_pos, mod_below}
 use Rattle.gi_llt.specs.Bits.{wrapped}
@@ -13,8 +14,8 @@ use Rattle.gi_meaning.specs.Machine.{on_words, sum_word}
 use Rattle.gi_meaning.specs.Act.{Results, AnswersWords, fitted}
 use Rattle.gi_refine.specs.Values.{Makes, Correspond, MayMake, IsSound, IsCertain}
 use Rattle.gi_refine.specs.TrialRules.{subtract_self, add_constants, add_zero, select_add}
-use Rattle.gi_refine.proofs.RuleSteps.{answers_given, unless_given, exactly, constant_known, entry, entry_value, ReadTwo, read_two, whole_word, whole_fitted, words_exactly}
-use Rattle.gi_refine.proofs.Tests.{same_some}
+use Rattle.gi_refine.proofs.Basics.{whole_fitted}
+use Rattle.gi_refine.proofs.RuleSteps.{answers_given, unless_given, exactly, constant_known, entry, entry_value, ReadTwo, read_two, whole_word, words_exactly}
 
 -- ══ Folds, and a use replaced ══
 
@@ -80,7 +81,7 @@ add_zero_certain x w n = record {
       let is : Some old ≡ Some ((n, a) ∷ (n, b) ∷ (n, wrapped n (a + b)) ∷ []) =
       exactly (wrapped n (a + b) ∷ []) outside makes.0 ((n, a) ∷ (n, b) ∷ []) (n ∷ []) (Makes x w outside []) (Some old) makes.1 makes.2 in
       let sum_is : entry n a ≡ entry n (wrapped n (a + b)) = ap (entry n) (sym (sum_with_zero n a b a_fits b_is)) in
-      subst (λ env. Correspond ((2, 0) ∷ []) env env) (same_some _ old (sym is)) (sum_is, tt);
+      subst (λ env. Correspond ((2, 0) ∷ []) env env) (same_Some _ old (sym is)) (sum_is, tt);
 }
 
 -- ══ Selection ══

@@ -39,7 +39,7 @@ product_tested = record {
     seen = refl;
     covered = covered_by (only_virtual product_shifted.hidden) (only_virtual product_shifted.hidden) (multiply_to_shift no_flags 32 3) product_placed refl (λ p h. h);
   };
-  data_of = block_of [] (chosen_word ++ (product_by_eight ++ fifth_returned));
+  block_data = block_of [] (chosen_word ++ (product_by_eight ++ fifth_returned));
   back = product_by_eight ++ fifth_returned;
   here = refl;
   splits = refl;

@@ -9,7 +9,8 @@ use Rattle.gi_refine.specs.Values.{Environment, are_pure, Makes, AllHold, Rule, 
 use Rattle.gi_refine.specs.Lifting.{all_grown, AllShow, are_all_fresh, is_result, Placing, Reads, IsKnown, first_slots, SameAt, AllSame}
 use Rattle.gi_refine.proofs.Simulating.{Split, split}
 use Rattle.gi_refine.proofs.ValuesFollowed.{for_all_at}
-use Rattle.gi_refine.proofs.ValuesPlaced.{BothRead, both_read, Settled, Forward, forward}
+use Rattle.gi_refine.proofs.ValuesPlaced.{Settled, Forward, forward}
+use Rattle.gi_refine.proofs.ValuesStepped.{BothRead, both_read}
 use Rattle.gi_refine.proofs.ValuesThere.{read_or_missing, missing_over}
 
 entries_same : (width : ℕ → ℕ) (values : ℕ → Option ℕ) (r q : Option ℕ) (entry other : Option (ℕ × ℕ)) → BothRead width values r entry → BothRead width values q other → other ≡ entry → SameAt values r q

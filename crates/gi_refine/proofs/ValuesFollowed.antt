@@ -1,7 +1,8 @@
 -- A sound rule on values, placed on registers: what the new instructions do, the old do too, or they fail.
-use Rattle.std.proofs.Common.{◌≡◌, ℕ, ◌^◌, ◌<◌, Bool, true, false, cond, ◌==◌, not, ◌&&◌, ◌||◌, List, [], ◌∷◌, map, Option, Some, None, slice_get, ◌⊎◌, inl, inr, ⊎_elim, refl, sym, ap, ap₂, ◌∙◌, subst, eqb-true}
+use Rattle.std.proofs.Common.{◌≡◌, ℕ, ◌^◌, ◌<◌, Bool, true, false, cond, ◌==◌, not, ◌&&◌, ◌||◌, List, [], ◌∷◌, map, Option, Some, None, slice_get, ◌⊎◌, inl, inr, ⊎_elim, refl, sym, ap, ◌∙◌, subst, eqb-true}
+use Rattle.std.proofs.lemmas.Bool.{and_parts, or_parts, or_cases, not-true}
+use Rattle.std.proofs.lemmas.Option.{same_Some}
 use Rattle.gi_mir.specs.Data.{InstrData}
-use Rattle.gi_meaning.specs.Memory.{Memory}
 use Rattle.gi_meaning.specs.State.{World, State, Outside, outside_of, Fails, Place, Virtual, Physical}
 use Rattle.gi_meaning.specs.Runs.{Setting, Progress, On, Over, Executes}
 use Rattle.gi_refine.specs.Agreement.{Agree, ValueStands, setting}
@@ -9,9 +10,9 @@ use Rattle.gi_refine.specs.Kept.{HasSameValue}
 use Rattle.gi_refine.specs.Simulation.{Stands, IsFollowed}
 use Rattle.gi_refine.specs.Values.{Environment, Makes, AllHold, Rule, Correspond, MayMake, ForAllOf, IsSound}
 use Rattle.gi_refine.specs.Lifting.{all_grown, is_result, none_hidden, is_register, Placing, is_kept, left_hidden, IsPlaced, Reads, AreSized, AgreeReady}
-use Rattle.gi_refine.proofs.Agreeing.{same_value, same_value_stands}
-use Rattle.gi_refine.proofs.ValuesPlaced.{BothRead, both_read, Became, Settled, Forward, forward, Backward, backward}
-use Rattle.gi_refine.proofs.Tests.{neither_left, neither_right, both_left, both_right, not_true, either, same_some}
+use Rattle.gi_refine.proofs.Agreeing.{same_value, same_value_stands, outside_same}
+use Rattle.gi_refine.proofs.ValuesPlaced.{Became, Settled, Forward, forward, Backward, backward}
+use Rattle.gi_refine.proofs.ValuesStepped.{BothRead, both_read}
 
 -- ══ The inputs ══
 
@@ -41,12 +42,9 @@ reads_new x names width width' hidden old new agree (r ∷ rs) (entry ∷ env) s
   subst (λ v. HasSameValue v (new.values r)) reads.1
       (same_value x (width r) (old.values r) (new.values r)
       (subst (λ n. ValueStands x (width r) n (old.values r) (new.values r)) (sym (first_of (width r) (width' r) (map width rs) (map width' rs) same))
-      (agree.values r (not_true (hidden (Virtual r)) (both_left (not (hidden (Virtual r))) (none_hidden hidden rs) seen))))),
-  reads_new x names width width' hidden old new agree rs env (both_right (not (hidden (Virtual r))) (none_hidden hidden rs) seen) (rest_of (width r) (width' r) (map width rs) (map width' rs) same) reads.2,
+      (agree.values r (not-true (hidden (Virtual r)) (and_parts (not (hidden (Virtual r))) (none_hidden hidden rs) seen).0)))),
+  reads_new x names width width' hidden old new agree rs env (and_parts (not (hidden (Virtual r))) (none_hidden hidden rs) seen).1 (rest_of (width r) (width' r) (map width rs) (map width' rs) same) reads.2,
 )
-
-outside_same : (x : ℕ) (names : List (List ℕ)) (width width' : ℕ → ℕ) (hidden : Place → Bool) (old new : State) → Agree (setting x names width) (setting x names width') hidden old new → outside_of new ≡ outside_of old
-outside_same x names width width' hidden old new agree = ap₂ (λ (m : Memory) (t : ℕ). let o : Outside = record { memory = m; taken = t } in o) agree.memory agree.taken
 
 -- ══ The results ══
 
@@ -54,16 +52,16 @@ entries_stand : (x : ℕ) (width width' : ℕ → ℕ) (values values' : ℕ →
 entries_stand x width width' values values' q q' None entry' both both' same = absurd both
 entries_stand x width width' values values' q q' (Some entry) None both both' same = absurd both'
 entries_stand x width width' values values' q q' (Some entry) (Some entry') both both' same =
-    subst (λ n. ValueStands x (width q) n (values q) (values' q')) (sym both.0 ∙ ap (λ e. e.0) (sym (same_some entry' entry same)) ∙ both'.0)
-    (same_value_stands x (width q) (values q) (values' q') (subst (λ v. HasSameValue v (values' q')) (sym both.1) (both'.1 ∙ ap (λ e. Some e.1) (same_some entry' entry same))))
+    subst (λ n. ValueStands x (width q) n (values q) (values' q')) (sym both.0 ∙ ap (λ e. e.0) (sym (same_Some entry' entry same)) ∙ both'.0)
+    (same_value_stands x (width q) (values q) (values' q') (subst (λ v. HasSameValue v (values' q')) (sym both.1) (both'.1 ∙ ap (λ e. Some e.1) (same_Some entry' entry same))))
 
 pair_stands : (x : ℕ) (width width' : ℕ → ℕ) (values values' : ℕ → Option ℕ) (r : ℕ) (a a' : Option ℕ) (entry entry' : Option (ℕ × ℕ)) → (is_register r a && is_register r a') ≡ true
     → BothRead width values a entry → BothRead width' values' a' entry' → entry' ≡ entry → ValueStands x (width r) (width' r) (values r) (values' r)
 pair_stands x width width' values values' r None a' entry entry' is both both' same = cc
-pair_stands x width width' values values' r (Some q) None entry entry' is both both' same = let no : false ≡ true = both_right (r == q) false is in cc
+pair_stands x width width' values values' r (Some q) None entry entry' is both both' same = let no : false ≡ true = (and_parts (r == q) false is).1 in cc
 pair_stands x width width' values values' r (Some q) (Some q') entry entry' is both both' same =
-    let here : r ≡ q = eqb-true r q (both_left (r == q) (r == q') is) in
-    let there : r ≡ q' = eqb-true r q' (both_right (r == q) (r == q') is) in
+    let here : r ≡ q = eqb-true r q (and_parts (r == q) (r == q') is).0 in
+    let there : r ≡ q' = eqb-true r q' (and_parts (r == q) (r == q') is).1 in
     subst (λ k. ValueStands x (width k) (width' r) (values k) (values' r)) (sym here) (subst (λ k. ValueStands x (width q) (width' k) (values q) (values' k)) (sym there)
     (entries_stand x width width' values values' q q' entry entry' both both' same))
 
@@ -76,7 +74,7 @@ kept_stands x width width' old new rs rs' env env' reads reads' (pair ∷ pairs)
     (λ is. pair_stands x width width' old.values new.values r (slice_get rs pair.0) (slice_get rs' pair.1) (slice_get env pair.0) (slice_get env' pair.1) is
     (both_read width old.values rs env pair.0 reads) (both_read width' new.values rs' env' pair.1 reads') same.0)
     (λ later. kept_stands x width width' old new rs rs' env env' reads reads' pairs same.1 r later)
-    (either (is_register r (slice_get rs pair.0) && is_register r (slice_get rs' pair.1)) (is_kept rs rs' pairs r) kept)
+    (or_cases (is_register r (slice_get rs pair.0) && is_register r (slice_get rs' pair.1)) (is_kept rs rs' pairs r) kept)
 
 shown_value : (is kept hidden : Bool) (stands : Type 0) → (is ≡ false → hidden ≡ false → stands) → (kept ≡ true → stands) → cond is (not kept) hidden ≡ false → stands
 shown_value true true hidden stands other here h = here refl
@@ -91,8 +89,8 @@ agree_after x names width width' rule placing before after old new final final' 
   values = λ r seen. shown_value (is_result r placing.old || is_result r placing.new)
       (is_kept (all_grown placing.inputs placing.old) (all_grown placing.inputs placing.new) rule.kept r) (before (Virtual r)) (ValueStands x (width r) (width' r) (final.values r) (final'.values r))
       (λ other shown.
-      subst (λ v. ValueStands x (width r) (width' r) v (final'.values r)) (sym (became.kept r (neither_left (is_result r placing.old) (is_result r placing.new) other)))
-      (subst (λ v. ValueStands x (width r) (width' r) (old.values r) v) (sym (became'.kept r (neither_right (is_result r placing.old) (is_result r placing.new) other))) (agree.values r shown)))
+      subst (λ v. ValueStands x (width r) (width' r) v (final'.values r)) (sym (became.kept r (or_parts (is_result r placing.old) (is_result r placing.new) other).0))
+      (subst (λ v. ValueStands x (width r) (width' r) (old.values r) v) (sym (became'.kept r (or_parts (is_result r placing.old) (is_result r placing.new) other).1)) (agree.values r shown)))
       (λ kept. kept_stands x width width' final final' (all_grown placing.inputs placing.old) (all_grown placing.inputs placing.new) env env' became.reads became'.reads rule.kept same r kept)
       (covered (Virtual r) seen);
   words = λ n seen. ap (λ (f : ℕ → ℕ). f n) became'.words ∙ agree.words n (covered (Physical n) seen) ∙ sym (ap (λ (f : ℕ → ℕ). f n) became.words);
@@ -143,7 +141,7 @@ values_followed x names width width' w rule placing before after exit is is' sou
   by = λ old new related p' run.
       let env : Environment = related.ready.env in
       let made : Forward width' (Makes x w (outside_of old) rule.new env) new (λ r. is_result r placing.new) (all_grown placing.inputs placing.new) p' =
-      forward (setting x names width') w (outside_of old) placing.new rule.new is' placing.inputs env new p' placed.new_shown placed.new_pure placed.new_fresh (outside_same x names width width' before old new related.agree)
+      forward (setting x names width') w (outside_of old) placing.new rule.new is' placing.inputs env new p' placed.new_shown placed.new_pure placed.new_fresh (outside_same (setting x names width) (setting x names width') before old new related.agree)
       (reads_new x names width width' before old new related.agree placing.inputs env placed.seen (placed.old_widths ∙ sym placed.new_widths) related.ready.read) run in
       follow_made x names width width' w rule placing before after exit is old new env p' related.agree placed.covered
       (λ m makes. backward (setting x names width) w (outside_of old) placing.old rule.old is placing.inputs env old m placed.old_shown placed.old_pure placed.old_fresh refl related.ready.read makes)

@@ -1,5 +1,7 @@
 -- Where an input has no value, the first old instruction, which takes it, fails.
 use Rattle.std.proofs.Common.{◌≡◌, ℕ, suc, ◌+◌, Bool, true, false, ◌==◌, List, [], ◌∷◌, Option, Some, None, option_map, slice_get, ◌⊎◌, inl, inr, ⊎_elim, refl, sym, ap, ◌∙◌, subst, eqb-true, arith}
+use Rattle.std.proofs.lemmas.Bool.{or_cases}
+use Rattle.std.proofs.lemmas.Option.{same_Some}
 use Rattle.gi_mir.specs.Data.{InstrData}
 use Rattle.gi_mir.specs.declared.operand.Operand.{Operand}
 use Rattle.gi_mir.specs.declared.operand.Operand.TheVariants as operand
@@ -11,7 +13,6 @@ use Rattle.gi_refine.specs.Simulation.{IsFollowed}
 use Rattle.gi_refine.specs.Values.{Environment, Slot, At, Fixed, Operation, Rule, IsSound}
 use Rattle.gi_refine.specs.Lifting.{ShowsSlot, ShowsSlots, ShowsOperands, Shows, AllShow, Placing, IsPlaced, Reads, AgreeReady, takes, first_slots, HasValue, AreThere, AgreeKnown}
 use Rattle.gi_refine.proofs.ValuesFollowed.{values_followed}
-use Rattle.gi_refine.proofs.Tests.{either, same_some}
 
 -- a register of the list, from the place on, that has no value though the slots take its place
 pub record Missing (slots : List Slot) (values : ℕ → Option ℕ) (place : ℕ) (rs : List ℕ) : Type 0 where
@@ -66,7 +67,7 @@ joined_none (Some arguments) = refl
 
 use_missing : (s : Setting) (w : World) (state : State) (rs : List ℕ) (at r : ℕ) (o : Operand) → slice_get rs at ≡ Some r → state.values r ≡ None → ShowsSlot s w rs (At at) o → argument_of s w state o ≡ None
 use_missing s w state rs at r (operand.Use q) here none shows =
-    let same : r ≡ q.0 = same_some r q.0 (sym here ∙ shows) in
+    let same : r ≡ q.0 = same_Some r q.0 (sym here ∙ shows) in
     ap (option_map (λ value. Value (s.width q.0) value ∷ [])) (subst (λ k. state.values k ≡ None) same none)
 use_missing s w state rs at r _ here none shows = absurd shows
 
@@ -80,7 +81,7 @@ slots_missing s w state rs at r here none (At k ∷ slots) (o ∷ os) taken show
     ⊎_elim
     (λ is. ap (λ a. joined_lists a (arguments_of s w state os)) (use_missing s w state rs at r o here none (subst (λ j. ShowsSlot s w rs (At j) o) (eqb-true k at is) shows.0)))
     (λ later. ap (joined_lists (argument_of s w state o)) (slots_missing s w state rs at r here none slots os later shows.1) ∙ joined_none (argument_of s w state o))
-    (either (k == at) (takes at slots) taken)
+    (or_cases (k == at) (takes at slots) taken)
 
 operands_missing : (s : Setting) (w : World) (state : State) (rs : List ℕ) (at r : ℕ) → slice_get rs at ≡ Some r → state.values r ≡ None → (results : List ℕ) (slots : List Slot) (os : List Operand) → takes at slots ≡ true
     → ShowsOperands s w rs results slots os → arguments_of s w state os ≡ None

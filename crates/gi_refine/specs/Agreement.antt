@@ -28,7 +28,7 @@ is_same_place (Virtual r) (Virtual q) = r == q
 is_same_place (Physical n) (Physical m) = n == m
 is_same_place _ _ = false
 
--- what is hidden once a place was written alike on both sides, and once several were
+-- what is hidden once both sides have written to a place, and to several
 abbrev pub shown : (Place → Bool) → Place → Place → Bool
 shown hidden p q = cond (is_same_place q p) false (hidden q)
 
@@ -56,11 +56,11 @@ AreAlike width width' [] = Unit {0}
 AreAlike width width' (Virtual r ∷ ps) = (width' r ≡ width r) × AreAlike width width' ps
 AreAlike width width' (Physical n ∷ ps) = AreAlike width width' ps
 
--- agreement at each place of a map from blocks to what is hidden there
+-- for each block, agreement with what is hidden there
 abbrev pub AgreeAt : (s t : Setting) → (hidden : ℕ → Place → Bool) → ℕ → State → State → Type 0
 AgreeAt s t hidden b = Agree s t (hidden b)
 
--- at the entry of a block, whichever block was left
+-- the same at the entry of a block, whichever block was left
 abbrev pub AgreeEntering : (s t : Setting) → (hidden : ℕ → Place → Bool) → Option ℕ → ℕ → State → State → Type 0
 AgreeEntering s t hidden from b = Agree s t (hidden b)
 

@@ -9,6 +9,7 @@ use Rattle.gi_meaning.specs.State.{State, Place, Virtual, Physical}
 use Rattle.gi_meaning.specs.Meaning.{meaning_of}
 use Rattle.gi_meaning.specs.Runs.{places_of, written_places, phis_of, after_phis}
 
+-- the place is this virtual register, and one of the places is
 abbrev pub is_virtual : (r : ℕ) → Place → Bool
 is_virtual r (Virtual q) = r == q
 is_virtual r (Physical n) = false
@@ -35,6 +36,7 @@ abbrev pub no_phi_writes : (r : ℕ) → List (ℕ × InstrData) → Bool
 no_phi_writes r [] = true
 no_phi_writes r (i ∷ is) = not (writes r (places_of i.1.operands)) && no_phi_writes r is
 
+-- nothing in these blocks defines the register but the constant
 abbrev pub only_constant : (r value : ℕ) → List BlockData → Bool
 only_constant r value [] = true
 only_constant r value (block ∷ blocks) = no_phi_writes r (phis_of block.instrs) && all_keep_constant r value (after_phis block.instrs) && only_constant r value blocks

@@ -9,7 +9,7 @@ use Rattle.gi_mir.specs.declared.operand.Kind.{Kind}
 use Rattle.gi_mir.specs.declared.operand.Kind.TheVariants.{Generic}
 use Rattle.gi_mir.specs.declared.operand.MemOp.{MemOp}
 use Rattle.gi_mir.specs.declared.operand.Operand.{Operand}
-use Rattle.gi_mir.specs.declared.operand.Operand.TheVariants.{Def, Use, Phys, PhysDef, ImplicitUse, ImplicitDef, Block, Global, SavedMask}
+use Rattle.gi_mir.specs.declared.operand.Operand.TheVariants.{Def, Use, Phys, PhysDef, ImplicitUse, ImplicitDef, Block, Constant, Global, SavedMask}
 use Rattle.gi_mir.specs.declared.operand.SymbolFlag.TheVariants.{Call}
 use Rattle.gi_meaning.specs.Memory.{Memory}
 use Rattle.gi_meaning.specs.State.{World, Event}
@@ -25,8 +25,23 @@ block_of successors instrs = record { successors = successors; liveins = []; ins
 abbrev pub function_of : List BlockData → FunctionData
 function_of blocks = record { name = 0; legalized = false; banked = false; selected = false; stack = []; blocks = blocks; next_reg = 9; next_id = 0 }
 
+abbrev pub one_block : List (ℕ × InstrData) → FunctionData
+one_block instrs = function_of (block_of [] instrs ∷ [])
+
+abbrev pub bits : ℕ → Kind
+bits n = Generic (Scalar n)
+
+abbrev pub s8 : Kind
+s8 = bits 8
+
+abbrev pub s16 : Kind
+s16 = bits 16
+
 abbrev pub s32 : Kind
-s32 = Generic (Scalar 32)
+s32 = bits 32
+
+abbrev pub s64 : Kind
+s64 = bits 64
 
 abbrev pub use_of : ℕ → Operand
 use_of r = Use (reg_of r)
@@ -40,6 +55,16 @@ copy_out n r = made op.Copy (PhysDef n ∷ use_of r ∷ []) None
 
 abbrev pub return_of : ℕ → ℕ × InstrData
 return_of n = made op.PseudoReturn (ImplicitUse n ∷ []) None
+
+-- `%d = OP %a`, `%d = OP %a, %b`, `%d = G_CONSTANT in VALUE`
+abbrev pub of_one : Opcode → (d : ℕ) → Kind → (a : ℕ) → ℕ × InstrData
+of_one op d kind a = made op (Def (reg_of d) kind ∷ use_of a ∷ []) None
+
+abbrev pub of_two : Opcode → (d : ℕ) → Kind → (a b : ℕ) → ℕ × InstrData
+of_two op d kind a b = made op (Def (reg_of d) kind ∷ use_of a ∷ use_of b ∷ []) None
+
+abbrev pub constant_in : (d n value : ℕ) → Kind → ℕ × InstrData
+constant_in d n value kind = made op.GenericConstant (Def (reg_of d) kind ∷ Constant n value ∷ []) None
 
 abbrev pub names : List (List ℕ)
 names = codes "f" ∷ codes "g" ∷ []

@@ -49,6 +49,7 @@ abbrev pub is_fitting_constant : (width : ℕ → ℕ) → Opcode → List Opera
 is_fitting_constant width op.GenericConstant (operand.Def r kind ∷ operand.Constant n value ∷ []) = nat_lt value (2 ^ width r.0)
 is_fitting_constant width _ _ = false
 
+-- by its meaning an instruction keeps it
 abbrev pub keeps_fit : (width : ℕ → ℕ) → Meaning → Opcode → List Operand → Bool
 keeps_fit width Copying o os = true
 keeps_fit width (Generic gives) o os = always_fits o || is_fitting_constant width o os
@@ -65,6 +66,7 @@ all_keep_fit width (i ∷ is) = keeps_fit width (meaning_of i.1.flags i.1.op) i.
 
 -- ══ Phis ══
 
+-- each register that the operands use has this width
 abbrev pub uses_have : (width : ℕ → ℕ) → ℕ → List Operand → Bool
 uses_have width n [] = true
 uses_have width n (operand.Use r ∷ os) = (width r.0 == n) && uses_have width n os
@@ -79,6 +81,7 @@ abbrev pub phis_fit : Setting → List (ℕ × InstrData) → Bool
 phis_fit s [] = true
 phis_fit s (i ∷ is) = phi_fits s (places_of i.1.operands) i.1.operands && phis_fit s is
 
+-- all blocks: their phis, and their other instructions
 abbrev pub blocks_fit : Setting → List BlockData → Bool
 blocks_fit s [] = true
 blocks_fit s (block ∷ blocks) = phis_fit s (phis_of block.instrs) && all_keep_fit s.width (after_phis block.instrs) && blocks_fit s blocks

@@ -2,7 +2,6 @@
 -- a case in which all others hold and the new function isn't a refinement.
 use Rattle.std.specs.Prelude.{◌≡◌, ℕ, ◌+◌, Bool, true, false, cond, ◌==◌, List, [], ◌∷◌, ◌++◌, Option, Some, None, slice_get}
 use Rattle.gi_mir.specs.Data.{InstrData, BlockData, FunctionData}
-use Rattle.gi_mir.specs.Stated.{reg_of}
 use Rattle.gi_mir.specs.declared.opcode.Opcode.TheVariants as op
 use Rattle.gi_mir.specs.declared.operand.Operand.{Operand}
 use Rattle.gi_mir.specs.declared.operand.Operand.TheVariants as operand
@@ -10,7 +9,7 @@ use Rattle.gi_meaning.specs.State.{World, IsWorld, State, Place}
 use Rattle.gi_meaning.specs.Meaning.{meaning_of}
 use Rattle.gi_meaning.specs.Runs.{setting_of, written_places, phis_of, after_phis, is_among}
 use Rattle.gi_refine.specs.Agreement.{Agree, AgreeAt, all_shown}
-use Rattle.gi_refine.specs.Examples.{made, block_of, function_of, s32, use_of, copy_in, copy_out, return_of, names, world_of}
+use Rattle.gi_refine.specs.Examples.{of_one, block_of, function_of, s32, copy_in, copy_out, return_of, names, world_of}
 use Rattle.gi_refine.specs.Kept.{IsKept, AreKept, AreSeenAs, AllSeenAs, UsesHold, PhisHold, BodyHolds}
 use Rattle.gi_refine.specs.OnePlace.{OnePlace, only_virtual, StaysAt}
 use Rattle.gi_refine.specs.Reached.{IsReached, WhereReached}
@@ -43,6 +42,7 @@ pub data Premise : Type 0 where
   -- the place itself follows
   Follows : Premise
 
+-- by which premises are told apart
 abbrev pub number_of : Premise → ℕ
 number_of Successors = 0
 number_of PhisKept = 1
@@ -65,7 +65,7 @@ abbrev pub Owed : (dropped : Option Premise) → Premise → Type 0 → Type 0
 Owed None this T = T
 Owed (Some dropped) this T = cond (number_of dropped == number_of this) (Unit {0}) T
 
--- no register that is used, once it is renamed, is hidden
+-- no register that operands use, once it is renamed, is hidden
 abbrev pub AreShown : (hidden : ℕ → Bool) → (rename : ℕ → ℕ) → List Operand → Type 0
 AreShown hidden rename [] = Unit {0}
 AreShown hidden rename (operand.Use r ∷ os) = (hidden (rename r.0) ≡ false) × AreShown hidden rename os
@@ -107,7 +107,7 @@ pub record OwesAllBut (dropped : Option Premise) (x : ℕ) (f g : FunctionData) 
       (Agree (setting_of x names f) (setting_of x names g) (only_virtual p.hidden))
       (AgreeAt (setting_of x names f) (setting_of x names g) (λ b. only_virtual p.hidden)) p.old p.new)
 
--- a case in which all others hold and the new function isn't a refinement
+-- a case in which all premises but this one hold and the new function isn't a refinement
 pub record IsNotIdle (dropped : Premise) : Type 0 where
   pub old : FunctionData
   pub new : FunctionData
@@ -145,44 +145,47 @@ abbrev pub OwedPiece : (dropped : Option PiecePremise) → PiecePremise → Type
 OwedPiece None this T = T
 OwedPiece (Some dropped) this T = cond (number_of_piece dropped == number_of_piece this) (Unit {0}) T
 
-pub record StaysBut (d : Option PiecePremise) (x : ℕ) (f g : FunctionData) (entries : ℕ → Place → Bool) (rename : ℕ → ℕ) (w : World) (b : ℕ) (before : List (ℕ × InstrData)) (now next : Place → Bool) (i j : InstrData) : Type 0 where
-  pub kept : OwedPiece d StayKept (IsKept rename i j)
-  pub seen : OwedPiece d StaySeen (AreSeenAs (setting_of x names f) (setting_of x names g) now rename i.operands)
-  pub holds : OwedPiece d StayHeld ((state : State) → IsReached (setting_of x names f) w f.blocks b before state → UsesHold rename state i.operands)
-  pub hides : OwedPiece d StayHides (Covers (all_shown now (written_places (meaning_of i.flags i.op) i.operands)) next)
-  pub leaves : OwedPiece d StayLeaves ((c : ℕ) → is_target c i.operands ≡ true → Covers now (entries c))
+-- the premises of `Rewriting` but the dropped one: of an instruction that stays, of a piece, and of pieces
+pub record StaysBut (dropped : Option PiecePremise) (x : ℕ) (f g : FunctionData) (entries : ℕ → Place → Bool) (rename : ℕ → ℕ) (w : World) (b : ℕ) (before : List (ℕ × InstrData)) (now next : Place → Bool) (i j : InstrData) : Type 0 where
+  pub kept : OwedPiece dropped StayKept (IsKept rename i j)
+  pub seen : OwedPiece dropped StaySeen (AreSeenAs (setting_of x names f) (setting_of x names g) now rename i.operands)
+  pub holds : OwedPiece dropped StayHeld ((state : State) → IsReached (setting_of x names f) w f.blocks b before state → UsesHold rename state i.operands)
+  pub hides : OwedPiece dropped StayHides (Covers (all_shown now (written_places (meaning_of i.flags i.op) i.operands)) next)
+  pub leaves : OwedPiece dropped StayLeaves ((c : ℕ) → is_target c i.operands ≡ true → Covers now (entries c))
 
-abbrev pub PieceBut : (d : Option PiecePremise) → (x : ℕ) → (f g : FunctionData) → (entries : ℕ → Place → Bool) → (rename : ℕ → ℕ) → World → (b : ℕ) → (before : List (ℕ × InstrData)) → (now next : Place → Bool) → Piece → Type 0
-PieceBut d x f g entries rename w b before now next (Kept i j) = StaysBut d x f g entries rename w b before now next i.1 j.1
-PieceBut d x f g entries rename w b before now next (Changed is js) =
-    OwedPiece d PieceChanged (PieceFollows x names f g entries rename w b before now next (Changed is js))
+abbrev pub PieceBut : (dropped : Option PiecePremise) → (x : ℕ) → (f g : FunctionData) → (entries : ℕ → Place → Bool) → (rename : ℕ → ℕ) → World → (b : ℕ) → (before : List (ℕ × InstrData)) → (now next : Place → Bool) → Piece → Type 0
+PieceBut dropped x f g entries rename w b before now next (Kept i j) = StaysBut dropped x f g entries rename w b before now next i.1 j.1
+PieceBut dropped x f g entries rename w b before now next (Changed is js) =
+    OwedPiece dropped PieceChanged (PieceFollows x names f g entries rename w b before now next (Changed is js))
 
-abbrev pub PiecesBut : (d : Option PiecePremise) → (x : ℕ) → (f g : FunctionData) → (entries : ℕ → Place → Bool) → (rename : ℕ → ℕ) → World → (b : ℕ) → (before : List (ℕ × InstrData)) → (now : Place → Bool) → List (Piece × (Place → Bool)) → Type 0
-PiecesBut d x f g entries rename w b before now [] = Unit {0}
-PiecesBut d x f g entries rename w b before now (p ∷ ps) =
-    PieceBut d x f g entries rename w b before now p.1 p.0 × PiecesBut d x f g entries rename w b (before ++ old_of p.0) p.1 ps
+abbrev pub PiecesBut : (dropped : Option PiecePremise) → (x : ℕ) → (f g : FunctionData) → (entries : ℕ → Place → Bool) → (rename : ℕ → ℕ) → World → (b : ℕ) → (before : List (ℕ × InstrData)) → (now : Place → Bool) → List (Piece × (Place → Bool)) → Type 0
+PiecesBut dropped x f g entries rename w b before now [] = Unit {0}
+PiecesBut dropped x f g entries rename w b before now (p ∷ ps) =
+    PieceBut dropped x f g entries rename w b before now p.1 p.0 × PiecesBut dropped x f g entries rename w b (before ++ old_of p.0) p.1 ps
 
-pub record BlockBut (d : Option PiecePremise) (x : ℕ) (f g : FunctionData) (entries : ℕ → Place → Bool) (rename : ℕ → ℕ) (b : ℕ) (old new : BlockData) : Type 0 where
+-- and of a block in pieces
+pub record BlockBut (dropped : Option PiecePremise) (x : ℕ) (f g : FunctionData) (entries : ℕ → Place → Bool) (rename : ℕ → ℕ) (b : ℕ) (old new : BlockData) : Type 0 where
   pub middle : Place → Bool
   pub pieces : List (Piece × (Place → Bool))
-  pub successors : OwedPiece d BlockSuccessors (new.successors ≡ old.successors)
+  pub successors : OwedPiece dropped BlockSuccessors (new.successors ≡ old.successors)
   pub splits : after_phis old.instrs ≡ all_old pieces
   pub new_splits : after_phis new.instrs ≡ all_new pieces
-  pub phis : OwedPiece d PhisFollowing ((w : World) → IsWorld x w → PhisFollow x names f g w b (entries b) middle (phis_of old.instrs) (phis_of new.instrs))
-  pub body : (w : World) → IsWorld x w → PiecesBut d x f g entries rename w b [] middle pieces
-  pub falls : OwedPiece d BlockFalls (is_among (b + 1) old.successors ≡ true → Covers (hidden_after middle pieces) (entries (b + 1)))
+  pub phis : OwedPiece dropped PhisFollowing ((w : World) → IsWorld x w → PhisFollow x names f g w b (entries b) middle (phis_of old.instrs) (phis_of new.instrs))
+  pub body : (w : World) → IsWorld x w → PiecesBut dropped x f g entries rename w b [] middle pieces
+  pub falls : OwedPiece dropped BlockFalls (is_among (b + 1) old.successors ≡ true → Covers (hidden_after middle pieces) (entries (b + 1)))
 
-abbrev pub BlockButAt : (d : Option PiecePremise) → (x : ℕ) → (f g : FunctionData) → (entries : ℕ → Place → Bool) → (rename : ℕ → ℕ) → (b : ℕ) → (old new : Option BlockData) → Type 0
-BlockButAt d x f g entries rename b None new = Unit {0}
-BlockButAt d x f g entries rename b (Some old) None = ⊥
-BlockButAt d x f g entries rename b (Some old) (Some new) = BlockBut d x f g entries rename b old new
+abbrev pub BlockButAt : (dropped : Option PiecePremise) → (x : ℕ) → (f g : FunctionData) → (entries : ℕ → Place → Bool) → (rename : ℕ → ℕ) → (b : ℕ) → (old new : Option BlockData) → Type 0
+BlockButAt dropped x f g entries rename b None new = Unit {0}
+BlockButAt dropped x f g entries rename b (Some old) None = ⊥
+BlockButAt dropped x f g entries rename b (Some old) (Some new) = BlockBut dropped x f g entries rename b old new
 
 -- all premises of rewriting piece by piece but the dropped one
-pub record IsRewrittenBut (d : Option PiecePremise) (x : ℕ) (f g : FunctionData) : Type 0 where
+pub record IsRewrittenBut (dropped : Option PiecePremise) (x : ℕ) (f g : FunctionData) : Type 0 where
   pub entries : ℕ → Place → Bool
   pub rename : ℕ → ℕ
-  pub places : (b : ℕ) → BlockButAt d x f g entries rename b (slice_get f.blocks b) (slice_get g.blocks b)
+  pub places : (b : ℕ) → BlockButAt dropped x f g entries rename b (slice_get f.blocks b) (slice_get g.blocks b)
 
+-- a case in which all premises but this one hold and the new function isn't a refinement
 pub record IsPieceNotIdle (dropped : PiecePremise) : Type 0 where
   pub old : FunctionData
   pub new : FunctionData
@@ -193,7 +196,7 @@ pub record IsPieceNotIdle (dropped : PiecePremise) : Type 0 where
 
 -- `%d:s32 = COPY %r`
 abbrev pub copied : (d r : ℕ) → ℕ × InstrData
-copied d r = made op.Copy (operand.Def (reg_of d) s32 ∷ use_of r ∷ []) None
+copied d r = of_one op.Copy d s32 r
 
 -- a copy of a copy, and the copy of the value itself
 abbrev pub copies_copy : FunctionData

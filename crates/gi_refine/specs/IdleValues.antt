@@ -7,11 +7,10 @@ use Rattle.gi_mir.specs.declared.opcode.Opcode.TheVariants as op
 use Rattle.gi_meaning.specs.State.{World, State, Place, outside_of}
 use Rattle.gi_meaning.specs.Runs.{Setting}
 use Rattle.gi_refine.specs.Agreement.{Agree, AgreeAt, setting}
-use Rattle.gi_refine.specs.Examples.{counting, names, s32, world_of, made}
+use Rattle.gi_refine.specs.Examples.{counting, names, s32, world_of, made, of_one, of_two}
 use Rattle.gi_refine.specs.Lifting.{Placing, AgreeReady, Reads, AllShow, are_all_fresh, none_hidden, left_hidden, IsPlaced}
 use Rattle.gi_refine.specs.OnePlace.{only_virtual}
 use Rattle.gi_refine.specs.Simulation.{IsFollowed}
-use Rattle.gi_refine.specs.TrialFunctions.{of_one, of_two}
 use Rattle.gi_refine.specs.TrialRules.{constant, on_one, on_two}
 use Rattle.gi_refine.specs.Values.{Operation, Defines, Rule, Environment, AllHold, IsSound, are_pure}
 
@@ -19,13 +18,6 @@ use Rattle.gi_refine.specs.Values.{Operation, Defines, Rule, Environment, AllHol
 
 abbrev pub quiet : World
 quiet = world_of 0 0 0 []
-
--- no register hidden, and one
-abbrev pub nothing : ℕ → Bool
-nothing r = false
-
-abbrev pub only : ℕ → ℕ → Bool
-only q r = r == q
 
 -- each register is of 32 bits
 abbrev pub all_32 : ℕ → ℕ
@@ -112,7 +104,7 @@ free_placed = record { inputs = []; old = (0 ∷ []) ∷ (2 ∷ []) ∷ []; new 
 abbrev pub first_two : ℕ → Bool
 first_two r = (r == 0) || (r == 1)
 
--- `%r = IMPLICIT_DEF`, `%2 = G_SUB %a, %b`
+-- `%r = G_IMPLICIT_DEF`, `%2 = G_SUB %a, %b`
 abbrev pub free_in : ℕ → ℕ × InstrData
 free_in r = made op.GenericImplicitDef (Def (reg_of r) s32 ∷ []) None
 

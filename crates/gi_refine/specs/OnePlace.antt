@@ -1,6 +1,6 @@
 -- The usual rewriting: in one block some instructions are replaced by others, and elsewhere uses of registers are
 -- replaced by uses of registers that hold the same value.
-use Rattle.std.specs.Prelude.{◌≡◌, ℕ, Bool, false, List, [], ◌++◌, Option, Some, None, slice_get}
+use Rattle.std.specs.Prelude.{◌≡◌, ℕ, Bool, false, ◌==◌, List, [], ◌++◌, Option, Some, None, slice_get}
 use Rattle.gi_mir.specs.Data.{InstrData, BlockData, FunctionData}
 use Rattle.gi_meaning.specs.State.{World, IsWorld, Place, Virtual, Physical}
 use Rattle.gi_meaning.specs.Runs.{setting_of, phis_of, after_phis}
@@ -13,6 +13,13 @@ use Rattle.gi_refine.specs.Simulation.{IsFollowed}
 abbrev pub only_virtual : (ℕ → Bool) → Place → Bool
 only_virtual hidden (Virtual r) = hidden r
 only_virtual hidden (Physical n) = false
+
+-- no register, and this one alone
+abbrev pub nothing : ℕ → Bool
+nothing r = false
+
+abbrev pub only : (q : ℕ) → ℕ → Bool
+only q r = r == q
 
 -- The place: a block, what stands before, in and after it (behind the phis of the block) in the old function and in the new
 -- one, the virtual registers in which the two functions may differ, and the register that replaces each.

@@ -11,7 +11,7 @@ GoesTo b successors (On state) next state' = (is_among (b + 1) successors ≡ tr
 GoesTo b successors (Left c state) next state' = (next ≡ c) × (state' ≡ state)
 GoesTo b successors (Over outcome) next state' = ⊥
 
--- from a state at the entry of a block, which was left for from another, its phis give the state before its other instructions
+-- from a state at the entry of a block, from another or at the start, its phis give the state before its other instructions
 pub record AfterPhis (blocks : List BlockData) (from : Option ℕ) (b : ℕ) (entered : State) (block : BlockData) (middle : State) : Type 0 where
   pub here : slice_get blocks b ≡ Some block
   pub phis : joined entered from (phis_of block.instrs) ≡ Some middle
@@ -40,14 +40,14 @@ pub record IsEntered (s : Setting) (w : World) (blocks : List BlockData) (b : �
   pub arrives : Arrives s w blocks entries from b entered
   pub joins : AfterPhis blocks from b entered block middle
 
--- behind the phis of this block and these instructions a run has come so far
+-- a run has come so far behind the phis of this block and these instructions
 pub record Reaches (s : Setting) (w : World) (blocks : List BlockData) (b : ℕ) (before : List (ℕ × InstrData)) (progress : Progress) : Type 0 where
   pub block : BlockData
   pub middle : State
   pub enters : IsEntered s w blocks b block middle
   pub ran : Executes s w before middle progress
 
--- and goes on there in this state
+-- a run goes on there in this state
 abbrev pub IsReached : (s : Setting) → (w : World) → (blocks : List BlockData) → (b : ℕ) → (before : List (ℕ × InstrData)) → State → Type 0
 IsReached s w blocks b before state = Reaches s w blocks b before (On state)
 

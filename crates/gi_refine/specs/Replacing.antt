@@ -27,6 +27,7 @@ any_touches hidden rename (i ∷ is) = touches hidden rename i.1.operands || any
 
 -- ══ Uses renamed everywhere ══
 
+-- an instruction with its id, a list of them, and a block, each with its uses renamed
 abbrev pub reused_pair : (rename : ℕ → ℕ) → ℕ × InstrData → ℕ × InstrData
 reused_pair rename i = (i.0, reused rename i.1)
 
@@ -38,8 +39,8 @@ reused_block rename block = record block { instrs = all_reused rename block.inst
 
 -- ══ A replacement ══
 
--- the block, what stands before it (the phis of the block too), the old and the new instructions, what stands
--- after, and the registers in which the two functions may differ
+-- The block; what stands in it before the place (its phis too), the old and the new instructions, and what stands after; and
+-- the registers in which the two functions may differ.
 pub record Replacement : Type 0 where
   pub block : ℕ
   pub before : List (ℕ × InstrData)
@@ -72,6 +73,7 @@ pub record IsReplaced (x : ℕ) (names : List (List ℕ)) (f g : FunctionData) (
 
 -- ══ The same instructions under other ids ══
 
+-- the same successors, and the same instructions in order
 pub record IsSameBlock (old new : BlockData) : Type 0 where
   pub successors : new.successors ≡ old.successors
   pub instrs : AllZip (λ i j. j.1 ≡ i.1) old.instrs new.instrs

@@ -28,7 +28,7 @@ abbrev pub new_of : Piece → List (ℕ × InstrData)
 new_of (Kept i j) = j ∷ []
 new_of (Changed is js) = js
 
--- pieces, each with what is hidden after it
+-- the old instructions of pieces, each of which comes with what is hidden after it, and the new ones
 abbrev pub all_old : List (Piece × (Place → Bool)) → List (ℕ × InstrData)
 all_old [] = []
 all_old (p ∷ ps) = old_of p.0 ++ all_old ps
@@ -59,6 +59,7 @@ pub record Stays (x : ℕ) (names : List (List ℕ)) (f g : FunctionData) (entri
   pub hides : Covers (all_shown now (written_places (meaning_of i.flags i.op) i.operands)) next
   pub leaves : (c : ℕ) → is_target c i.operands ≡ true → Covers now (entries c)
 
+-- what a piece owes: one that stays, as told, and one that is changed follows from the states that runs reach
 abbrev pub PieceFollows : (x : ℕ) → (names : List (List ℕ)) → (f g : FunctionData) → (entries : ℕ → Place → Bool) → (rename : ℕ → ℕ) → World → (b : ℕ) → (before : List (ℕ × InstrData)) → (now next : Place → Bool) → Piece → Type 0
 PieceFollows x names f g entries rename w b before now next (Kept i j) = Stays x names f g entries rename w b before now next i.1 j.1
 PieceFollows x names f g entries rename w b before now next (Changed is js) =
@@ -72,6 +73,7 @@ PiecesFollow x names f g entries rename w b before now [] = Unit {0}
 PiecesFollow x names f g entries rename w b before now (p ∷ ps) =
     PieceFollows x names f g entries rename w b before now p.1 p.0 × PiecesFollow x names f g entries rename w b (before ++ old_of p.0) p.1 ps
 
+-- what is hidden after the last piece
 abbrev pub hidden_after : (now : Place → Bool) → List (Piece × (Place → Bool)) → Place → Bool
 hidden_after now [] = now
 hidden_after now (p ∷ ps) = hidden_after p.1 ps

@@ -12,8 +12,9 @@ use Rattle.gi_refine.specs.Values.{Rule, IsSound, IsCertain, are_pure}
 abbrev pub width_in : (x : ℕ) → FunctionData → ℕ → ℕ
 width_in x f r = width_of_kind x (kind_of f r)
 
--- With these places hidden before and after: in each world the rule is sound, the old and the new instructions are its operations on registers, and of the
--- states that runs of the old function reach behind what stands before in the block, enough is known.
+-- With these places hidden before and after: in each world the rule is sound, the old and the new instructions are its
+-- operations on registers, and of the states that runs of the old function reach behind what stands before in the block,
+-- enough is known.
 pub record IsRuleUse (x : ℕ) (names : List (List ℕ)) (f g : FunctionData) (now next : Place → Bool) (rule : World → Rule) (placing : Placing) (block : ℕ) (before old new : List (ℕ × InstrData)) : Type 0 where
   pub sound : (w : World) → IsWorld x w → IsSound x w (rule w)
   pub placed : (w : World) → IsWorld x w

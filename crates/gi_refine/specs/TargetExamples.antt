@@ -6,13 +6,13 @@ use Rattle.gi_mir.specs.Stated.{reg_of, no_flags}
 use Rattle.gi_mir.specs.declared.opcode.Opcode.{Opcode}
 use Rattle.gi_mir.specs.declared.opcode.Opcode.TheVariants as op
 use Rattle.gi_mir.specs.declared.operand.Kind.{Kind}
-use Rattle.gi_mir.specs.declared.operand.Kind.TheVariants.{Generic, Class}
+use Rattle.gi_mir.specs.declared.operand.Kind.TheVariants.{Class}
 use Rattle.gi_mir.specs.declared.operand.MemOp.{MemOp}
 use Rattle.gi_mir.specs.declared.operand.Operand.{Operand}
-use Rattle.gi_mir.specs.declared.operand.Operand.TheVariants.{Def, ImplicitUse, ImplicitDef, Int, Constant, Block, Global, Routine, SavedMask}
+use Rattle.gi_mir.specs.declared.operand.Operand.TheVariants.{Def, ImplicitUse, ImplicitDef, Int, Block, Global, Routine, SavedMask}
 use Rattle.gi_mir.specs.declared.operand.SymbolFlag.TheVariants.{Call, Hi, Lo}
 use Rattle.gi_meaning.specs.State.{World}
-use Rattle.gi_refine.specs.Examples.{made, block_of, function_of, s32, use_of, copy_in, copy_out, return_of, world_of}
+use Rattle.gi_refine.specs.Examples.{made, block_of, function_of, s32, use_of, copy_in, copy_out, return_of, world_of, s8, of_two, constant_in}
 
 -- ══ Making functions of one block ══
 
@@ -20,32 +20,23 @@ use Rattle.gi_refine.specs.Examples.{made, block_of, function_of, s32, use_of, c
 abbrev pub computing : Kind → List (ℕ × InstrData) → (r : ℕ) → FunctionData
 computing kind instrs r = function_of (block_of [] (copy_in 0 10 kind ∷ copy_in 1 11 kind ∷ (instrs ++ copy_out 10 r ∷ return_of 10 ∷ [])) ∷ [])
 
--- `%d = OP %a, %b`, `%d = OP %a, i`
-abbrev pub on_two : Opcode → Kind → (d a b : ℕ) → ℕ × InstrData
-on_two opcode kind d a b = made opcode (Def (reg_of d) kind ∷ use_of a ∷ use_of b ∷ []) None
-
-abbrev pub on_number : Opcode → Kind → (d a : ℕ) → ℤ → ℕ × InstrData
-on_number opcode kind d a i = made opcode (Def (reg_of d) kind ∷ use_of a ∷ Int i ∷ []) None
-
-abbrev pub constant : (d value : ℕ) → ℕ × InstrData
-constant d value = made op.GenericConstant (Def (reg_of d) s32 ∷ Constant 32 value ∷ []) None
-
-abbrev pub s64 : Kind
-s64 = Generic (Scalar 64)
+-- `%d = OP %a, i`
+abbrev pub on_number : Opcode → (d : ℕ) → Kind → (a : ℕ) → ℤ → ℕ × InstrData
+on_number opcode d kind a i = made opcode (Def (reg_of d) kind ∷ use_of a ∷ Int i ∷ []) None
 
 -- ══ Generic instructions ══
 
 abbrev pub adds : FunctionData
-adds = computing s32 (on_two op.GenericAdd s32 2 0 1 ∷ []) 2
+adds = computing s32 (of_two op.GenericAdd 2 s32 0 1 ∷ []) 2
 
 abbrev pub multiplies : FunctionData
-multiplies = computing s32 (on_two op.GenericMultiply s32 2 0 1 ∷ []) 2
+multiplies = computing s32 (of_two op.GenericMultiply 2 s32 0 1 ∷ []) 2
 
 abbrev pub is_seven : FunctionData
-is_seven = computing s32 (constant 2 7 ∷ []) 2
+is_seven = computing s32 (constant_in 2 32 7 s32 ∷ []) 2
 
 abbrev pub divides_signed : FunctionData
-divides_signed = computing s32 (on_two op.GenericSignedDivide s32 2 0 1 ∷ []) 2
+divides_signed = computing s32 (of_two op.GenericSignedDivide 2 s32 0 1 ∷ []) 2
 
 -- `%5` has no definition
 abbrev pub reads_nothing : FunctionData
@@ -54,10 +45,10 @@ reads_nothing = computing s32 [] 5
 -- counts x10 down to 0, and returns that
 abbrev pub counts_down : FunctionData
 counts_down = function_of
-    (block_of (1 ∷ []) (copy_in 0 10 s32 ∷ constant 3 4294967295 ∷ made op.GenericBranch (Block 1 ∷ []) None ∷ [])
+    (block_of (1 ∷ []) (copy_in 0 10 s32 ∷ constant_in 3 32 4294967295 s32 ∷ made op.GenericBranch (Block 1 ∷ []) None ∷ [])
     ∷ block_of (1 ∷ 2 ∷ [])
     (made op.GenericPhi (Def (reg_of 1) s32 ∷ use_of 0 ∷ Block 0 ∷ use_of 2 ∷ Block 1 ∷ []) None
-    ∷ on_two op.GenericAdd s32 2 1 3
+    ∷ of_two op.GenericAdd 2 s32 1 3
     ∷ made op.GenericBranchConditional (use_of 2 ∷ Block 1 ∷ []) None
     ∷ [])
     ∷ block_of [] (copy_out 10 2 ∷ return_of 10 ∷ [])
@@ -74,23 +65,23 @@ returns_two = function_of (block_of []
 -- ══ RISC-V's instructions on words ══
 
 abbrev pub adds_words : FunctionData
-adds_words = computing Class (on_two op.Add Class 2 0 1 ∷ []) 2
+adds_words = computing Class (of_two op.Add 2 Class 0 1 ∷ []) 2
 
 abbrev pub adds_minus_one : FunctionData
-adds_minus_one = computing Class (on_number op.AddImmediate Class 2 0 (negsuc 0) ∷ []) 2
+adds_minus_one = computing Class (on_number op.AddImmediate 2 Class 0 (negsuc 0) ∷ []) 2
 
 abbrev pub is_below_five : FunctionData
-is_below_five = computing Class (on_number op.SetLessImmediateUnsigned Class 2 0 (pos 5) ∷ []) 2
+is_below_five = computing Class (on_number op.SetLessImmediateUnsigned 2 Class 0 (pos 5) ∷ []) 2
 
 -- `%2 = LUI 524288`
 abbrev pub upper_half : FunctionData
 upper_half = computing Class (made op.LoadUpperImmediate (Def (reg_of 2) Class ∷ Int (pos 524288) ∷ []) None ∷ []) 2
 
 abbrev pub adds_low_words : FunctionData
-adds_low_words = computing Class (on_two op.AddWord Class 2 0 1 ∷ []) 2
+adds_low_words = computing Class (of_two op.AddWord 2 Class 0 1 ∷ []) 2
 
 abbrev pub extends_low_word : FunctionData
-extends_low_word = computing Class (on_number op.AddImmediateWord Class 2 0 (pos 0) ∷ []) 2
+extends_low_word = computing Class (on_number op.AddImmediateWord 2 Class 0 (pos 0) ∷ []) 2
 
 -- the address of the function g, in two steps
 abbrev pub address_of_g : FunctionData
@@ -137,13 +128,11 @@ compares = function_of
 
 -- ══ Free choices ══
 
-abbrev pub s8 : Kind
-s8 = Generic (Scalar 8)
-
 -- the bits of an s8 in a register of 32, the others free
 abbrev pub extends_anyhow : List (ℕ × InstrData)
 extends_anyhow = copy_in 0 10 s8 ∷ made op.GenericAnyExtend (Def (reg_of 2) s32 ∷ use_of 0 ∷ []) None ∷ copy_out 10 2 ∷ return_of 10 ∷ []
 
+-- any word
 abbrev pub takes_anything : List (ℕ × InstrData)
 takes_anything = made op.GenericImplicitDef (Def (reg_of 2) s32 ∷ []) None ∷ copy_out 10 2 ∷ return_of 10 ∷ []
 
@@ -157,22 +146,20 @@ adds_without_wrapping =
     ∷ return_of 10
     ∷ []
 
+-- x10 by x11 to the left
 abbrev pub shifts : List (ℕ × InstrData)
-shifts = copy_in 0 10 s32 ∷ copy_in 1 11 s32 ∷ on_two op.GenericShiftLeft s32 2 0 1 ∷ copy_out 10 2 ∷ return_of 10 ∷ []
+shifts = copy_in 0 10 s32 ∷ copy_in 1 11 s32 ∷ of_two op.GenericShiftLeft 2 s32 0 1 ∷ copy_out 10 2 ∷ return_of 10 ∷ []
 
 -- the low half of x10 through a register of 32 bits
 abbrev pub copies_low_half : List (ℕ × InstrData)
 copies_low_half = copy_in 0 10 s32 ∷ copy_out 10 0 ∷ return_of 10 ∷ []
 
--- machine instructions that read registers of 32 bits: the sum of low halves, and the upper half
+-- instructions of RV64 that read registers of 32 bits: the sum of low halves, and the upper half
 abbrev pub adds_low_halves : List (ℕ × InstrData)
-adds_low_halves = copy_in 0 10 s32 ∷ copy_in 1 11 s32 ∷ on_two op.AddWord Class 2 0 1 ∷ copy_out 10 2 ∷ return_of 10 ∷ []
+adds_low_halves = copy_in 0 10 s32 ∷ copy_in 1 11 s32 ∷ of_two op.AddWord 2 Class 0 1 ∷ copy_out 10 2 ∷ return_of 10 ∷ []
 
 abbrev pub takes_upper_half : List (ℕ × InstrData)
-takes_upper_half = copy_in 0 10 s32 ∷ on_number op.ShiftRightLogicalImmediate Class 2 0 (pos 32) ∷ copy_out 10 2 ∷ return_of 10 ∷ []
-
-abbrev pub one_block : List (ℕ × InstrData) → FunctionData
-one_block instrs = function_of (block_of [] instrs ∷ [])
+takes_upper_half = copy_in 0 10 s32 ∷ on_number op.ShiftRightLogicalImmediate 2 Class 0 (pos 32) ∷ copy_out 10 2 ∷ return_of 10 ∷ []
 
 -- ══ Routines of the runtime ══
 

@@ -16,6 +16,7 @@ pub record ConstantInput : Type 0 where
   pub register : ℕ
   pub value : ℕ
 
+-- that each is this constant
 abbrev pub constant_facts : (width : ℕ → ℕ) → List ConstantInput → List Fact
 constant_facts width [] = []
 constant_facts width (c ∷ cs) = Defines (constant (width c.register) c.value) (c.place ∷ []) ∷ constant_facts width cs
@@ -31,15 +32,15 @@ abbrev pub takes_all : List Slot → (place : ℕ) → List ℕ → Bool
 takes_all slots place [] = true
 takes_all slots place (r ∷ rs) = takes place slots && takes_all slots (suc place) rs
 
--- The rule is sound, and the old and the new instructions are its operations on registers; they stand in this block behind
--- those; the first old operation takes each input; values fit; and the rule's facts are of constants.
+-- The rule is sound, and the old and the new instructions are its operations on registers; the old ones stand in the block
+-- behind those before; the first old operation takes each input; values fit; and the rule's facts are of constants.
 pub record IsTestedUse (x : ℕ) (names : List (List ℕ)) (f g : FunctionData) (now next : Place → Bool) (rule : Rule) (placing : Placing) (block : ℕ) (before old new : List (ℕ × InstrData)) : Type 0 where
   pub sound : (w : World) → IsWorld x w → IsSound x w rule
   pub placed : (w : World) → IsWorld x w → IsPlaced x names (width_in x f) (width_in x g) w rule placing now next old new
-  pub data_of : BlockData
+  pub block_data : BlockData
   pub back : List (ℕ × InstrData)
-  pub here : slice_get f.blocks block ≡ Some data_of
-  pub splits : after_phis data_of.instrs ≡ before ++ back
+  pub here : slice_get f.blocks block ≡ Some block_data
+  pub splits : after_phis block_data.instrs ≡ before ++ back
   pub taken : takes_all (first_slots rule.old) 0 placing.inputs ≡ true
   pub fit : blocks_fit (setting_of x names f) f.blocks ≡ true
   pub constants : List ConstantInput

@@ -8,32 +8,21 @@ use Rattle.gi_mir.specs.Stated.{reg_of}
 use Rattle.gi_mir.specs.declared.opcode.Opcode.{Opcode}
 use Rattle.gi_mir.specs.declared.opcode.Opcode.TheVariants as op
 use Rattle.gi_mir.specs.declared.operand.Kind.{Kind}
-use Rattle.gi_mir.specs.declared.operand.Operand.TheVariants.{Def, Constant, ImplicitUse, Block}
-use Rattle.gi_refine.specs.Examples.{made, block_of, function_of, s32, use_of, copy_in, copy_out, return_of}
+use Rattle.gi_mir.specs.declared.operand.Operand.TheVariants.{Def, ImplicitUse, Block}
+use Rattle.gi_refine.specs.Examples.{made, block_of, function_of, s32, use_of, copy_in, copy_out, return_of, bits, of_one, of_two, constant_in, one_block}
 use Rattle.gi_refine.specs.Lifting.{Placing}
 use Rattle.gi_refine.specs.OnePlace.{OnePlace}
 use Rattle.gi_refine.specs.Replacing.{Replacement}
-
--- `%d = OP %a, %b`, `%d = G_CONSTANT i32 VALUE`
-abbrev pub of_two : Opcode → (d : ℕ) → Kind → (a b : ℕ) → ℕ × InstrData
-of_two op d kind a b = made op (Def (reg_of d) kind ∷ use_of a ∷ use_of b ∷ []) None
-
-abbrev pub constant_in : (d n value : ℕ) → Kind → ℕ × InstrData
-constant_in d n value kind = made op.GenericConstant (Def (reg_of d) kind ∷ Constant n value ∷ []) None
-
--- a function of one block
-abbrev pub straight : List (ℕ × InstrData) → FunctionData
-straight is = function_of (block_of [] is ∷ [])
 
 -- ══ x - x ══
 
 -- `%0 = COPY $x10`, `%1 = G_SUB %0, %0`, `$x10 = COPY %1`
 abbrev pub subtracts_itself : FunctionData
-subtracts_itself = straight (copy_in 0 10 s32 ∷ of_two op.GenericSubtract 1 s32 0 0 ∷ copy_out 10 1 ∷ return_of 10 ∷ [])
+subtracts_itself = one_block (copy_in 0 10 s32 ∷ of_two op.GenericSubtract 1 s32 0 0 ∷ copy_out 10 1 ∷ return_of 10 ∷ [])
 
 -- `%1 = G_CONSTANT i32 0` in its place
 abbrev pub gives_zero : FunctionData
-gives_zero = straight (copy_in 0 10 s32 ∷ constant_in 1 32 0 s32 ∷ copy_out 10 1 ∷ return_of 10 ∷ [])
+gives_zero = one_block (copy_in 0 10 s32 ∷ constant_in 1 32 0 s32 ∷ copy_out 10 1 ∷ return_of 10 ∷ [])
 
 abbrev pub subtraction_folded : Replacement
 subtraction_folded = record {
@@ -56,11 +45,11 @@ word_and_zero = copy_in 0 10 s32 ∷ constant_in 1 32 0 s32 ∷ []
 
 -- `%2 = G_ADD %0, %1`, `$x10 = COPY %2`
 abbrev pub adds_zero : FunctionData
-adds_zero = straight (copy_in 0 10 s32 ∷ constant_in 1 32 0 s32 ∷ of_two op.GenericAdd 2 s32 0 1 ∷ copy_out 10 2 ∷ return_of 10 ∷ [])
+adds_zero = one_block (copy_in 0 10 s32 ∷ constant_in 1 32 0 s32 ∷ of_two op.GenericAdd 2 s32 0 1 ∷ copy_out 10 2 ∷ return_of 10 ∷ [])
 
 -- `$x10 = COPY %0` without the sum
 abbrev pub gives_summand : FunctionData
-gives_summand = straight (copy_in 0 10 s32 ∷ constant_in 1 32 0 s32 ∷ copy_out 10 0 ∷ return_of 10 ∷ [])
+gives_summand = one_block (copy_in 0 10 s32 ∷ constant_in 1 32 0 s32 ∷ copy_out 10 0 ∷ return_of 10 ∷ [])
 
 abbrev pub sum_replaced : OnePlace
 sum_replaced = record {
@@ -79,13 +68,6 @@ abbrev pub sum_placed : Placing
 sum_placed = record { inputs = 0 ∷ 1 ∷ []; old = (2 ∷ []) ∷ []; new = [] }
 
 -- ══ A sum of parts of words ══
-
--- `%d = OP %a`
-abbrev pub of_one : Opcode → (d : ℕ) → Kind → (a : ℕ) → ℕ × InstrData
-of_one op d kind a = made op (Def (reg_of d) kind ∷ use_of a ∷ []) None
-
-abbrev pub bits : ℕ → Kind
-bits n = Generic (Scalar n)
 
 -- the low n bits of the words in x10 and x11, in %2 and %3
 abbrev pub two_parts : (x n : ℕ) → List (ℕ × InstrData)
@@ -112,7 +94,7 @@ word_sum = of_two op.AddWord 4 (bits 32) 2 3 ∷ []
 
 -- between the parts and what is returned
 abbrev pub on_parts : (x n : ℕ) → List (ℕ × InstrData) → FunctionData
-on_parts x n is = straight (two_parts x n ++ (is ++ part_returned x))
+on_parts x n is = one_block (two_parts x n ++ (is ++ part_returned x))
 
 abbrev pub wide_hidden : ℕ → Bool
 wide_hidden r = (6 == r) || (7 == r) || (8 == r)
@@ -155,7 +137,7 @@ sum_by_words x =
     ∷ of_two op.GenericMergeValues 6 (bits (x + x)) 13 15 ∷ []
 
 abbrev pub on_doubles : (x : ℕ) → List (ℕ × InstrData) → FunctionData
-on_doubles x is = straight (two_doubles x ++ (is ++ double_returned x))
+on_doubles x is = one_block (two_doubles x ++ (is ++ double_returned x))
 
 abbrev pub is_one_of : List ℕ → ℕ → Bool
 is_one_of [] q = false
@@ -193,7 +175,7 @@ bytes_loaded x =
     ∷ constant_in 6 32 8 s32 ∷ of_two op.GenericShiftLeft 7 s32 5 6 ∷ of_two op.GenericOr 1 s32 7 2 ∷ []
 
 abbrev pub on_address : List (ℕ × InstrData) → FunctionData
-on_address is = straight (address_in ++ (is ++ (copy_out 10 1 ∷ return_of 10 ∷ [])))
+on_address is = one_block (address_in ++ (is ++ (copy_out 10 1 ∷ return_of 10 ∷ [])))
 
 abbrev pub byte_registers : List ℕ
 byte_registers = 2 ∷ 3 ∷ 4 ∷ 5 ∷ 6 ∷ 7 ∷ []

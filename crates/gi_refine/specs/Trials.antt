@@ -1,24 +1,19 @@
 -- Trial rules: a phi of 16 bits becomes one of 32, with an extension before the first terminator of each predecessor and a
 -- truncation behind the last phi; and registers of 32 bits that become words on RV64.
 use Rattle.std.specs.Prelude.{ℕ, List, [], ◌∷◌, None}
-use Rattle.gi_llt.specs.declared.Llt.TheVariants.{Scalar}
 use Rattle.gi_mir.specs.Data.{InstrData, FunctionData}
 use Rattle.gi_mir.specs.Stated.{reg_of}
 use Rattle.gi_mir.specs.declared.opcode.Opcode.TheVariants as op
 use Rattle.gi_mir.specs.declared.operand.Kind.{Kind}
-use Rattle.gi_mir.specs.declared.operand.Kind.TheVariants.{Generic}
 use Rattle.gi_mir.specs.declared.operand.Operand.TheVariants as operand
-use Rattle.gi_refine.specs.Examples.{made, block_of, function_of, s32, use_of, copy_in, copy_out, return_of}
-
-abbrev pub s16 : Kind
-s16 = Generic (Scalar 16)
+use Rattle.gi_refine.specs.Examples.{made, of_one, block_of, function_of, s32, use_of, copy_in, copy_out, return_of, s16}
 
 -- `%d:s32 = G_ZEXT %r`, `%d:s16 = G_TRUNC %r`
 abbrev pub extension : (d r : ℕ) → ℕ × InstrData
-extension d r = made op.GenericZeroExtend (operand.Def (reg_of d) s32 ∷ use_of r ∷ []) None
+extension d r = of_one op.GenericZeroExtend d s32 r
 
 abbrev pub truncation : (d r : ℕ) → ℕ × InstrData
-truncation d r = made op.GenericTruncate (operand.Def (reg_of d) s16 ∷ use_of r ∷ []) None
+truncation d r = of_one op.GenericTruncate d s16 r
 
 -- `%d = G_PHI %a, bb.0, %b, bb.1`
 abbrev pub phi_of : (d a b : ℕ) → Kind → ℕ × InstrData

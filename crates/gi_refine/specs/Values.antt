@@ -74,6 +74,7 @@ abbrev pub answered : Environment → (widths : List ℕ) → Answer → Option 
 answered env widths (Results results outside) = appended env widths results
 answered env widths _ = None
 
+-- and then the rest, unless it is undefined
 abbrev pub Then : Option Environment → (Environment → Option Environment → Type 0) → Option Environment → Type 0
 Then None rest made = made ≡ None
 Then (Some env) rest made = rest env made
@@ -95,6 +96,7 @@ pub data Fact : Type 0 where
   -- what memory holds are bytes
   HoldsBytes : Fact
 
+-- the values stand at these places, with these widths
 abbrev pub StandAt : Environment → (places widths values : List ℕ) → Type 0
 StandAt env [] [] [] = Unit {0}
 StandAt env (p ∷ ps) (n ∷ ns) (v ∷ vs) = (slice_get env p ≡ Some (n, v)) × StandAt env ps ns vs

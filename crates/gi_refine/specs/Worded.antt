@@ -37,6 +37,7 @@ may_have_words Nothing op os = not (has_virtual os)
 may_have_words (Generic gives) op os = is_implicit_definition op
 may_have_words _ op os = false
 
+-- an instruction whose registers may become words
 abbrev pub is_worded : InstrData → Bool
 is_worded i = may_have_words (meaning_of i.flags i.op) i.op i.operands
 
@@ -105,6 +106,7 @@ abbrev pub PhisOfWidth : Setting → List (ℕ × InstrData) → Type 0
 PhisOfWidth s [] = Unit {0}
 PhisOfWidth s (i ∷ is) = PlacesOfWidth s (places_of i.1.operands) i.1.operands × PhisOfWidth s is
 
+-- a block, and blocks, whose definitions may all have class `gpr`
 pub record IsBlockWorded (s : Setting) (block : BlockData) : Type 0 where
   pub narrow : AllNarrow s.x block.instrs
   pub phis : PhisOfWidth s (phis_of block.instrs)

@@ -3,9 +3,9 @@
 ghost use Rattle.std.specs.Prelude.{ℕ, suc, [], ◌∷◌};
 ghost use Rattle.gi_mir.specs.declared.operand.Operand.TheVariants.{ImplicitUse};
 ghost use Rattle.gi_meaning.specs.State.{Returned};
-ghost use Rattle.gi_refine.specs.Examples.{counting, names, world_of};
+ghost use Rattle.gi_refine.specs.Examples.{counting, names, world_of, bits, one_block};
 ghost use Rattle.gi_refine.specs.Outcomes.{ComesTo, ReturnsAny, has_low_bits};
-ghost use Rattle.gi_refine.specs.TargetExamples.{extends_anyhow, takes_anything, adds_without_wrapping, shifts, copies_low_half, adds_low_halves, takes_upper_half, one_block, divides_by_routine};
+ghost use Rattle.gi_refine.specs.TargetExamples.{extends_anyhow, takes_anything, adds_without_wrapping, shifts, copies_low_half, adds_low_halves, takes_upper_half, divides_by_routine};
 
 /// Each of these functions returns any word of those that are told, and comes to nothing else.
 pub fn free_choices_come_to()

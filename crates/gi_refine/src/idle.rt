@@ -7,13 +7,13 @@ ghost use Rattle.gi_refine.specs.Idle.{IsByReach, IsNotIdle, IsPieceNotIdle, IsR
 ghost use Rattle.gi_refine.specs.OnePlace.{OnePlace, RewritesOnePlace};
 ghost use Rattle.gi_refine.specs.Rewriting.{IsRewritten};
 
-/// For each premise of `one_place_follows`, and for each of `rewriting_follows`, there is a case in which all others hold,
-/// and the new function returns, or does, something that the old one doesn't.
+/// For each premise of `one_place_follows`, and for each of `rewriting_follows`, there is a case in which all others hold
+/// and the new function doesn't refine the old one.
 pub fn no_premise_is_idle()
     ensures place { (x : ℕ) (f g : FunctionData) (p : OnePlace) → OwesAllBut None x f g p → RewritesOnePlace x names f g p }
     ensures of_place { (dropped : Premise) → IsNotIdle dropped }
     ensures pieces { (x : ℕ) (f g : FunctionData) → IsRewrittenBut None x f g → IsRewritten x names f g }
     ensures of_pieces { (dropped : PiecePremise) → IsPieceNotIdle dropped }
-    // A copy of a copy is replaced by one of the value itself: it holds by the states that runs reach alone.
+    // A copy of a copy is replaced by one of the value itself: the states that runs reach alone allow it.
     ensures reach { IsByReach }
 {}

@@ -2,42 +2,11 @@
 
 ghost use Rattle.std.specs.Prelude.{◌∷◌, []};
 ghost use Rattle.gi_refine.specs.Agreement.{Agree, AgreeAt};
-ghost use Rattle.gi_refine.specs.Examples.{names, s32};
-ghost use Rattle.gi_refine.specs.IdleValues.{
-  AgreeOfAnySize,
-  AllButFresh,
-  Followed,
-  IsGoodUse,
-  all_32,
-  bytes_32,
-  chosen_twice,
-  clobbering,
-  constant_made,
-  constant_placed,
-  copy_late,
-  copy_of,
-  copy_placed,
-  copy_same,
-  copy_summand,
-  difference_in,
-  extend_same,
-  extension_of,
-  first_of_8,
-  first_two,
-  free_in,
-  free_placed,
-  nothing,
-  only,
-  quiet,
-  sum_of,
-  summand_alone,
-  summand_placed,
-  words_32,
-};
+ghost use Rattle.gi_refine.specs.Examples.{names, s32, constant_in};
+ghost use Rattle.gi_refine.specs.IdleValues.{AgreeOfAnySize, AllButFresh, Followed, IsGoodUse, all_32, bytes_32, chosen_twice, clobbering, constant_made, constant_placed, copy_late, copy_of, copy_placed, copy_same, copy_summand, difference_in, extend_same, extension_of, first_of_8, first_two, free_in, free_placed, quiet, sum_of, summand_alone, summand_placed, words_32};
 ghost use Rattle.gi_refine.specs.Lifting.{IsPlaced};
-ghost use Rattle.gi_refine.specs.OnePlace.{only_virtual};
+ghost use Rattle.gi_refine.specs.OnePlace.{only_virtual, nothing, only};
 ghost use Rattle.gi_refine.specs.Simulation.{IsFollowed};
-ghost use Rattle.gi_refine.specs.TrialFunctions.{constant_in};
 
 /// No premise of `values_follow` is idle.
 pub fn no_premise_of_values_is_idle()

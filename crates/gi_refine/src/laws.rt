@@ -1,4 +1,4 @@
-//! The laws.
+//! The laws of refinement: it composes, and whole runs follow where blocks do.
 
 ghost use Rattle.std.specs.Prelude.{◌≡◌, ◌↔◌, ◌⊎◌, ◌++◌, ◌∷◌, [], ℕ, Bool, List, Option, None};
 ghost use Rattle.gi_mir.specs.Data.{BlockData, FunctionData, InstrData};

@@ -1,4 +1,5 @@
-use Rattle.gi_refine.proofs.IdleValues.{clobbering_rest, clobbering_fails, free_use, two_choices_fail, summand_use, unavailable_fails, too_great_fails, copy_use, hidden_input_fails, constant_use, uncovered_fails, extension_use, another_width_fails}
+use Rattle.gi_refine.proofs.IdleValues.{free_use, two_choices_fail, summand_use, unavailable_fails, too_great_fails, copy_use, hidden_input_fails, constant_use, uncovered_fails, extension_use, another_width_fails}
+use Rattle.gi_refine.proofs.IdleUses.{clobbering_rest, clobbering_fails}
 use Rattle.gi_refine.proofs.idle_values.no_premise_of_values_is_idle.Goals as goal
 
 pub returns : goal.returns

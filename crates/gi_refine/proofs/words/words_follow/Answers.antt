@@ -1,4 +1,4 @@
-use Rattle.gi_refine.proofs.Classed.{words_followed}
+use Rattle.gi_refine.proofs.WordedSteps.{words_followed}
 use Rattle.gi_refine.proofs.words.words_follow.Goals as goal
 
 pub returns : goal.returns
