@@ -18,9 +18,10 @@ use Rattle.gi_meaning.specs.State.{World, State, Outside, outside_of, Fails, Pla
 use Rattle.gi_meaning.specs.Act.{Results}
 use Rattle.gi_meaning.specs.Runs.{Setting, On, Over, Progress, Executes, joined_lists}
 use Rattle.gi_refine.specs.Agreement.{Agree, ValueStands, AgreeAt}
-use Rattle.gi_refine.specs.Examples.{names, s32}
-use Rattle.gi_refine.specs.IdleValues.{quiet, nothing, only, words_32, holding, Followed, copied, copy_late, clobbering, copy_of, copy_summand, summand_alone, summand_placed, sum_of, copy_same, copy_placed, constant_made, constant_placed, AllButFresh, IsGoodUse, AgreeOfAnySize, all_32, extend_same, extension_of, first_of_8, bytes_32, chosen_twice, free_placed, first_two, free_in, difference_in}
-use Rattle.gi_refine.specs.Lifting.{IsPlaced, is_result}
+use Rattle.gi_refine.specs.Examples.{s32}
+use Rattle.gi_refine.specs.IdleValues.{quiet, nothing, only, words_32, holding, Followed, copied, copy_late, clobbering, copy_of, copy_summand, summand_alone, summand_placed, sum_of, copy_same, copy_placed, constant_made, constant_placed, AllBut, IsGoodUse, AgreeOfAnySize, all_32, extend_same, extension_of, first_of_8, bytes_32, chosen_twice, free_placed, first_two, free_in, difference_in}
+use Rattle.gi_refine.specs.IdleValues.Premise.{NewFresh, Seen, Covered, NewWidths, Sound}
+use Rattle.gi_refine.specs.Lifting.{is_result}
 use Rattle.gi_refine.specs.OnePlace.{only_virtual}
 use Rattle.gi_refine.specs.Simulation.{Stands, IsFollowed}
 use Rattle.gi_refine.specs.TrialFunctions.{constant_in}
@@ -29,7 +30,7 @@ use Rattle.gi_refine.proofs.Doing.{gives_one, does_from, does_next, does_none, D
 use Rattle.gi_refine.proofs.Tests.{same_some}
 
 -- two runs that each have one way to go, to states that aren't related
-refuted : (s t : Setting) (w : World) (before after : State → State → Type 0) (exit : ℕ → State → State → Type 0) (old new : List (ℕ × InstrData)) (state state' final final' : State) → before state state'
+pub refuted : (s t : Setting) (w : World) (before after : State → State → Type 0) (exit : ℕ → State → State → Type 0) (old new : List (ℕ × InstrData)) (state state' final final' : State) → before state state'
     → DoesAll s w old state (On final) → DoesAll t w new state' (On final') → (after final final' → ⊥) → IsFollowed s t w before after exit old new → ⊥
 refuted s t w before after exit old new state state' final final' related does does' apart followed =
     ⊎_elim
@@ -38,19 +39,19 @@ refuted s t w before after exit old new state state' final final' related does d
     (followed.by state state' related (On final') does'.can)
 
 -- a register that isn't hidden and has two values
-two_values : (hidden : ℕ → Bool) (r a b : ℕ) (old new : State) → hidden r ≡ false → old.values r ≡ Some a → new.values r ≡ Some b → (b ≡ a → ⊥) → Agree words_32 words_32 (only_virtual hidden) old new → ⊥
+pub two_values : (hidden : ℕ → Bool) (r a b : ℕ) (old new : State) → hidden r ≡ false → old.values r ≡ Some a → new.values r ≡ Some b → (b ≡ a → ⊥) → Agree words_32 words_32 (only_virtual hidden) old new → ⊥
 two_values hidden r a b old new shown is_old is_new apart agree =
     apart (subst (λ v. ValueStands 32 32 32 (Some a) v) is_new (subst (λ v. ValueStands 32 32 32 v (new.values r)) is_old (agree.values r shown)))
 
 -- a copy of 32 bits, and a constant
-copy_does : (state : State) (r v : ℕ) → state.values r ≡ Some v → DoesAll words_32 quiet (copy_of r ∷ []) state (On (put state (Virtual 2) v))
+pub copy_does : (state : State) (r v : ℕ) → state.values r ≡ Some v → DoesAll words_32 quiet (copy_of r ∷ []) state (On (put state (Virtual 2) v))
 copy_does state r v is =
     does_next words_32 quiet (copy_of r) [] state (put state (Virtual 2) v) _
     (does_from words_32 quiet (copy_of r) state (Value 32 v ∷ []) (Results (v ∷ []) (outside_of state)) (On (put state (Virtual 2) v)) (ap (λ o. joined_lists (Some []) (joined_lists (option_map (λ u. Value 32 u ∷ []) o) (Some []))) is)
     (record { can = (v ∷ [], refl, refl); only = gives_one v (outside_of state) }) refl)
     (does_none words_32 quiet (put state (Virtual 2) v))
 
-constant_does : (state : State) (r : ℕ) (is : List (ℕ × InstrData)) (final : State) → DoesAll words_32 quiet is (put state (Virtual r) 0) (On final)
+pub constant_does : (state : State) (r : ℕ) (is : List (ℕ × InstrData)) (final : State) → DoesAll words_32 quiet is (put state (Virtual r) 0) (On final)
     → DoesAll words_32 quiet (constant_in r 32 0 s32 ∷ is) state (On final)
 constant_does state r is final rest =
     does_next words_32 quiet (constant_in r 32 0 s32) is state (put state (Virtual r) 0) _
@@ -66,7 +67,7 @@ sum_does a b =
     (record { can = (wrapped 32 (a + b) ∷ [], refl, refl); only = gives_one (wrapped 32 (a + b)) (outside_of (holding (Some a) (Some b))) }) refl)
     (does_none words_32 quiet (put (holding (Some a) (Some b)) (Virtual 2) (wrapped 32 (a + b))))
 
-agree_itself : (hidden : Place → Bool) (state : State) → Agree words_32 words_32 hidden state state
+pub agree_itself : (hidden : Place → Bool) (state : State) → Agree words_32 words_32 hidden state state
 agree_itself hidden state = record {
   values = λ r shown. same_value_stands 32 32 (state.values r) (state.values r) (has_same_value (state.values r));
   words = λ n shown. refl;
@@ -100,7 +101,7 @@ clobbering_fails =
 
 -- ══ Sound rules and their uses ══
 
-copy_same_sound : IsSound 32 quiet copy_same
+pub copy_same_sound : IsSound 32 quiet copy_same
 copy_same_sound = record {
   by = λ outside v fits facts made makes.
       let is : made ≡ Some ((32, v) ∷ (32, v) ∷ []) = exactly (v ∷ []) outside makes.0 ((32, v) ∷ []) (32 ∷ []) (Makes 32 quiet outside []) made makes.1 makes.2 in
@@ -141,7 +142,7 @@ extend_same_sound = record {
       subst (MayMake 32 quiet outside extend_same ((8, v) ∷ [])) (sym is) (inl ((8, v) ∷ (32, v) ∷ [], (Results (v ∷ []) outside, (v ∷ [], refl, refl), refl), (refl, tt)));
 }
 
-pub clobbering_rest : AllButFresh copy_late clobbering nothing (only 0) (copy_of 0 ∷ []) (constant_in 0 32 0 s32 ∷ copy_of 0 ∷ [])
+pub clobbering_rest : AllBut NewFresh all_32 all_32 copy_late clobbering nothing (only 0) (copy_of 0 ∷ []) (constant_in 0 32 0 s32 ∷ copy_of 0 ∷ [])
 clobbering_rest = record {
   sound = copy_late_sound;
   old_pure = refl;
@@ -152,7 +153,9 @@ clobbering_rest = record {
     (record { op = refl; flags = refl; mem = refl; operands = (refl, (refl, tt)); widths = refl }, tt),
   );
   old_fresh = refl;
-  widths = refl;
+  new_fresh = tt;
+  old_widths = refl;
+  new_widths = refl;
   seen = refl;
   covered = covered_by (only_virtual nothing) (only_virtual (only 0)) copy_late clobbering refl not_nothing;
 }
@@ -205,21 +208,19 @@ too_great_fails =
 
 -- ══ A hidden input ══
 
-pub copy_use : IsGoodUse all_32 all_32 copy_same copy_placed nothing (only 0) (copy_of 0 ∷ []) (copy_of 0 ∷ [])
+pub copy_use : AllBut Seen all_32 all_32 copy_same copy_placed (only 0) (only 0) (copy_of 0 ∷ []) (copy_of 0 ∷ [])
 copy_use = record {
   sound = copy_same_sound;
-  placed = record {
-    old_pure = refl;
-    new_pure = refl;
-    old_shown = (record { op = refl; flags = refl; mem = refl; operands = (refl, (refl, tt)); widths = refl }, tt);
-    new_shown = (record { op = refl; flags = refl; mem = refl; operands = (refl, (refl, tt)); widths = refl }, tt);
-    old_fresh = refl;
-    new_fresh = refl;
-    old_widths = refl;
-    new_widths = refl;
-    seen = refl;
-    covered = covered_by (only_virtual nothing) (only_virtual (only 0)) copy_same copy_placed refl not_nothing;
-  };
+  old_pure = refl;
+  new_pure = refl;
+  old_shown = (record { op = refl; flags = refl; mem = refl; operands = (refl, (refl, tt)); widths = refl }, tt);
+  new_shown = (record { op = refl; flags = refl; mem = refl; operands = (refl, (refl, tt)); widths = refl }, tt);
+  old_fresh = refl;
+  new_fresh = refl;
+  old_widths = refl;
+  new_widths = refl;
+  seen = tt;
+  covered = covered_by (only_virtual (only 0)) (only_virtual (only 0)) copy_same copy_placed refl (λ p h. h);
 }
 
 first_apart : (a b : ℕ) → Agree words_32 words_32 (only_virtual (only 0)) (holding (Some a) None) (holding (Some b) None)
@@ -241,21 +242,19 @@ hidden_input_fails =
 
 -- ══ A result that isn't covered ══
 
-pub constant_use : IsGoodUse all_32 all_32 constant_made constant_placed nothing (only 0) [] (constant_in 0 32 0 s32 ∷ [])
+pub constant_use : AllBut Covered all_32 all_32 constant_made constant_placed nothing nothing [] (constant_in 0 32 0 s32 ∷ [])
 constant_use = record {
   sound = constant_made_sound;
-  placed = record {
-    old_pure = refl;
-    new_pure = refl;
-    old_shown = tt;
-    new_shown = (record { op = refl; flags = refl; mem = refl; operands = (refl, (refl, tt)); widths = refl }, tt);
-    old_fresh = refl;
-    new_fresh = refl;
-    old_widths = refl;
-    new_widths = refl;
-    seen = refl;
-    covered = covered_by (only_virtual nothing) (only_virtual (only 0)) constant_made constant_placed refl not_nothing;
-  };
+  old_pure = refl;
+  new_pure = refl;
+  old_shown = tt;
+  new_shown = (record { op = refl; flags = refl; mem = refl; operands = (refl, (refl, tt)); widths = refl }, tt);
+  old_fresh = refl;
+  new_fresh = refl;
+  old_widths = refl;
+  new_widths = refl;
+  seen = refl;
+  covered = tt;
 }
 
 pub uncovered_fails : Followed words_32 words_32 constant_made constant_placed nothing nothing [] (constant_in 0 32 0 s32 ∷ []) → ⊥
@@ -268,28 +267,26 @@ uncovered_fails =
 
 -- ══ A register of another width ══
 
-pub extension_use : IsGoodUse first_of_8 first_of_8 extend_same copy_placed nothing nothing (extension_of 0 ∷ []) (extension_of 0 ∷ [])
+pub extension_use : AllBut NewWidths first_of_8 all_32 extend_same copy_placed nothing nothing (extension_of 0 ∷ []) (extension_of 0 ∷ [])
 extension_use = record {
   sound = extend_same_sound;
-  placed = record {
-    old_pure = refl;
-    new_pure = refl;
-    old_shown = (record { op = refl; flags = refl; mem = refl; operands = (refl, (refl, tt)); widths = refl }, tt);
-    new_shown = (record { op = refl; flags = refl; mem = refl; operands = (refl, (refl, tt)); widths = refl }, tt);
-    old_fresh = refl;
-    new_fresh = refl;
-    old_widths = refl;
-    new_widths = refl;
-    seen = refl;
-    covered = covered_by (only_virtual nothing) (only_virtual nothing) extend_same copy_placed refl (λ p h. h);
-  };
+  old_pure = refl;
+  new_pure = refl;
+  old_shown = (record { op = refl; flags = refl; mem = refl; operands = (refl, (refl, tt)); widths = refl }, tt);
+  new_shown = (record { op = refl; flags = refl; mem = refl; operands = (refl, (refl, tt)); widths = refl }, tt);
+  old_fresh = refl;
+  new_fresh = refl;
+  old_widths = refl;
+  new_widths = tt;
+  seen = refl;
+  covered = covered_by (only_virtual nothing) (only_virtual nothing) extend_same copy_placed refl (λ p h. h);
 }
 
 word_stands_for_byte : (b : Bool) (rest : Option ℕ) → HasSameValue rest rest → ValueStands 32 (cond b 8 32) 32 (cond b (Some 3) rest) (cond b (Some 259) rest)
 word_stands_for_byte true rest same = (refl, omega arith, omega arith, refl)
 word_stands_for_byte false rest same = same_value_stands 32 32 rest rest same
 
-byte_and_word : Agree bytes_32 words_32 (only_virtual nothing) (holding (Some 3) None) (holding (Some 259) None)
+pub byte_and_word : Agree bytes_32 words_32 (only_virtual nothing) (holding (Some 3) None) (holding (Some 259) None)
 byte_and_word = record {
   values = λ r shown. word_stands_for_byte (r == 0) (cond (r == 1) None None) (has_same_value (cond (r == 1) None None));
   words = λ n shown. refl;
@@ -359,9 +356,9 @@ two_choices_unsound sound =
     none_not_some : (f : ℕ) → None ≡ zero_made f → ⊥
     none_not_some f h = cc
 
-pub free_use : IsPlaced 32 names all_32 all_32 quiet chosen_twice free_placed (only_virtual nothing) (only_virtual first_two)
-    (free_in 0 ∷ difference_in 0 0 ∷ []) (free_in 0 ∷ free_in 1 ∷ difference_in 0 1 ∷ [])
+pub free_use : AllBut Sound all_32 all_32 chosen_twice free_placed nothing first_two (free_in 0 ∷ difference_in 0 0 ∷ []) (free_in 0 ∷ free_in 1 ∷ difference_in 0 1 ∷ [])
 free_use = record {
+  sound = tt;
   old_pure = refl;
   new_pure = refl;
   old_shown = (

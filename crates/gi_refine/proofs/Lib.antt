@@ -16,6 +16,7 @@ pub mod FreeRuns
 pub mod IdlePieces
 pub mod IdlePlaces
 pub mod IdleValues
+pub mod IdleValuesMore
 pub mod Inserting
 pub mod Invariants
 pub mod Keeping
