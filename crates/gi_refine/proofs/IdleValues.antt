@@ -5,6 +5,7 @@ use Rattle.gi_refine.specs.TrialRules.{on_two}
 use Rattle.gi_refine.proofs.Covering.{covered_by}
 use Rattle.gi_refine.proofs.TrialRules.{sum_with_zero, difference_self}
 use Rattle.gi_refine.proofs.RuleSteps.{exactly, constant_known, entry_value, OneOf, after_one, entry}
+use Rattle.std.proofs.lemmas.Bool.{eq-eqb, eqb-true}
 use Rattle.gi_refine.specs.Kept.{HasSameValue}
 use Rattle.gi_refine.proofs.Staying.{has_same_value}
 use Rattle.gi_refine.proofs.Agreeing.{same_value_stands}
@@ -19,13 +20,13 @@ use Rattle.gi_meaning.specs.Act.{Results}
 use Rattle.gi_meaning.specs.Runs.{Setting, On, Over, Progress, Executes, joined_lists}
 use Rattle.gi_refine.specs.Agreement.{Agree, ValueStands, AgreeAt}
 use Rattle.gi_refine.specs.Examples.{s32}
-use Rattle.gi_refine.specs.IdleValues.{quiet, nothing, only, words_32, holding, Followed, copied, copy_late, clobbering, copy_of, copy_summand, summand_alone, summand_placed, sum_of, copy_same, copy_placed, constant_made, constant_placed, AllBut, IsGoodUse, AgreeOfAnySize, all_32, extend_same, extension_of, first_of_8, bytes_32, chosen_twice, free_placed, first_two, free_in, difference_in}
-use Rattle.gi_refine.specs.IdleValues.Premise.{NewFresh, Seen, Covered, NewWidths, Sound}
-use Rattle.gi_refine.specs.Lifting.{is_result}
+use Rattle.gi_refine.specs.IdleValues.{Unless, Premise, order_of, is_same_premise, quiet, nothing, only, words_32, holding, Followed, copied, copy_late, clobbering, copy_of, copy_summand, summand_alone, summand_placed, sum_of, copy_same, copy_placed, constant_made, constant_placed, AllBut, IsGoodUse, AgreeOfAnySize, all_32, extend_same, extension_of, first_of_8, bytes_32, chosen_twice, free_placed, first_two, free_in, difference_in}
+use Rattle.gi_refine.specs.IdleValues.Premise.{Sound, OldPure, NewPure, OldShown, NewShown, OldFresh, NewFresh, OldWidths, NewWidths, Seen, Covered}
+use Rattle.gi_refine.specs.Lifting.{is_result, Placing}
 use Rattle.gi_refine.specs.OnePlace.{only_virtual}
 use Rattle.gi_refine.specs.Simulation.{Stands, IsFollowed}
 use Rattle.gi_refine.specs.TrialFunctions.{constant_in}
-use Rattle.gi_refine.specs.Values.{IsSound, Makes, MayMake, Environment, Operation, Correspond}
+use Rattle.gi_refine.specs.Values.{IsSound, Makes, MayMake, Environment, Operation, Correspond, Rule}
 use Rattle.gi_refine.proofs.Doing.{gives_one, does_from, does_next, does_none, DoesAll}
 use Rattle.gi_refine.proofs.Tests.{same_some}
 
@@ -87,6 +88,59 @@ not_nothing_here (Physical n) h = refl
 apart_values : (b : Bool) (a c : ℕ) (rest : Option ℕ) → b ≡ false → HasSameValue rest rest → ValueStands 32 32 32 (cond b (Some a) rest) (cond b (Some c) rest)
 apart_values true a c rest h same = cc
 apart_values false a c rest h same = same_value_stands 32 32 rest rest same
+
+-- ══ What is left out ══
+
+whole_or : (b : Bool) (claim : Type 0) → claim → cond b (Unit {0}) claim
+whole_or true claim h = tt
+whole_or false claim h = h
+
+asked_by_one : (b c : Bool) (claim : Type 0) → (b ≡ true → c ≡ true → ⊥) → cond b (Unit {0}) claim → cond c (Unit {0}) claim → claim
+asked_by_one false c claim apart h k = h
+asked_by_one true false claim apart h k = k
+asked_by_one true true claim apart h k = absurd (apart refl refl)
+
+-- what one of them doesn't ask, the other does
+either_asks : (p q premise : Premise) (claim : Type 0) → is_same_premise p q ≡ false → Unless p premise claim → Unless q premise claim → claim
+either_asks p q premise claim apart =
+    asked_by_one (is_same_premise p premise) (is_same_premise q premise) claim
+    (λ one other.
+    let same : is_same_premise p q ≡ true = eq-eqb (order_of p) (order_of q) (eqb-true (order_of p) (order_of premise) one ∙ sym (eqb-true (order_of q) (order_of premise) other)) in
+    cc)
+
+pub two_ask_all : (p q : Premise) (width width' : ℕ → ℕ) (rule : Rule) (placing : Placing) (before after : ℕ → Bool) (old new : List (ℕ × InstrData)) → is_same_premise p q ≡ false
+    → AllBut p width width' rule placing before after old new → AllBut q width width' rule placing before after old new → IsGoodUse width width' rule placing before after old new
+two_ask_all p q width width' rule placing before after old new apart one other = record {
+  sound = either_asks p q Sound _ apart one.sound other.sound;
+  placed = record {
+    old_pure = either_asks p q OldPure _ apart one.old_pure other.old_pure;
+    new_pure = either_asks p q NewPure _ apart one.new_pure other.new_pure;
+    old_shown = either_asks p q OldShown _ apart one.old_shown other.old_shown;
+    new_shown = either_asks p q NewShown _ apart one.new_shown other.new_shown;
+    old_fresh = either_asks p q OldFresh _ apart one.old_fresh other.old_fresh;
+    new_fresh = either_asks p q NewFresh _ apart one.new_fresh other.new_fresh;
+    old_widths = either_asks p q OldWidths _ apart one.old_widths other.old_widths;
+    new_widths = either_asks p q NewWidths _ apart one.new_widths other.new_widths;
+    seen = either_asks p q Seen _ apart one.seen other.seen;
+    covered = either_asks p q Covered _ apart one.covered other.covered;
+  };
+}
+
+pub good_asks_less : (p : Premise) (width width' : ℕ → ℕ) (rule : Rule) (placing : Placing) (before after : ℕ → Bool) (old new : List (ℕ × InstrData))
+    → IsGoodUse width width' rule placing before after old new → AllBut p width width' rule placing before after old new
+good_asks_less p width width' rule placing before after old new good = record {
+  sound = whole_or (is_same_premise p Sound) _ good.sound;
+  old_pure = whole_or (is_same_premise p OldPure) _ good.placed.old_pure;
+  new_pure = whole_or (is_same_premise p NewPure) _ good.placed.new_pure;
+  old_shown = whole_or (is_same_premise p OldShown) _ good.placed.old_shown;
+  new_shown = whole_or (is_same_premise p NewShown) _ good.placed.new_shown;
+  old_fresh = whole_or (is_same_premise p OldFresh) _ good.placed.old_fresh;
+  new_fresh = whole_or (is_same_premise p NewFresh) _ good.placed.new_fresh;
+  old_widths = whole_or (is_same_premise p OldWidths) _ good.placed.old_widths;
+  new_widths = whole_or (is_same_premise p NewWidths) _ good.placed.new_widths;
+  seen = whole_or (is_same_premise p Seen) _ good.placed.seen;
+  covered = whole_or (is_same_premise p Covered) _ good.placed.covered;
+}
 
 -- ══ Clobbering ══
 

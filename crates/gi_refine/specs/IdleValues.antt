@@ -146,19 +146,22 @@ pub data Premise : Type 0 where
   Seen : Premise
   Covered : Premise
 
+-- their order in the law
+abbrev pub order_of : Premise → ℕ
+order_of Sound = 0
+order_of OldPure = 1
+order_of NewPure = 2
+order_of OldShown = 3
+order_of NewShown = 4
+order_of OldFresh = 5
+order_of NewFresh = 6
+order_of OldWidths = 7
+order_of NewWidths = 8
+order_of Seen = 9
+order_of Covered = 10
+
 abbrev pub is_same_premise : Premise → Premise → Bool
-is_same_premise Sound Sound = true
-is_same_premise OldPure OldPure = true
-is_same_premise NewPure NewPure = true
-is_same_premise OldShown OldShown = true
-is_same_premise NewShown NewShown = true
-is_same_premise OldFresh OldFresh = true
-is_same_premise NewFresh NewFresh = true
-is_same_premise OldWidths OldWidths = true
-is_same_premise NewWidths NewWidths = true
-is_same_premise Seen Seen = true
-is_same_premise Covered Covered = true
-is_same_premise _ _ = false
+is_same_premise p q = order_of p == order_of q
 
 -- the claim, unless its premise is the one that is left out
 abbrev pub Unless : (omitted premise : Premise) → Type 0 → Type 0

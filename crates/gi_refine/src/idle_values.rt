@@ -1,6 +1,7 @@
 //! Where a premise of the law that lifts rules on values is broken, and no other, what it concludes fails.
 
-ghost use Rattle.std.specs.Prelude.{◌∷◌, []};
+ghost use Rattle.std.specs.Prelude.{◌≡◌, ℕ, ◌∷◌, [], Bool, List, false};
+ghost use Rattle.gi_mir.specs.Data.{InstrData};
 ghost use Rattle.gi_refine.specs.Agreement.{Agree, AgreeAt};
 ghost use Rattle.gi_refine.specs.Examples.{names, s32};
 ghost use Rattle.gi_refine.specs.IdleValues.{
@@ -8,6 +9,7 @@ ghost use Rattle.gi_refine.specs.IdleValues.{
   AllBut,
   Followed,
   IsGoodUse,
+  Premise,
   all_32,
   bytes_32,
   chosen_twice,
@@ -26,6 +28,7 @@ ghost use Rattle.gi_refine.specs.IdleValues.{
   first_two,
   free_in,
   free_placed,
+  is_same_premise,
   nothing,
   only,
   quiet,
@@ -50,13 +53,20 @@ ghost use Rattle.gi_refine.specs.IdleValuesMore.{
   store_made,
   store_placed,
 };
-ghost use Rattle.gi_refine.specs.Lifting.{IsReady};
+ghost use Rattle.gi_refine.specs.Lifting.{IsReady, Placing};
 ghost use Rattle.gi_refine.specs.OnePlace.{only_virtual};
 ghost use Rattle.gi_refine.specs.Simulation.{IsFollowed};
 ghost use Rattle.gi_refine.specs.TrialFunctions.{constant_in};
+ghost use Rattle.gi_refine.specs.Values.{Rule};
 
 /// No premise of `values_follow` is idle.
 pub fn no_premise_of_values_is_idle()
+    // Where `AllBut` leaves a premise out, it asks for all others: two that leave out two premises ask for all together.
+    ensures one_is_left_out { (p q : Premise) (width width' : ℕ → ℕ) (rule : Rule) (placing : Placing) (before after : ℕ → Bool) (old new : List (ℕ × InstrData))
+        → is_same_premise p q ≡ false → AllBut p width width' rule placing before after old new → AllBut q width width' rule placing before after old new
+        → IsGoodUse width width' rule placing before after old new }
+    ensures no_more_is_asked { (p : Premise) (width width' : ℕ → ℕ) (rule : Rule) (placing : Placing) (before after : ℕ → Bool) (old new : List (ℕ × InstrData))
+        → IsGoodUse width width' rule placing before after old new → AllBut p width width' rule placing before after old new }
     // The new code writes to a register that it reads later: all else holds.
     ensures clobbering_else { AllBut NewFresh all_32 all_32 copy_late clobbering nothing (only 0) (copy_of 0 ∷ []) (constant_in 0 32 0 s32 ∷ copy_of 0 ∷ []) }
     ensures clobbering { Followed words_32 words_32 copy_late clobbering nothing (only 0) (copy_of 0 ∷ []) (constant_in 0 32 0 s32 ∷ copy_of 0 ∷ []) → ⊥ }
@@ -78,8 +88,8 @@ pub fn no_premise_of_values_is_idle()
     ensures covered_else { AllBut Covered all_32 all_32 constant_made constant_placed nothing nothing [] (constant_in 0 32 0 s32 ∷ []) }
     ensures covered { Followed words_32 words_32 constant_made constant_placed nothing nothing [] (constant_in 0 32 0 s32 ∷ []) → ⊥ }
     // An input has another width in the new function.
-    ensures widths_else { AllBut NewWidths first_of_8 all_32 extend_same copy_placed nothing nothing (extension_of 0 ∷ []) (extension_of 0 ∷ []) }
-    ensures widths { Followed bytes_32 words_32 extend_same copy_placed nothing nothing (extension_of 0 ∷ []) (extension_of 0 ∷ []) → ⊥ }
+    ensures new_widths_else { AllBut NewWidths first_of_8 all_32 extend_same copy_placed nothing nothing (extension_of 0 ∷ []) (extension_of 0 ∷ []) }
+    ensures new_widths { Followed bytes_32 words_32 extend_same copy_placed nothing nothing (extension_of 0 ∷ []) (extension_of 0 ∷ []) → ⊥ }
     // An old operation changes memory.
     ensures old_pure_else { AllBut OldPure all_32 all_32 store_dropped store_placed nothing nothing (store_in ∷ []) [] }
     ensures old_pure { Followed words_32 words_32 store_dropped store_placed nothing nothing (store_in ∷ []) [] → ⊥ }
