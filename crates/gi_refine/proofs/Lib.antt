@@ -20,8 +20,8 @@ pub mod IdleKept
 pub mod IdlePieces
 pub mod IdlePlaces
 pub mod IdleReads
-pub mod IdleUses
 pub mod IdleValues
+pub mod IdleValuesMore
 pub mod IdleWidths
 pub mod Inserting
 pub mod Invariants

@@ -17,7 +17,7 @@ use Rattle.gi_refine.proofs.RuleSteps.{exactly, OneOf, from_low_bits, after_one}
 
 -- ══ Bytes ══
 
-aligned_to_one : (a : ℕ) → is_aligned 1 a ≡ true
+pub aligned_to_one : (a : ℕ) → is_aligned 1 a ≡ true
 aligned_to_one a = ap (λ r. r == 0) (mod-one a)
 
 load_is : (x m n : ℕ) (extension : Extension) (memory : Memory) (a : ℕ) → load x 1 m n extension memory a ≡ from_loaded (loaded x (m / 8) memory a) extension m n
@@ -30,7 +30,7 @@ two_bytes x memory a low high is_low is_high =
     load_is x 16 32 Anything memory a
     ∙ ap₂ (λ l h. from_loaded (with_byte l (above (with_byte h (above (Some 0))))) Anything 16 32) is_low is_high
 
-one_byte : (x n : ℕ) (extension : Extension) (memory : Memory) (a : ℕ) (byte : Option ℕ) → memory (wrapped x a) ≡ byte
+pub one_byte : (x n : ℕ) (extension : Extension) (memory : Memory) (a : ℕ) (byte : Option ℕ) → memory (wrapped x a) ≡ byte
     → load x 1 8 n extension memory a ≡ from_loaded (with_byte byte (above (Some 0))) extension 8 n
 one_byte x n extension memory a byte is = load_is x 8 n extension memory a ∙ ap (λ l. from_loaded (with_byte l (above (Some 0))) extension 8 n) is
 
@@ -48,7 +48,7 @@ together_fits f low fits = or_of_32 (wrapped 32 (f * 2 ^ 8)) (low + 256 * 0) (om
 -- ══ The rule ══
 
 -- where the old operations are undefined, the new may do anything
-undefined_may : (x : ℕ) (w : World) (outside : Outside) (rule : Rule) (env : Environment) (made : Option Environment) → Makes x w outside rule.old env None → MayMake x w outside rule env made
+pub undefined_may : (x : ℕ) (w : World) (outside : Outside) (rule : Rule) (env : Environment) (made : Option Environment) → Makes x w outside rule.old env None → MayMake x w outside rule env made
 undefined_may x w outside rule env None h = h
 undefined_may x w outside rule env (Some new) h = inr h
 

@@ -1,6 +1,6 @@
 -- Small uses of rules, each of which breaks one premise of the lifting law and no other.
 use Rattle.gi_mir.specs.declared.operand.Operand.TheVariants.{Def}
-use Rattle.std.specs.Prelude.{◌≡◌, ℕ, ◌==◌, if◌then◌else◌, List, [], ◌∷◌, Option, None, Bool, true, false, map, ◌||◌}
+use Rattle.std.specs.Prelude.{◌≡◌, ℕ, ◌==◌, if◌then◌else◌, List, [], ◌∷◌, Option, None, Bool, true, false, cond, map, ◌||◌}
 use Rattle.gi_mir.specs.Data.{InstrData}
 use Rattle.gi_mir.specs.Stated.{no_flags, reg_of}
 use Rattle.gi_mir.specs.declared.opcode.Opcode.TheVariants as op
@@ -124,17 +124,54 @@ first_of_8 r = if r == 0 then 8 else 32
 abbrev pub bytes_32 : Setting
 bytes_32 = setting 32 names first_of_8
 
--- everything that the law asks but that the new results are fresh
-pub record AllButFresh (rule : Rule) (placing : Placing) (before after : ℕ → Bool) (old new : List (ℕ × InstrData)) : Type 0 where
-  pub sound : IsSound 32 quiet rule
-  pub old_pure : are_pure rule.old ≡ true
-  pub new_pure : are_pure rule.new ≡ true
-  pub old_shown : AllShow words_32 quiet placing.inputs placing.old rule.old old
-  pub new_shown : AllShow words_32 quiet placing.inputs placing.new rule.new new
-  pub old_fresh : are_all_fresh placing.inputs placing.old ≡ true
-  pub widths : map all_32 placing.inputs ≡ rule.inputs
-  pub seen : none_hidden (only_virtual before) placing.inputs ≡ true
-  pub covered : (p : Place) → only_virtual after p ≡ false → left_hidden (only_virtual before) rule placing p ≡ false
+-- what the law asks of a rule and of its use
+pub data Premise : Type 0 where
+  Sound : Premise
+  OldPure : Premise
+  NewPure : Premise
+  OldShown : Premise
+  NewShown : Premise
+  OldFresh : Premise
+  NewFresh : Premise
+  OldWidths : Premise
+  NewWidths : Premise
+  Seen : Premise
+  Covered : Premise
+
+-- their order in the law
+abbrev pub order_of : Premise → ℕ
+order_of Sound = 0
+order_of OldPure = 1
+order_of NewPure = 2
+order_of OldShown = 3
+order_of NewShown = 4
+order_of OldFresh = 5
+order_of NewFresh = 6
+order_of OldWidths = 7
+order_of NewWidths = 8
+order_of Seen = 9
+order_of Covered = 10
+
+abbrev pub is_same_premise : Premise → Premise → Bool
+is_same_premise p q = order_of p == order_of q
+
+-- the claim, unless its premise is the one that is left out
+abbrev pub Unless : (omitted premise : Premise) → Type 0 → Type 0
+Unless omitted premise claim = cond (is_same_premise omitted premise) (Unit {0}) claim
+
+-- everything that the law asks of a rule and of its use but this premise
+pub record AllBut (omitted : Premise) (width width' : ℕ → ℕ) (rule : Rule) (placing : Placing) (before after : ℕ → Bool) (old new : List (ℕ × InstrData)) : Type 0 where
+  pub sound : Unless omitted Sound (IsSound 32 quiet rule)
+  pub old_pure : Unless omitted OldPure (are_pure rule.old ≡ true)
+  pub new_pure : Unless omitted NewPure (are_pure rule.new ≡ true)
+  pub old_shown : Unless omitted OldShown (AllShow (setting 32 names width) quiet placing.inputs placing.old rule.old old)
+  pub new_shown : Unless omitted NewShown (AllShow (setting 32 names width') quiet placing.inputs placing.new rule.new new)
+  pub old_fresh : Unless omitted OldFresh (are_all_fresh placing.inputs placing.old ≡ true)
+  pub new_fresh : Unless omitted NewFresh (are_all_fresh placing.inputs placing.new ≡ true)
+  pub old_widths : Unless omitted OldWidths (map width placing.inputs ≡ rule.inputs)
+  pub new_widths : Unless omitted NewWidths (map width' placing.inputs ≡ rule.inputs)
+  pub seen : Unless omitted Seen (none_hidden (only_virtual before) placing.inputs ≡ true)
+  pub covered : Unless omitted Covered ((p : Place) → only_virtual after p ≡ false → left_hidden (only_virtual before) rule placing p ≡ false)
 
 -- a sound rule whose operations these instructions are
 pub record IsGoodUse (width width' : ℕ → ℕ) (rule : Rule) (placing : Placing) (before after : ℕ → Bool) (old new : List (ℕ × InstrData)) : Type 0 where

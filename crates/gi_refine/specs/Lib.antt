@@ -6,6 +6,7 @@ pub mod Examples
 pub mod Fitting
 pub mod Idle
 pub mod IdleValues
+pub mod IdleValuesMore
 pub mod Invariant
 pub mod Kept
 pub mod Lifting
