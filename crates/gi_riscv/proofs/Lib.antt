@@ -4,3 +4,5 @@ pub mod Making
 pub mod Parts
 pub mod Rounds
 pub mod Words
+pub mod MachineSteps
+pub mod SumsSelected

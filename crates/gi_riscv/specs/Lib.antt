@@ -1,3 +1,4 @@
 pub mod Addresses
 pub mod Materialised
 pub mod Steps
+pub mod SelectionRules

@@ -1,3 +1,4 @@
+<<<<<<< HEAD
 //! Laws about addresses.
 
 ghost use Rattle.std.specs.Prelude.{◌≡◌, ◌⊎◌, ℕ, List};
@@ -12,4 +13,29 @@ pub fn address_is_made()
         → IsReached x address → AddressIsMade flags x name address }
     ensures global { (flags : Flags) (x : ℕ) (name : List ℕ) (world : World) → (x ≡ 32) ⊎ (x ≡ 64)
         → IsWorld x world → AddressIsMade flags x name (world.global name) }
+=======
+//! For each row of selection: what the instructions make of values, the generic operation may make, whatever its flags.
+
+ghost use Rattle.std.specs.Prelude.{◌≡◌, ℕ, true, ℤ};
+ghost use Rattle.gi_mir.specs.declared.operand.Flags.{Flags};
+ghost use Rattle.gi_meaning.specs.Machine.{is_immediate};
+ghost use Rattle.gi_meaning.specs.State.{World};
+ghost use Rattle.gi_refine.specs.Values.{IsSound};
+ghost use Rattle.gi_riscv.specs.SelectionRules.{add, add_first_number, add_first_number_half, add_half, add_number, add_number_half, add_number_to_pointer, add_pointer, subtract, subtract_half, subtract_number, subtract_number_half};
+
+/// Sums and differences, with two registers and with a short constant.
+pub fn sums_are_selected()
+    ensures add { (x : ℕ) (w : World) (flags : Flags) → IsSound x w (add x flags) }
+    ensures add_pointer { (x : ℕ) (w : World) (flags : Flags) → IsSound x w (add_pointer x flags) }
+    ensures subtract { (x : ℕ) (w : World) (flags : Flags) → IsSound x w (subtract x flags) }
+    ensures add_half { (w : World) (flags : Flags) → IsSound 64 w (add_half flags) }
+    ensures subtract_half { (w : World) (flags : Flags) → IsSound 64 w (subtract_half flags) }
+    ensures add_number { (x : ℕ) (w : World) (flags : Flags) (i : ℤ) → is_immediate i ≡ true → IsSound x w (add_number x flags i) }
+    ensures add_first_number { (x : ℕ) (w : World) (flags : Flags) (i : ℤ) → is_immediate i ≡ true → IsSound x w (add_first_number x flags i) }
+    ensures add_number_to_pointer { (x : ℕ) (w : World) (flags : Flags) (i : ℤ) → is_immediate i ≡ true → IsSound x w (add_number_to_pointer x flags i) }
+    ensures add_number_half { (w : World) (flags : Flags) (i : ℤ) → is_immediate i ≡ true → IsSound 64 w (add_number_half flags i) }
+    ensures add_first_number_half { (w : World) (flags : Flags) (i : ℤ) → is_immediate i ≡ true → IsSound 64 w (add_first_number_half flags i) }
+    ensures subtract_number { (x : ℕ) (w : World) (flags : Flags) (i : ℤ) → is_immediate i ≡ true → IsSound x w (subtract_number x flags i) }
+    ensures subtract_number_half { (w : World) (flags : Flags) (i : ℤ) → is_immediate i ≡ true → IsSound 64 w (subtract_number_half flags i) }
+>>>>>>> 8403cd2 (Selection of sums: rules as data, and each is sound on values for all widths and flags)
 {}

@@ -1,10 +1,12 @@
-//! RISC-V: constants by instructions, and the addresses of symbols.
+//! RISC-V: constants by instructions, and the laws by which its instructions stand for generic ones.
 #![tactic(auto)]
 
 mod constants;
+mod laws;
 pub mod laws;
 
 pub use constants::{Sequence, Step, materialise};
+pub use laws::sums_are_selected;
 
 #[cfg(test)]
 mod tests;

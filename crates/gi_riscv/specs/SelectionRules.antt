@@ -1,0 +1,82 @@
+-- Selection as rules on values: for each generic operation the instructions of RISC-V that stand for it.
+-- (RISC-V unprivileged ISA, "Integer Computational Instructions", "RV64I", "M": what each instruction computes.)
+-- A rule of x bits is for words; one of 32 bits is for RV64, where a register of 32 bits stands for any word with these
+-- low bits.
+use Rattle.std.specs.Prelude.{ℕ, ◌+◌, ◌-◌, List, [], ◌∷◌, length, None, ℤ, neg_ℤ}
+use Rattle.gi_llt.specs.Bits.{unsigned}
+use Rattle.gi_mir.specs.Stated.{no_flags}
+use Rattle.gi_mir.specs.declared.opcode.Opcode.{Opcode}
+use Rattle.gi_mir.specs.declared.opcode.Opcode.TheVariants as op
+use Rattle.gi_mir.specs.declared.operand.Flags.{Flags}
+use Rattle.gi_meaning.specs.Argument.{Number}
+use Rattle.gi_refine.specs.Values.{At, Fixed, Operation, Fact, Defines, Rule}
+use Rattle.gi_refine.specs.TrialRules.{constant, on_two}
+
+-- ══ Forms ══
+
+-- on the value at one place and a number that stands in the instruction
+abbrev pub with_number : Opcode → (n a : ℕ) → ℤ → Operation
+with_number op n a i = record { op = op; flags = no_flags; slots = At a ∷ Fixed (Number i) ∷ []; mem = None; widths = n ∷ [] }
+
+-- the last instruction gives the result of the operation
+abbrev pub selected : (inputs : List ℕ) → (facts : List Fact) → Operation → (new : List Operation) → Rule
+selected inputs facts old new = record {
+  inputs = inputs;
+  facts = facts;
+  old = old ∷ [];
+  new = new;
+  kept = (length inputs, length inputs + length new - 1) ∷ [];
+}
+
+-- an operation on two registers of n bits is one instruction on them
+abbrev pub on_registers : Opcode → Flags → (n : ℕ) → Opcode → Rule
+on_registers old flags n new = selected (n ∷ n ∷ []) [] (on_two old flags n 0 1) (on_two new no_flags n 0 1 ∷ [])
+
+-- the second register holds a constant, for which a number stands in the instruction; and the first
+abbrev pub by_number : Opcode → Flags → (n value : ℕ) → Opcode → ℤ → Rule
+by_number old flags n value new i =
+    selected (n ∷ n ∷ []) (Defines (constant n value) (1 ∷ []) ∷ []) (on_two old flags n 0 1) (with_number new n 0 i ∷ [])
+
+abbrev pub by_first_number : Opcode → Flags → (n value : ℕ) → Opcode → ℤ → Rule
+by_first_number old flags n value new i =
+    selected (n ∷ n ∷ []) (Defines (constant n value) (0 ∷ []) ∷ []) (on_two old flags n 0 1) (with_number new n 1 i ∷ [])
+
+-- ══ Sums ══
+
+abbrev pub add : (x : ℕ) → Flags → Rule
+add x flags = on_registers op.GenericAdd flags x op.Add
+
+abbrev pub add_pointer : (x : ℕ) → Flags → Rule
+add_pointer x flags = on_registers op.GenericPointerAdd flags x op.Add
+
+abbrev pub subtract : (x : ℕ) → Flags → Rule
+subtract x flags = on_registers op.GenericSubtract flags x op.Subtract
+
+abbrev pub add_half : Flags → Rule
+add_half flags = on_registers op.GenericAdd flags 32 op.AddWord
+
+abbrev pub subtract_half : Flags → Rule
+subtract_half flags = on_registers op.GenericSubtract flags 32 op.SubtractWord
+
+-- with a constant that fits an immediate
+abbrev pub add_number : (x : ℕ) → Flags → ℤ → Rule
+add_number x flags i = by_number op.GenericAdd flags x (unsigned x i) op.AddImmediate i
+
+abbrev pub add_first_number : (x : ℕ) → Flags → ℤ → Rule
+add_first_number x flags i = by_first_number op.GenericAdd flags x (unsigned x i) op.AddImmediate i
+
+abbrev pub add_number_to_pointer : (x : ℕ) → Flags → ℤ → Rule
+add_number_to_pointer x flags i = by_number op.GenericPointerAdd flags x (unsigned x i) op.AddImmediate i
+
+abbrev pub add_number_half : Flags → ℤ → Rule
+add_number_half flags i = by_number op.GenericAdd flags 32 (unsigned 32 i) op.AddImmediateWord i
+
+abbrev pub add_first_number_half : Flags → ℤ → Rule
+add_first_number_half flags i = by_first_number op.GenericAdd flags 32 (unsigned 32 i) op.AddImmediateWord i
+
+-- a constant whose negation fits
+abbrev pub subtract_number : (x : ℕ) → Flags → ℤ → Rule
+subtract_number x flags i = by_number op.GenericSubtract flags x (unsigned x (neg_ℤ i)) op.AddImmediate i
+
+abbrev pub subtract_number_half : Flags → ℤ → Rule
+subtract_number_half flags i = by_number op.GenericSubtract flags 32 (unsigned 32 (neg_ℤ i)) op.AddImmediateWord i
