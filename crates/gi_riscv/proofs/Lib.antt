@@ -4,5 +4,7 @@ pub mod Making
 pub mod Parts
 pub mod Rounds
 pub mod Words
+pub mod LogicSelected
 pub mod MachineSteps
+pub mod ProductsSelected
 pub mod SumsSelected

@@ -1,15 +1,21 @@
 -- Steps of the proofs that instructions stand for a generic operation.
 use Rattle.std.proofs.Common.{◌≡◌, ℕ, ◌^◌, ◌%◌, ◌<◌, Bool, true, false, cond, List, [], ◌∷◌, ◌++◌, Option, Some, None, slice_get, refl, sym, ap, ap₂, ◌∙◌, subst, inl, inr, ℤ}
 use Rattle.std.specs.Prelude.{nat_lt}
+use Rattle.std.proofs.Common.{◌*◌, ◌/◌, ◌≤◌, pos, negsuc, arith, ◌+◌, ◌-◌}
 use Rattle.std.proofs.lemmas.Nat.{pow_pos, mod_below}
-use Rattle.gi_llt.specs.Bits.{wrapped, sign_extended}
+use Rattle.std.proofs.lemmas.Nat.{div_below, pow-add, mod-mul-add}
+use Rattle.std.proofs.lemmas.Bool.{ltb-false}
+use Rattle.std.proofs.Math.Nat.{div-add-mod'}
+use Rattle.std.proofs.Math.Pow.{mod-mod-pow}
+use Rattle.gi_meaning.proofs.Numbers.{unsigned_below}
+use Rattle.gi_llt.specs.Bits.{unsigned, wrapped, sign_extended}
 use Rattle.gi_mir.specs.Stated.{no_flags}
 use Rattle.gi_mir.specs.declared.opcode.Opcode.{Opcode}
 use Rattle.gi_mir.specs.declared.operand.Flags.{Flags}
 use Rattle.gi_meaning.specs.Argument.{Argument, Value, Number}
 use Rattle.gi_meaning.specs.Given.{Given, Exactly, LowBits, Undefined, IsGiven, one, unless_broken}
 use Rattle.gi_meaning.specs.Generic.{binary}
-use Rattle.gi_meaning.specs.Machine.{on_words, on_low_half}
+use Rattle.gi_meaning.specs.Machine.{on_immediate, is_immediate, on_words, on_low_half}
 use Rattle.gi_meaning.specs.Meaning.{Generic, Machine, meaning_of}
 use Rattle.gi_meaning.specs.State.{World, Outside}
 use Rattle.gi_meaning.specs.Act.{Answer, Results, Breaks, Act, Answers, AnswersWords, fitted, IsWordOf}
@@ -256,3 +262,65 @@ half_number_law value wide gives f law fit low a u a_fits left =
 pub if_true : (b : Bool) (g : Given) → b ≡ true → cond b g Undefined ≡ g
 if_true true g is = refl
 if_true false g is = cc
+
+pub immediate_sound : (x : ℕ) (w : World) (old : Opcode) (flags : Flags) (n value : ℕ) (new : Opcode) (i : ℤ) (gives : ℕ → ℕ → ℕ → Given) (f : ℕ → ℕ → ℕ → ℕ)
+    → meaning_of flags old ≡ Generic (binary gives) → meaning_of no_flags new ≡ Machine (on_immediate f) → is_immediate i ≡ true
+    → NumberLaw x n (λ a. gives n a value) (λ u. f x u (unsigned x i)) → IsSound x w (by_number old flags n value new i)
+immediate_sound x w old flags n value new i gives f means means' short law =
+    number_sound x w old flags n value new i gives (on_immediate f) (λ u. f x u (unsigned x i)) means means' (λ width word. if_true (is_immediate i) (one (f x word (unsigned x i))) short) law
+
+pub first_immediate_sound : (x : ℕ) (w : World) (old : Opcode) (flags : Flags) (n value : ℕ) (new : Opcode) (i : ℤ) (gives : ℕ → ℕ → ℕ → Given) (f : ℕ → ℕ → ℕ → ℕ)
+    → meaning_of flags old ≡ Generic (binary gives) → meaning_of no_flags new ≡ Machine (on_immediate f) → is_immediate i ≡ true
+    → NumberLaw x n (λ b. gives n value b) (λ u. f x u (unsigned x i)) → IsSound x w (by_first_number old flags n value new i)
+first_immediate_sound x w old flags n value new i gives f means means' short law =
+    first_number_sound x w old flags n value new i gives (on_immediate f) (λ u. f x u (unsigned x i)) means means' (λ width word. if_true (is_immediate i) (one (f x word (unsigned x i))) short) law
+
+-- ══ A number as a word, and as a value of fewer bits ══
+
+complement_of : (k d r q : ℕ) → r < q → (k + d + 1) * q - 1 - (d * q + r) ≡ k * q + (q - 1 - r)
+complement_of k d r q h = omega arith
+
+-- the low bits of a complement are the complement of the low bits
+complement_low : (p q m : ℕ) → 0 < q → m < p * q → (p * q - 1 - m) % q ≡ q - 1 - m % q
+complement_low p q m positive below =
+    let high : m / q < p = div_below m q p positive (omega (arith, below)) in
+    let p_is : p ≡ (p - 1 - m / q) + m / q + 1 = omega (arith, high) in
+    let m_is : m ≡ m / q * q + m % q = sym (div-add-mod' m q) in
+    let low : m % q < q = mod_below m q positive in
+    ap₂ (λ s t. (s * q - 1 - t) % q) p_is m_is
+    ∙ (ap (λ s. s % q) (complement_of (p - 1 - m / q) (m / q) (m % q) q low)
+    ∙ mod-mul-add (p - 1 - m / q) q (q - 1 - m % q) (omega (arith, low)))
+
+unsigned_low_at : (j n : ℕ) (i : ℤ) → wrapped n (unsigned (j + n) i) ≡ unsigned n i
+unsigned_low_at j n (pos m) = mod-mod-pow m j n
+unsigned_low_at j n (negsuc m) =
+    let below : m % 2 ^ (j + n) < 2 ^ j * 2 ^ n = subst (λ s. m % 2 ^ (j + n) < s) (pow-add 2 j n) (mod_below m (2 ^ (j + n)) (pow_pos (j + n))) in
+    ap (λ s. (s - 1 - m % 2 ^ (j + n)) % 2 ^ n) (pow-add 2 j n)
+    ∙ (complement_low (2 ^ j) (2 ^ n) (m % 2 ^ (j + n)) (pow_pos n) below ∙ ap (λ s. 2 ^ n - 1 - s) (mod-mod-pow m j n))
+
+-- the low bits of a number's word are the number's bits
+pub unsigned_low : (x n : ℕ) (i : ℤ) → n ≤ x → wrapped n (unsigned x i) ≡ unsigned n i
+unsigned_low x n i within =
+    let e : (x - n) + n ≡ x = omega (arith, within) in subst (λ y. wrapped n (unsigned y i) ≡ unsigned n i) e (unsigned_low_at (x - n) n i)
+
+number_reads_at : (b : Bool) (x n : ℕ) (i : ℤ) → nat_lt n x ≡ b → n ≤ x → cond b ((unsigned x i < 2 ^ x) × (unsigned x i % 2 ^ n ≡ unsigned n i)) (unsigned x i ≡ unsigned n i)
+number_reads_at true x n i is within = (unsigned_below x i, unsigned_low x n i within)
+number_reads_at false x n i is within = let e : x ≡ n = omega (arith, ltb-false n x is, within) in ap (λ y. unsigned y i) e
+
+-- a number's word is what a register that holds the number may be read as
+pub number_reads : (x n : ℕ) (i : ℤ) → n ≤ x → IsReadAs x n (unsigned n i) (unsigned x i)
+number_reads x n i within = number_reads_at (nat_lt n x) x n i refl within
+
+-- ══ Functions bit by bit ══
+
+-- the low bits of what is made are made of the low bits
+abbrev pub KeepsLow : (ℕ → ℕ → ℕ) → Type 0
+KeepsLow f = (a b k : ℕ) → f a b % 2 ^ k ≡ f (a % 2 ^ k) (b % 2 ^ k)
+
+low_at : (t : Bool) (given : Given) (x n a u b v : ℕ) (f : ℕ → ℕ → ℕ) → KeepsLow f → cond t ((u < 2 ^ x) × (u % 2 ^ n ≡ a)) (u ≡ a) → cond t ((v < 2 ^ x) × (v % 2 ^ n ≡ b)) (v ≡ b)
+    → MayGive given (f a b) → MayGive given (cond t (wrapped n (f u v)) (f u v))
+low_at true given x n a u b v f keeps left right may = subst (MayGive given) (sym (keeps u v n ∙ ap₂ f left.1 right.1)) may
+low_at false given x n a u b v f keeps left right may = subst (MayGive given) (sym (ap₂ f left right)) may
+
+pub low_may : (given : Given) (x n a u b v : ℕ) (f : ℕ → ℕ → ℕ) → KeepsLow f → IsReadAs x n a u → IsReadAs x n b v → MayGive given (f a b) → MayGive given (fitted x n (f u v))
+low_may given x n a u b v f keeps left right may = low_at (nat_lt n x) given x n a u b v f keeps left right may

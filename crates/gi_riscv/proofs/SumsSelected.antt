@@ -1,10 +1,9 @@
 -- Sums and differences are selected.
-use Rattle.std.proofs.Common.{◌≡◌, ℕ, suc, zero, ◌-◌, ◌+◌, ◌*◌, ◌^◌, ◌%◌, ◌<◌, ◌≤◌, ◌⊎◌, inl, inr, true, refl, sym, ap, ◌∙◌, subst, arith, ℤ, pos, negsuc, ◌-ℤ◌, neg_ℤ}
+use Rattle.std.proofs.Common.{lit≤, ◌≡◌, ℕ, suc, zero, ◌-◌, ◌+◌, ◌*◌, ◌^◌, ◌%◌, ◌<◌, ◌≤◌, ◌⊎◌, inl, inr, true, refl, sym, ap, ◌∙◌, subst, arith, ℤ, pos, negsuc, ◌-ℤ◌, neg_ℤ}
 use Rattle.std.proofs.lemmas.Nat.{pow_pos, mod_below}
 use Rattle.std.proofs.lemmas.Bool.{cases_lt}
 use Rattle.std.proofs.lemmas.Int.{ints}
 use Rattle.std.proofs.Math.Nat.{mod-eq_of_lt, add-mul-mod_self_left}
-use Rattle.std.proofs.Math.Pow.{mod-mod-pow}
 use Rattle.gi_llt.specs.Bits.{wrapped, unsigned}
 use Rattle.gi_mir.specs.declared.opcode.Opcode.TheVariants as op
 use Rattle.gi_mir.specs.declared.operand.Flags.{Flags}
@@ -15,7 +14,7 @@ use Rattle.gi_meaning.specs.State.{World}
 use Rattle.gi_meaning.proofs.Numbers.{unsigned_below, mod-step}
 use Rattle.gi_refine.specs.Values.{IsSound}
 use Rattle.gi_riscv.specs.SelectionRules.{add, add_pointer, subtract, add_half, subtract_half, add_number, add_first_number, add_number_to_pointer, add_number_half, add_first_number_half, subtract_number, subtract_number_half}
-use Rattle.gi_riscv.proofs.MachineSteps.{NumbersLaw, NumbersFit, MayGive, may_unless, registers_sound, number_sound, first_number_sound, whole_law, half_law, whole_number_law, half_number_law, whole_may, half_may, if_true}
+use Rattle.gi_riscv.proofs.MachineSteps.{unsigned_low, NumbersLaw, NumbersFit, MayGive, may_unless, registers_sound, number_sound, first_number_sound, whole_law, half_law, whole_number_law, half_number_law, whole_may, half_may, if_true}
 
 -- ══ Numbers ══
 
@@ -42,15 +41,7 @@ difference_fits n a b a_fits b_fits = unsigned_below n (pos a -ℤ pos b)
 difference_law : (flags : Flags) (n : ℕ) → NumbersLaw n (difference flags) difference_of
 difference_law flags n a b a_fits b_fits = may_unless _ n (difference_of n a b) (difference_fits n a b a_fits b_fits)
 
--- ══ Immediates ══
-
-low_complement : (m : ℕ) → m < 2 ^ 64 → (2 ^ 64 - 1 - m) % 2 ^ 32 ≡ 2 ^ 32 - 1 - m % 2 ^ 32
-low_complement m h = omega arith
-
--- the low half of a number's word is its word of 32 bits
-pub unsigned_low : (i : ℤ) → wrapped 32 (unsigned 64 i) ≡ unsigned 32 i
-unsigned_low (pos n) = mod-mod-pow n 32 32
-unsigned_low (negsuc n) = low_complement (n % 2 ^ 64) (mod_below n (2 ^ 64) (pow_pos 64)) ∙ ap (λ m. 2 ^ 32 - 1 - m) (mod-mod-pow n 32 32)
+-- ══ Opposites ══
 
 -- two words of which the one negates the other
 abbrev Opposite : (n r c : ℕ) → Type 0
@@ -144,13 +135,13 @@ pub add_number_half_sound : (w : World) (flags : Flags) (i : ℤ) → is_immedia
 add_number_half_sound w flags i short =
     number_sound 64 w op.GenericAdd flags 32 (unsigned 32 i) op.AddImmediateWord i (sum flags) (on_rv64 (on_immediate (on_low_half sum_word))) (λ u. on_low_half sum_word 64 u (unsigned 64 i)) refl refl
     (λ width word. if_true (is_immediate i) (one (on_low_half sum_word 64 word (unsigned 64 i))) short)
-    (half_number_law (unsigned 32 i) (unsigned 64 i) (sum flags) sum_word (sum_law flags 32) (sum_fits 32) (unsigned_low i))
+    (half_number_law (unsigned 32 i) (unsigned 64 i) (sum flags) sum_word (sum_law flags 32) (sum_fits 32) (unsigned_low 64 32 i (lit≤ tt)))
 
 pub add_first_number_half_sound : (w : World) (flags : Flags) (i : ℤ) → is_immediate i ≡ true → IsSound 64 w (add_first_number_half flags i)
 add_first_number_half_sound w flags i short =
     first_number_sound 64 w op.GenericAdd flags 32 (unsigned 32 i) op.AddImmediateWord i (sum flags) (on_rv64 (on_immediate (on_low_half sum_word))) (λ u. on_low_half sum_word 64 u (unsigned 64 i)) refl refl
     (λ width word. if_true (is_immediate i) (one (on_low_half sum_word 64 word (unsigned 64 i))) short)
-    (half_number_law (unsigned 32 i) (unsigned 64 i) (λ n a b. sum flags n b a) sum_word (sum_law_swapped flags 32) (sum_fits 32) (unsigned_low i))
+    (half_number_law (unsigned 32 i) (unsigned 64 i) (λ n a b. sum flags n b a) sum_word (sum_law_swapped flags 32) (sum_fits 32) (unsigned_low 64 32 i (lit≤ tt)))
 
 pub subtract_number_sound : (x : ℕ) (w : World) (flags : Flags) (i : ℤ) → is_immediate i ≡ true → IsSound x w (subtract_number x flags i)
 subtract_number_sound x w flags i short =
@@ -162,4 +153,4 @@ pub subtract_number_half_sound : (w : World) (flags : Flags) (i : ℤ) → is_im
 subtract_number_half_sound w flags i short =
     number_sound 64 w op.GenericSubtract flags 32 (unsigned 32 (neg_ℤ i)) op.AddImmediateWord i (difference flags) (on_rv64 (on_immediate (on_low_half sum_word))) (λ u. on_low_half sum_word 64 u (unsigned 64 i)) refl refl
     (λ width word. if_true (is_immediate i) (one (on_low_half sum_word 64 word (unsigned 64 i))) short)
-    (λ a u a_fits left. half_may (difference flags 32 a (unsigned 32 (neg_ℤ i))) a u (unsigned 32 i) (unsigned 64 i) sum_word left (unsigned_low i) (sum_fits 32) (difference_number_law flags 32 i a a_fits))
+    (λ a u a_fits left. half_may (difference flags 32 a (unsigned 32 (neg_ℤ i))) a u (unsigned 32 i) (unsigned 64 i) sum_word left (unsigned_low 64 32 i (lit≤ tt)) (sum_fits 32) (difference_number_law flags 32 i a a_fits))

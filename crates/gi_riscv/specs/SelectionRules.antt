@@ -80,3 +80,46 @@ subtract_number x flags i = by_number op.GenericSubtract flags x (unsigned x (ne
 
 abbrev pub subtract_number_half : Flags → ℤ → Rule
 subtract_number_half flags i = by_number op.GenericSubtract flags 32 (unsigned 32 (neg_ℤ i)) op.AddImmediateWord i
+
+-- ══ Logic: bit by bit, on registers of any width ══
+
+abbrev pub logical_and : (n : ℕ) → Flags → Rule
+logical_and n flags = on_registers op.GenericAnd flags n op.And
+
+abbrev pub logical_or : (n : ℕ) → Flags → Rule
+logical_or n flags = on_registers op.GenericOr flags n op.Or
+
+abbrev pub logical_xor : (n : ℕ) → Flags → Rule
+logical_xor n flags = on_registers op.GenericXor flags n op.Xor
+
+abbrev pub and_number : (n : ℕ) → Flags → ℤ → Rule
+and_number n flags i = by_number op.GenericAnd flags n (unsigned n i) op.AndImmediate i
+
+abbrev pub or_number : (n : ℕ) → Flags → ℤ → Rule
+or_number n flags i = by_number op.GenericOr flags n (unsigned n i) op.OrImmediate i
+
+abbrev pub xor_number : (n : ℕ) → Flags → ℤ → Rule
+xor_number n flags i = by_number op.GenericXor flags n (unsigned n i) op.XorImmediate i
+
+abbrev pub and_first_number : (n : ℕ) → Flags → ℤ → Rule
+and_first_number n flags i = by_first_number op.GenericAnd flags n (unsigned n i) op.AndImmediate i
+
+abbrev pub or_first_number : (n : ℕ) → Flags → ℤ → Rule
+or_first_number n flags i = by_first_number op.GenericOr flags n (unsigned n i) op.OrImmediate i
+
+abbrev pub xor_first_number : (n : ℕ) → Flags → ℤ → Rule
+xor_first_number n flags i = by_first_number op.GenericXor flags n (unsigned n i) op.XorImmediate i
+
+-- ══ Products ══
+
+abbrev pub multiply : (x : ℕ) → Flags → Rule
+multiply x flags = on_registers op.GenericMultiply flags x op.Multiply
+
+abbrev pub multiply_half : Flags → Rule
+multiply_half flags = on_registers op.GenericMultiply flags 32 op.MultiplyWord
+
+abbrev pub multiply_high_unsigned : (x : ℕ) → Flags → Rule
+multiply_high_unsigned x flags = on_registers op.GenericUnsignedMultiplyHigh flags x op.MultiplyHighUnsigned
+
+abbrev pub multiply_high : (x : ℕ) → Flags → Rule
+multiply_high x flags = on_registers op.GenericSignedMultiplyHigh flags x op.MultiplyHigh

@@ -16,12 +16,12 @@ pub fn address_is_made()
 =======
 //! For each row of selection: what the instructions make of values, the generic operation may make, whatever its flags.
 
-ghost use Rattle.std.specs.Prelude.{◌≡◌, ℕ, true, ℤ};
+ghost use Rattle.std.specs.Prelude.{◌≡◌, ◌≤◌, ℕ, true, ℤ};
 ghost use Rattle.gi_mir.specs.declared.operand.Flags.{Flags};
 ghost use Rattle.gi_meaning.specs.Machine.{is_immediate};
 ghost use Rattle.gi_meaning.specs.State.{World};
 ghost use Rattle.gi_refine.specs.Values.{IsSound};
-ghost use Rattle.gi_riscv.specs.SelectionRules.{add, add_first_number, add_first_number_half, add_half, add_number, add_number_half, add_number_to_pointer, add_pointer, subtract, subtract_half, subtract_number, subtract_number_half};
+ghost use Rattle.gi_riscv.specs.SelectionRules.{multiply, multiply_half, multiply_high, multiply_high_unsigned, and_first_number, and_number, logical_and, logical_or, logical_xor, or_first_number, or_number, xor_first_number, xor_number, add, add_first_number, add_first_number_half, add_half, add_number, add_number_half, add_number_to_pointer, add_pointer, subtract, subtract_half, subtract_number, subtract_number_half};
 
 /// Sums and differences, with two registers and with a short constant.
 pub fn sums_are_selected()
@@ -38,4 +38,25 @@ pub fn sums_are_selected()
     ensures subtract_number { (x : ℕ) (w : World) (flags : Flags) (i : ℤ) → is_immediate i ≡ true → IsSound x w (subtract_number x flags i) }
     ensures subtract_number_half { (w : World) (flags : Flags) (i : ℤ) → is_immediate i ≡ true → IsSound 64 w (subtract_number_half flags i) }
 >>>>>>> 8403cd2 (Selection of sums: rules as data, and each is sound on values for all widths and flags)
+{}
+
+/// Logic, on registers of any width, and with a short constant.
+pub fn logic_is_selected()
+    ensures logical_and { (x : ℕ) (w : World) (n : ℕ) (flags : Flags) → IsSound x w (logical_and n flags) }
+    ensures logical_or { (x : ℕ) (w : World) (n : ℕ) (flags : Flags) → IsSound x w (logical_or n flags) }
+    ensures logical_xor { (x : ℕ) (w : World) (n : ℕ) (flags : Flags) → IsSound x w (logical_xor n flags) }
+    ensures and_number { (x : ℕ) (w : World) (n : ℕ) (flags : Flags) (i : ℤ) → n ≤ x → is_immediate i ≡ true → IsSound x w (and_number n flags i) }
+    ensures and_first_number { (x : ℕ) (w : World) (n : ℕ) (flags : Flags) (i : ℤ) → n ≤ x → is_immediate i ≡ true → IsSound x w (and_first_number n flags i) }
+    ensures or_number { (x : ℕ) (w : World) (n : ℕ) (flags : Flags) (i : ℤ) → n ≤ x → is_immediate i ≡ true → IsSound x w (or_number n flags i) }
+    ensures or_first_number { (x : ℕ) (w : World) (n : ℕ) (flags : Flags) (i : ℤ) → n ≤ x → is_immediate i ≡ true → IsSound x w (or_first_number n flags i) }
+    ensures xor_number { (x : ℕ) (w : World) (n : ℕ) (flags : Flags) (i : ℤ) → n ≤ x → is_immediate i ≡ true → IsSound x w (xor_number n flags i) }
+    ensures xor_first_number { (x : ℕ) (w : World) (n : ℕ) (flags : Flags) (i : ℤ) → n ≤ x → is_immediate i ≡ true → IsSound x w (xor_first_number n flags i) }
+{}
+
+/// Products, and their high halves.
+pub fn products_are_selected()
+    ensures multiply { (x : ℕ) (w : World) (flags : Flags) → IsSound x w (multiply x flags) }
+    ensures multiply_half { (w : World) (flags : Flags) → IsSound 64 w (multiply_half flags) }
+    ensures multiply_high_unsigned { (x : ℕ) (w : World) (flags : Flags) → IsSound x w (multiply_high_unsigned x flags) }
+    ensures multiply_high { (x : ℕ) (w : World) (flags : Flags) → IsSound x w (multiply_high x flags) }
 {}
