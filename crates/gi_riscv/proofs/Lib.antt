@@ -4,7 +4,9 @@ pub mod Making
 pub mod Parts
 pub mod Rounds
 pub mod Words
+pub mod ComparisonsSelected
 pub mod LogicSelected
 pub mod MachineSteps
 pub mod ProductsSelected
 pub mod SumsSelected
+pub mod WordSteps

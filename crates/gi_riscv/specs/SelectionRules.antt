@@ -2,13 +2,15 @@
 -- (RISC-V unprivileged ISA, "Integer Computational Instructions", "RV64I", "M": what each instruction computes.)
 -- A rule of x bits is for words; one of 32 bits is for RV64, where a register of 32 bits stands for any word with these
 -- low bits.
-use Rattle.std.specs.Prelude.{ℕ, ◌+◌, ◌-◌, List, [], ◌∷◌, length, None, ℤ, neg_ℤ}
+use Rattle.std.specs.Prelude.{ℕ, ◌+◌, ◌-◌, List, [], ◌∷◌, length, None, ℤ, pos, neg_ℤ}
 use Rattle.gi_llt.specs.Bits.{unsigned}
 use Rattle.gi_mir.specs.Stated.{no_flags}
 use Rattle.gi_mir.specs.declared.opcode.Opcode.{Opcode}
 use Rattle.gi_mir.specs.declared.opcode.Opcode.TheVariants as op
 use Rattle.gi_mir.specs.declared.operand.Flags.{Flags}
-use Rattle.gi_meaning.specs.Argument.{Number}
+use Rattle.gi_mir.specs.declared.operand.Pred.{Pred}
+use Rattle.gi_mir.specs.declared.operand.Pred.TheVariants.{Eq, Ne, Ugt, Uge, Ult, Ule, Sgt, Sge, Slt, Sle}
+use Rattle.gi_meaning.specs.Argument.{Value, Number, Test}
 use Rattle.gi_refine.specs.Values.{At, Fixed, Operation, Fact, Defines, Rule}
 use Rattle.gi_refine.specs.TrialRules.{constant, on_two}
 
@@ -123,3 +125,65 @@ multiply_high_unsigned x flags = on_registers op.GenericUnsignedMultiplyHigh fla
 
 abbrev pub multiply_high : (x : ℕ) → Flags → Rule
 multiply_high x flags = on_registers op.GenericSignedMultiplyHigh flags x op.MultiplyHigh
+
+-- ══ Comparisons ══
+
+abbrev pub compare : Pred → Flags → (n : ℕ) → Operation
+compare pred flags n = record { op = op.GenericCompare; flags = flags; slots = Fixed (Test pred) ∷ At 0 ∷ At 1 ∷ []; mem = None; widths = n ∷ [] }
+
+-- on `$x0` and the value at a place
+abbrev pub with_zero : Opcode → (n a : ℕ) → Operation
+with_zero op n a = record { op = op; flags = no_flags; slots = Fixed (Value n 0) ∷ At a ∷ []; mem = None; widths = n ∷ [] }
+
+abbrev pub compared : Pred → Flags → (n : ℕ) → List Operation → Rule
+compared pred flags n new = selected (n ∷ n ∷ []) [] (compare pred flags n) new
+
+-- the second register holds a constant
+abbrev pub compared_with : Pred → Flags → (n value : ℕ) → List Operation → Rule
+compared_with pred flags n value new = selected (n ∷ n ∷ []) (Defines (constant n value) (1 ∷ []) ∷ []) (compare pred flags n) new
+
+-- below and above: the operands swapped
+abbrev pub compare_ult : (x : ℕ) → Flags → Rule
+compare_ult x flags = compared Ult flags x (on_two op.SetLessUnsigned no_flags x 0 1 ∷ [])
+
+abbrev pub compare_ugt : (x : ℕ) → Flags → Rule
+compare_ugt x flags = compared Ugt flags x (on_two op.SetLessUnsigned no_flags x 1 0 ∷ [])
+
+abbrev pub compare_slt : (x : ℕ) → Flags → Rule
+compare_slt x flags = compared Slt flags x (on_two op.SetLess no_flags x 0 1 ∷ [])
+
+abbrev pub compare_sgt : (x : ℕ) → Flags → Rule
+compare_sgt x flags = compared Sgt flags x (on_two op.SetLess no_flags x 1 0 ∷ [])
+
+-- at least and at most: what isn't below, and what isn't above
+abbrev pub compare_uge : (x : ℕ) → Flags → Rule
+compare_uge x flags = compared Uge flags x (on_two op.SetLessUnsigned no_flags x 0 1 ∷ with_number op.XorImmediate x 2 (pos 1) ∷ [])
+
+abbrev pub compare_ule : (x : ℕ) → Flags → Rule
+compare_ule x flags = compared Ule flags x (on_two op.SetLessUnsigned no_flags x 1 0 ∷ with_number op.XorImmediate x 2 (pos 1) ∷ [])
+
+abbrev pub compare_sge : (x : ℕ) → Flags → Rule
+compare_sge x flags = compared Sge flags x (on_two op.SetLess no_flags x 0 1 ∷ with_number op.XorImmediate x 2 (pos 1) ∷ [])
+
+abbrev pub compare_sle : (x : ℕ) → Flags → Rule
+compare_sle x flags = compared Sle flags x (on_two op.SetLess no_flags x 1 0 ∷ with_number op.XorImmediate x 2 (pos 1) ∷ [])
+
+-- equal: no bit differs
+abbrev pub compare_eq : (x : ℕ) → Flags → Rule
+compare_eq x flags = compared Eq flags x (on_two op.Xor no_flags x 0 1 ∷ with_number op.SetLessImmediateUnsigned x 2 (pos 1) ∷ [])
+
+abbrev pub compare_ne : (x : ℕ) → Flags → Rule
+compare_ne x flags = compared Ne flags x (on_two op.Xor no_flags x 0 1 ∷ with_zero op.SetLessUnsigned x 2 ∷ [])
+
+-- with a constant
+abbrev pub compare_eq_zero : (x : ℕ) → Flags → Rule
+compare_eq_zero x flags = compared_with Eq flags x 0 (with_number op.SetLessImmediateUnsigned x 0 (pos 1) ∷ [])
+
+abbrev pub compare_ne_zero : (x : ℕ) → Flags → Rule
+compare_ne_zero x flags = compared_with Ne flags x 0 (with_zero op.SetLessUnsigned x 0 ∷ [])
+
+abbrev pub compare_ult_number : (x : ℕ) → Flags → ℤ → Rule
+compare_ult_number x flags i = compared_with Ult flags x (unsigned x i) (with_number op.SetLessImmediateUnsigned x 0 i ∷ [])
+
+abbrev pub compare_slt_number : (x : ℕ) → Flags → ℤ → Rule
+compare_slt_number x flags i = compared_with Slt flags x (unsigned x i) (with_number op.SetLessImmediate x 0 i ∷ [])

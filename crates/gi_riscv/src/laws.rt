@@ -16,12 +16,12 @@ pub fn address_is_made()
 =======
 //! For each row of selection: what the instructions make of values, the generic operation may make, whatever its flags.
 
-ghost use Rattle.std.specs.Prelude.{◌≡◌, ◌≤◌, ℕ, true, ℤ};
+ghost use Rattle.std.specs.Prelude.{◌≡◌, ◌<◌, ◌≤◌, ℕ, true, ℤ};
 ghost use Rattle.gi_mir.specs.declared.operand.Flags.{Flags};
 ghost use Rattle.gi_meaning.specs.Machine.{is_immediate};
 ghost use Rattle.gi_meaning.specs.State.{World};
 ghost use Rattle.gi_refine.specs.Values.{IsSound};
-ghost use Rattle.gi_riscv.specs.SelectionRules.{multiply, multiply_half, multiply_high, multiply_high_unsigned, and_first_number, and_number, logical_and, logical_or, logical_xor, or_first_number, or_number, xor_first_number, xor_number, add, add_first_number, add_first_number_half, add_half, add_number, add_number_half, add_number_to_pointer, add_pointer, subtract, subtract_half, subtract_number, subtract_number_half};
+ghost use Rattle.gi_riscv.specs.SelectionRules.{compare_ult, compare_ugt, compare_slt, compare_sgt, compare_uge, compare_ule, compare_sge, compare_sle, compare_eq, compare_ne, compare_eq_zero, compare_ne_zero, compare_ult_number, compare_slt_number, multiply, multiply_half, multiply_high, multiply_high_unsigned, and_first_number, and_number, logical_and, logical_or, logical_xor, or_first_number, or_number, xor_first_number, xor_number, add, add_first_number, add_first_number_half, add_half, add_number, add_number_half, add_number_to_pointer, add_pointer, subtract, subtract_half, subtract_number, subtract_number_half};
 
 /// Sums and differences, with two registers and with a short constant.
 pub fn sums_are_selected()
@@ -59,4 +59,22 @@ pub fn products_are_selected()
     ensures multiply_half { (w : World) (flags : Flags) → IsSound 64 w (multiply_half flags) }
     ensures multiply_high_unsigned { (x : ℕ) (w : World) (flags : Flags) → IsSound x w (multiply_high_unsigned x flags) }
     ensures multiply_high { (x : ℕ) (w : World) (flags : Flags) → IsSound x w (multiply_high x flags) }
+{}
+
+/// Comparisons of words, with two registers, with zero and with a short constant.
+pub fn comparisons_are_selected()
+    ensures compare_ult { (x : ℕ) (w : World) (flags : Flags) → IsSound x w (compare_ult x flags) }
+    ensures compare_ugt { (x : ℕ) (w : World) (flags : Flags) → IsSound x w (compare_ugt x flags) }
+    ensures compare_slt { (x : ℕ) (w : World) (flags : Flags) → IsSound x w (compare_slt x flags) }
+    ensures compare_sgt { (x : ℕ) (w : World) (flags : Flags) → IsSound x w (compare_sgt x flags) }
+    ensures compare_uge { (x : ℕ) (w : World) (flags : Flags) → 0 < x → IsSound x w (compare_uge x flags) }
+    ensures compare_ule { (x : ℕ) (w : World) (flags : Flags) → 0 < x → IsSound x w (compare_ule x flags) }
+    ensures compare_sge { (x : ℕ) (w : World) (flags : Flags) → 0 < x → IsSound x w (compare_sge x flags) }
+    ensures compare_sle { (x : ℕ) (w : World) (flags : Flags) → 0 < x → IsSound x w (compare_sle x flags) }
+    ensures compare_eq { (x : ℕ) (w : World) (flags : Flags) → 0 < x → IsSound x w (compare_eq x flags) }
+    ensures compare_ne { (x : ℕ) (w : World) (flags : Flags) → IsSound x w (compare_ne x flags) }
+    ensures compare_eq_zero { (x : ℕ) (w : World) (flags : Flags) → 0 < x → IsSound x w (compare_eq_zero x flags) }
+    ensures compare_ne_zero { (x : ℕ) (w : World) (flags : Flags) → IsSound x w (compare_ne_zero x flags) }
+    ensures compare_ult_number { (x : ℕ) (w : World) (flags : Flags) (i : ℤ) → is_immediate i ≡ true → IsSound x w (compare_ult_number x flags i) }
+    ensures compare_slt_number { (x : ℕ) (w : World) (flags : Flags) (i : ℤ) → is_immediate i ≡ true → IsSound x w (compare_slt_number x flags i) }
 {}

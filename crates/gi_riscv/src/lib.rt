@@ -8,6 +8,9 @@ pub mod laws;
 pub use constants::{Sequence, Step, materialise};
 pub use laws::sums_are_selected;
 pub use laws::{logic_is_selected, products_are_selected, sums_are_selected};
+pub use laws::{
+    comparisons_are_selected, logic_is_selected, products_are_selected, sums_are_selected,
+};
 
 #[cfg(test)]
 mod tests;
