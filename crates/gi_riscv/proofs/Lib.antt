@@ -8,5 +8,6 @@ pub mod ComparisonsSelected
 pub mod LogicSelected
 pub mod MachineSteps
 pub mod ProductsSelected
+pub mod ShiftsSelected
 pub mod SumsSelected
 pub mod WordSteps

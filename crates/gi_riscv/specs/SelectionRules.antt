@@ -187,3 +187,41 @@ compare_ult_number x flags i = compared_with Ult flags x (unsigned x i) (with_nu
 
 abbrev pub compare_slt_number : (x : ℕ) → Flags → ℤ → Rule
 compare_slt_number x flags i = compared_with Slt flags x (unsigned x i) (with_number op.SetLessImmediate x 0 i ∷ [])
+
+-- ══ Shifts, by a register and by a constant that is below the width ══
+
+abbrev pub shift_left : (x : ℕ) → Flags → Rule
+shift_left x flags = on_registers op.GenericShiftLeft flags x op.ShiftLeftLogical
+
+abbrev pub shift_right : (x : ℕ) → Flags → Rule
+shift_right x flags = on_registers op.GenericLogicalShiftRight flags x op.ShiftRightLogical
+
+abbrev pub shift_right_signed : (x : ℕ) → Flags → Rule
+shift_right_signed x flags = on_registers op.GenericArithmeticShiftRight flags x op.ShiftRightArithmetic
+
+abbrev pub shift_left_half : Flags → Rule
+shift_left_half flags = on_registers op.GenericShiftLeft flags 32 op.ShiftLeftLogicalWord
+
+abbrev pub shift_right_half : Flags → Rule
+shift_right_half flags = on_registers op.GenericLogicalShiftRight flags 32 op.ShiftRightLogicalWord
+
+abbrev pub shift_right_signed_half : Flags → Rule
+shift_right_signed_half flags = on_registers op.GenericArithmeticShiftRight flags 32 op.ShiftRightArithmeticWord
+
+abbrev pub shift_left_by : (x : ℕ) → Flags → (k : ℕ) → Rule
+shift_left_by x flags k = by_number op.GenericShiftLeft flags x k op.ShiftLeftLogicalImmediate (pos k)
+
+abbrev pub shift_right_by : (x : ℕ) → Flags → (k : ℕ) → Rule
+shift_right_by x flags k = by_number op.GenericLogicalShiftRight flags x k op.ShiftRightLogicalImmediate (pos k)
+
+abbrev pub shift_right_signed_by : (x : ℕ) → Flags → (k : ℕ) → Rule
+shift_right_signed_by x flags k = by_number op.GenericArithmeticShiftRight flags x k op.ShiftRightArithmeticImmediate (pos k)
+
+abbrev pub shift_left_half_by : Flags → (k : ℕ) → Rule
+shift_left_half_by flags k = by_number op.GenericShiftLeft flags 32 k op.ShiftLeftLogicalImmediateWord (pos k)
+
+abbrev pub shift_right_half_by : Flags → (k : ℕ) → Rule
+shift_right_half_by flags k = by_number op.GenericLogicalShiftRight flags 32 k op.ShiftRightLogicalImmediateWord (pos k)
+
+abbrev pub shift_right_signed_half_by : Flags → (k : ℕ) → Rule
+shift_right_signed_half_by flags k = by_number op.GenericArithmeticShiftRight flags 32 k op.ShiftRightArithmeticImmediateWord (pos k)

@@ -21,7 +21,7 @@ ghost use Rattle.gi_mir.specs.declared.operand.Flags.{Flags};
 ghost use Rattle.gi_meaning.specs.Machine.{is_immediate};
 ghost use Rattle.gi_meaning.specs.State.{World};
 ghost use Rattle.gi_refine.specs.Values.{IsSound};
-ghost use Rattle.gi_riscv.specs.SelectionRules.{compare_ult, compare_ugt, compare_slt, compare_sgt, compare_uge, compare_ule, compare_sge, compare_sle, compare_eq, compare_ne, compare_eq_zero, compare_ne_zero, compare_ult_number, compare_slt_number, multiply, multiply_half, multiply_high, multiply_high_unsigned, and_first_number, and_number, logical_and, logical_or, logical_xor, or_first_number, or_number, xor_first_number, xor_number, add, add_first_number, add_first_number_half, add_half, add_number, add_number_half, add_number_to_pointer, add_pointer, subtract, subtract_half, subtract_number, subtract_number_half};
+ghost use Rattle.gi_riscv.specs.SelectionRules.{shift_left, shift_right, shift_right_signed, shift_left_half, shift_right_half, shift_right_signed_half, shift_left_by, shift_right_by, shift_right_signed_by, shift_left_half_by, shift_right_half_by, shift_right_signed_half_by, compare_ult, compare_ugt, compare_slt, compare_sgt, compare_uge, compare_ule, compare_sge, compare_sle, compare_eq, compare_ne, compare_eq_zero, compare_ne_zero, compare_ult_number, compare_slt_number, multiply, multiply_half, multiply_high, multiply_high_unsigned, and_first_number, and_number, logical_and, logical_or, logical_xor, or_first_number, or_number, xor_first_number, xor_number, add, add_first_number, add_first_number_half, add_half, add_number, add_number_half, add_number_to_pointer, add_pointer, subtract, subtract_half, subtract_number, subtract_number_half};
 
 /// Sums and differences, with two registers and with a short constant.
 pub fn sums_are_selected()
@@ -77,4 +77,20 @@ pub fn comparisons_are_selected()
     ensures compare_ne_zero { (x : ℕ) (w : World) (flags : Flags) → IsSound x w (compare_ne_zero x flags) }
     ensures compare_ult_number { (x : ℕ) (w : World) (flags : Flags) (i : ℤ) → is_immediate i ≡ true → IsSound x w (compare_ult_number x flags i) }
     ensures compare_slt_number { (x : ℕ) (w : World) (flags : Flags) (i : ℤ) → is_immediate i ≡ true → IsSound x w (compare_slt_number x flags i) }
+{}
+
+/// Shifts, by a register and by a constant.
+pub fn shifts_are_selected()
+    ensures shift_left { (x : ℕ) (w : World) (flags : Flags) → IsSound x w (shift_left x flags) }
+    ensures shift_right { (x : ℕ) (w : World) (flags : Flags) → IsSound x w (shift_right x flags) }
+    ensures shift_right_signed { (x : ℕ) (w : World) (flags : Flags) → IsSound x w (shift_right_signed x flags) }
+    ensures shift_left_half { (w : World) (flags : Flags) → IsSound 64 w (shift_left_half flags) }
+    ensures shift_right_half { (w : World) (flags : Flags) → IsSound 64 w (shift_right_half flags) }
+    ensures shift_right_signed_half { (w : World) (flags : Flags) → IsSound 64 w (shift_right_signed_half flags) }
+    ensures shift_left_by { (x : ℕ) (w : World) (flags : Flags) (k : ℕ) → k < x → IsSound x w (shift_left_by x flags k) }
+    ensures shift_right_by { (x : ℕ) (w : World) (flags : Flags) (k : ℕ) → k < x → IsSound x w (shift_right_by x flags k) }
+    ensures shift_right_signed_by { (x : ℕ) (w : World) (flags : Flags) (k : ℕ) → k < x → IsSound x w (shift_right_signed_by x flags k) }
+    ensures shift_left_half_by { (w : World) (flags : Flags) (k : ℕ) → k < 32 → IsSound 64 w (shift_left_half_by flags k) }
+    ensures shift_right_half_by { (w : World) (flags : Flags) (k : ℕ) → k < 32 → IsSound 64 w (shift_right_half_by flags k) }
+    ensures shift_right_signed_half_by { (w : World) (flags : Flags) (k : ℕ) → k < 32 → IsSound 64 w (shift_right_signed_half_by flags k) }
 {}
