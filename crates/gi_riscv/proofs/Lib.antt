@@ -4,10 +4,14 @@ pub mod Making
 pub mod Parts
 pub mod Rounds
 pub mod Words
+pub mod BranchesSelected
+pub mod CastsSelected
 pub mod ComparisonsSelected
 pub mod LogicSelected
 pub mod MachineSteps
 pub mod ProductsSelected
+pub mod QuotientsSelected
+pub mod ChoicesSelected
 pub mod ShiftsSelected
 pub mod SumsSelected
 pub mod WordSteps

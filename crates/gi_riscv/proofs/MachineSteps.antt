@@ -5,7 +5,7 @@ use Rattle.std.proofs.Common.{◌*◌, ◌/◌, ◌≤◌, pos, negsuc, arith, �
 use Rattle.std.proofs.lemmas.Nat.{pow_pos, mod_below}
 use Rattle.std.proofs.lemmas.Nat.{div_below, pow-add, mod-mul-add}
 use Rattle.std.proofs.lemmas.Bool.{ltb-false}
-use Rattle.std.proofs.Math.Nat.{div-add-mod'}
+use Rattle.std.proofs.Math.Nat.{div-add-mod', mod-eq_of_lt}
 use Rattle.std.proofs.Math.Pow.{mod-mod-pow}
 use Rattle.gi_meaning.proofs.Numbers.{unsigned_below}
 use Rattle.gi_llt.specs.Bits.{unsigned, wrapped, sign_extended}
@@ -45,7 +45,8 @@ rule_of inputs facts old new k j = record { inputs = inputs; facts = facts; old 
 abbrev pub generic : Opcode → Flags → List Slot → (n : ℕ) → Operation
 generic op flags slots n = record { op = op; flags = flags; slots = slots; mem = None; widths = n ∷ [] }
 
-acts : (x : ℕ) (w : World) (outside : Outside) (op : Opcode) (flags : Flags) (slots : List Slot) (n : ℕ) (env : Environment) (gives : List ℕ → List Argument → Given) (arguments : List Argument) (answer : Answer)
+-- what is given, the operation may answer
+pub acts : (x : ℕ) (w : World) (outside : Outside) (op : Opcode) (flags : Flags) (slots : List Slot) (n : ℕ) (env : Environment) (gives : List ℕ → List Argument → Given) (arguments : List Argument) (answer : Answer)
     → meaning_of flags op ≡ Generic gives → arguments_at env slots ≡ Some arguments → Answers (gives (n ∷ []) arguments) outside answer → Acts x w (generic op flags slots n) outside env answer
 acts x w outside op flags slots n env gives arguments answer means are given =
     subst (λ found. ActsFrom x w (generic op flags slots n) outside found answer) (sym are)
@@ -317,10 +318,21 @@ number_reads x n i within = number_reads_at (nat_lt n x) x n i refl within
 abbrev pub KeepsLow : (ℕ → ℕ → ℕ) → Type 0
 KeepsLow f = (a b k : ℕ) → f a b % 2 ^ k ≡ f (a % 2 ^ k) (b % 2 ^ k)
 
-low_at : (t : Bool) (given : Given) (x n a u b v : ℕ) (f : ℕ → ℕ → ℕ) → KeepsLow f → cond t ((u < 2 ^ x) × (u % 2 ^ n ≡ a)) (u ≡ a) → cond t ((v < 2 ^ x) × (v % 2 ^ n ≡ b)) (v ≡ b)
-    → MayGive given (f a b) → MayGive given (cond t (wrapped n (f u v)) (f u v))
-low_at true given x n a u b v f keeps left right may = subst (MayGive given) (sym (keeps u v n ∙ ap₂ f left.1 right.1)) may
-low_at false given x n a u b v f keeps left right may = subst (MayGive given) (sym (ap₂ f left right)) may
+low_at : (t : Bool) (x n a u b v : ℕ) (f : ℕ → ℕ → ℕ) → KeepsLow f → cond t ((u < 2 ^ x) × (u % 2 ^ n ≡ a)) (u ≡ a) → cond t ((v < 2 ^ x) × (v % 2 ^ n ≡ b)) (v ≡ b)
+    → cond t (wrapped n (f u v)) (f u v) ≡ f a b
+low_at true x n a u b v f keeps left right = keeps u v n ∙ ap₂ f left.1 right.1
+low_at false x n a u b v f keeps left right = ap₂ f left right
+
+pub low_is : (x n a u b v : ℕ) (f : ℕ → ℕ → ℕ) → KeepsLow f → IsReadAs x n a u → IsReadAs x n b v → fitted x n (f u v) ≡ f a b
+low_is x n a u b v f keeps left right = low_at (nat_lt n x) x n a u b v f keeps left right
 
 pub low_may : (given : Given) (x n a u b v : ℕ) (f : ℕ → ℕ → ℕ) → KeepsLow f → IsReadAs x n a u → IsReadAs x n b v → MayGive given (f a b) → MayGive given (fitted x n (f u v))
-low_may given x n a u b v f keeps left right may = low_at (nat_lt n x) given x n a u b v f keeps left right may
+low_may given x n a u b v f keeps left right may = subst (MayGive given) (sym (low_is x n a u b v f keeps left right)) may
+
+low_reads_at : (t : Bool) (x n m : ℕ) → nat_lt n x ≡ t → n ≤ x → m < 2 ^ x → cond t ((m < 2 ^ x) × (m % 2 ^ n ≡ wrapped n m)) (m ≡ wrapped n m)
+low_reads_at true x n m is within fits = (fits, refl)
+low_reads_at false x n m is within fits = let e : x ≡ n = omega (arith, ltb-false n x is, within) in sym (mod-eq_of_lt (subst (λ k. m < 2 ^ k) e fits))
+
+-- a word is what a register that holds its low bits may be read as
+pub low_reads : (x n m : ℕ) → n ≤ x → m < 2 ^ x → IsReadAs x n (wrapped n m) m
+low_reads x n m within fits = low_reads_at (nat_lt n x) x n m refl within fits

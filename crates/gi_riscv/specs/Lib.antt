@@ -1,4 +1,5 @@
 pub mod Addresses
 pub mod Materialised
 pub mod Steps
+pub mod SelectedBranches
 pub mod SelectionRules

@@ -12,7 +12,7 @@ use Rattle.gi_mir.specs.declared.operand.Pred.{Pred}
 use Rattle.gi_mir.specs.declared.operand.Pred.TheVariants.{Eq, Ne, Ugt, Uge, Ult, Ule, Sgt, Sge, Slt, Sle}
 use Rattle.gi_meaning.specs.Argument.{Value, Number, Test}
 use Rattle.gi_refine.specs.Values.{At, Fixed, Operation, Fact, Defines, Rule}
-use Rattle.gi_refine.specs.TrialRules.{constant, on_two}
+use Rattle.gi_refine.specs.TrialRules.{constant, on_one, on_two}
 
 -- ══ Forms ══
 
@@ -225,3 +225,78 @@ shift_right_half_by flags k = by_number op.GenericLogicalShiftRight flags 32 k o
 
 abbrev pub shift_right_signed_half_by : Flags → (k : ℕ) → Rule
 shift_right_signed_half_by flags k = by_number op.GenericArithmeticShiftRight flags 32 k op.ShiftRightArithmeticImmediateWord (pos k)
+
+-- ══ Casts ══
+
+-- an operation on the value at the first place
+abbrev pub cast : Opcode → Flags → (n : ℕ) → Operation
+cast op flags n = record { op = op; flags = flags; slots = At 0 ∷ []; mem = None; widths = n ∷ [] }
+
+-- zeros above: shifted to the left and back
+abbrev pub zero_extend : Flags → Rule
+zero_extend flags =
+    selected (32 ∷ []) [] (cast op.GenericZeroExtend flags 64) (with_number op.ShiftLeftLogicalImmediate 64 0 (pos 32) ∷ with_number op.ShiftRightLogicalImmediate 64 1 (pos 32) ∷ [])
+
+-- signs above: the sum of the low half with zero, which is sign-extended
+abbrev pub sign_extend : Flags → Rule
+sign_extend flags = selected (32 ∷ []) [] (cast op.GenericSignExtend flags 64) (with_number op.AddImmediateWord 64 0 (pos 0) ∷ [])
+
+abbrev pub sign_extend_in_register : Flags → Rule
+sign_extend_in_register flags =
+    selected (64 ∷ []) []
+    (record { op = op.GenericSignExtendInRegister; flags = flags; slots = At 0 ∷ Fixed (Number (pos 32)) ∷ []; mem = None; widths = 64 ∷ [] })
+    (with_number op.AddImmediateWord 64 0 (pos 0) ∷ [])
+
+-- a copy, which cuts what is wider and leaves the bits above free where it is narrower
+abbrev pub by_copy : Opcode → Flags → (m n : ℕ) → Rule
+by_copy old flags m n = selected (m ∷ []) [] (cast old flags n) (on_one op.Copy n 0 ∷ [])
+
+abbrev pub truncate : Flags → (m n : ℕ) → Rule
+truncate flags m n = by_copy op.GenericTruncate flags m n
+
+abbrev pub any_extend : Flags → (m n : ℕ) → Rule
+any_extend flags m n = by_copy op.GenericAnyExtend flags m n
+
+abbrev pub pointer_to_integer : Flags → (m n : ℕ) → Rule
+pointer_to_integer flags m n = by_copy op.GenericPointerToInteger flags m n
+
+abbrev pub integer_to_pointer : Flags → (m n : ℕ) → Rule
+integer_to_pointer flags m n = by_copy op.GenericIntegerToPointer flags m n
+
+abbrev pub freeze : Flags → (n : ℕ) → Rule
+freeze flags n = by_copy op.GenericFreeze flags n n
+
+-- ══ Quotients and remainders: the generic ones are undefined where the instruction's result is another ══
+
+abbrev pub divide_unsigned : (x : ℕ) → Flags → Rule
+divide_unsigned x flags = on_registers op.GenericUnsignedDivide flags x op.DivideUnsigned
+
+abbrev pub divide : (x : ℕ) → Flags → Rule
+divide x flags = on_registers op.GenericSignedDivide flags x op.Divide
+
+abbrev pub remainder_unsigned : (x : ℕ) → Flags → Rule
+remainder_unsigned x flags = on_registers op.GenericUnsignedRemainder flags x op.RemainderUnsigned
+
+abbrev pub remainder : (x : ℕ) → Flags → Rule
+remainder x flags = on_registers op.GenericSignedRemainder flags x op.Remainder
+
+abbrev pub divide_unsigned_half : Flags → Rule
+divide_unsigned_half flags = on_registers op.GenericUnsignedDivide flags 32 op.DivideUnsignedWord
+
+abbrev pub divide_half : Flags → Rule
+divide_half flags = on_registers op.GenericSignedDivide flags 32 op.DivideWord
+
+abbrev pub remainder_unsigned_half : Flags → Rule
+remainder_unsigned_half flags = on_registers op.GenericUnsignedRemainder flags 32 op.RemainderUnsignedWord
+
+abbrev pub remainder_half : Flags → Rule
+remainder_half flags = on_registers op.GenericSignedRemainder flags 32 op.RemainderWord
+
+-- ══ A choice between two values: what differs, where the condition isn't zero ══
+
+abbrev pub choose : (x n : ℕ) → Flags → Rule
+choose x n flags =
+    selected (x ∷ n ∷ n ∷ []) []
+    (record { op = op.GenericSelect; flags = flags; slots = At 0 ∷ At 1 ∷ At 2 ∷ []; mem = None; widths = n ∷ [] })
+    (with_zero op.SetLessUnsigned x 0 ∷ with_zero op.Subtract x 3
+    ∷ on_two op.Xor no_flags n 1 2 ∷ on_two op.And no_flags n 5 4 ∷ on_two op.Xor no_flags n 2 6 ∷ [])

@@ -18,10 +18,12 @@ pub fn address_is_made()
 
 ghost use Rattle.std.specs.Prelude.{◌≡◌, ◌<◌, ◌≤◌, ℕ, true, ℤ};
 ghost use Rattle.gi_mir.specs.declared.operand.Flags.{Flags};
+ghost use Rattle.gi_mir.specs.declared.operand.Pred.{Pred};
 ghost use Rattle.gi_meaning.specs.Machine.{is_immediate};
 ghost use Rattle.gi_meaning.specs.State.{World};
 ghost use Rattle.gi_refine.specs.Values.{IsSound};
-ghost use Rattle.gi_riscv.specs.SelectionRules.{shift_left, shift_right, shift_right_signed, shift_left_half, shift_right_half, shift_right_signed_half, shift_left_by, shift_right_by, shift_right_signed_by, shift_left_half_by, shift_right_half_by, shift_right_signed_half_by, compare_ult, compare_ugt, compare_slt, compare_sgt, compare_uge, compare_ule, compare_sge, compare_sle, compare_eq, compare_ne, compare_eq_zero, compare_ne_zero, compare_ult_number, compare_slt_number, multiply, multiply_half, multiply_high, multiply_high_unsigned, and_first_number, and_number, logical_and, logical_or, logical_xor, or_first_number, or_number, xor_first_number, xor_number, add, add_first_number, add_first_number_half, add_half, add_number, add_number_half, add_number_to_pointer, add_pointer, subtract, subtract_half, subtract_number, subtract_number_half};
+ghost use Rattle.gi_riscv.specs.SelectedBranches.{IsSelectedBranch, IsSelectedTest, branch_of};
+ghost use Rattle.gi_riscv.specs.SelectionRules.{choose, zero_extend, sign_extend, sign_extend_in_register, truncate, any_extend, pointer_to_integer, integer_to_pointer, freeze, divide_unsigned, divide, remainder_unsigned, remainder, divide_unsigned_half, divide_half, remainder_unsigned_half, remainder_half, shift_left, shift_right, shift_right_signed, shift_left_half, shift_right_half, shift_right_signed_half, shift_left_by, shift_right_by, shift_right_signed_by, shift_left_half_by, shift_right_half_by, shift_right_signed_half_by, compare_ult, compare_ugt, compare_slt, compare_sgt, compare_uge, compare_ule, compare_sge, compare_sle, compare_eq, compare_ne, compare_eq_zero, compare_ne_zero, compare_ult_number, compare_slt_number, multiply, multiply_half, multiply_high, multiply_high_unsigned, and_first_number, and_number, logical_and, logical_or, logical_xor, or_first_number, or_number, xor_first_number, xor_number, add, add_first_number, add_first_number_half, add_half, add_number, add_number_half, add_number_to_pointer, add_pointer, subtract, subtract_half, subtract_number, subtract_number_half};
 
 /// Sums and differences, with two registers and with a short constant.
 pub fn sums_are_selected()
@@ -93,4 +95,39 @@ pub fn shifts_are_selected()
     ensures shift_left_half_by { (w : World) (flags : Flags) (k : ℕ) → k < 32 → IsSound 64 w (shift_left_half_by flags k) }
     ensures shift_right_half_by { (w : World) (flags : Flags) (k : ℕ) → k < 32 → IsSound 64 w (shift_right_half_by flags k) }
     ensures shift_right_signed_half_by { (w : World) (flags : Flags) (k : ℕ) → k < 32 → IsSound 64 w (shift_right_signed_half_by flags k) }
+{}
+
+/// Extensions on RV64, and copies of a low part.
+pub fn casts_are_selected()
+    ensures zero_extend { (w : World) (flags : Flags) → IsSound 64 w (zero_extend flags) }
+    ensures sign_extend { (w : World) (flags : Flags) → IsSound 64 w (sign_extend flags) }
+    ensures sign_extend_in_register { (w : World) (flags : Flags) → IsSound 64 w (sign_extend_in_register flags) }
+    ensures truncate { (x : ℕ) (w : World) (flags : Flags) (m n : ℕ) → n ≤ m → IsSound x w (truncate flags m n) }
+    ensures any_extend { (x : ℕ) (w : World) (flags : Flags) (m n : ℕ) → m ≤ n → IsSound x w (any_extend flags m n) }
+    ensures pointer_to_integer { (x : ℕ) (w : World) (flags : Flags) (m n : ℕ) → n ≤ m → IsSound x w (pointer_to_integer flags m n) }
+    ensures integer_to_pointer { (x : ℕ) (w : World) (flags : Flags) (m n : ℕ) → n ≤ m → IsSound x w (integer_to_pointer flags m n) }
+    ensures freeze { (x : ℕ) (w : World) (flags : Flags) (n : ℕ) → IsSound x w (freeze flags n) }
+{}
+
+/// Quotients and remainders.
+pub fn quotients_are_selected()
+    ensures divide_unsigned { (x : ℕ) (w : World) (flags : Flags) → IsSound x w (divide_unsigned x flags) }
+    ensures divide { (x : ℕ) (w : World) (flags : Flags) → IsSound x w (divide x flags) }
+    ensures remainder_unsigned { (x : ℕ) (w : World) (flags : Flags) → IsSound x w (remainder_unsigned x flags) }
+    ensures remainder { (x : ℕ) (w : World) (flags : Flags) → IsSound x w (remainder x flags) }
+    ensures divide_unsigned_half { (w : World) (flags : Flags) → IsSound 64 w (divide_unsigned_half flags) }
+    ensures divide_half { (w : World) (flags : Flags) → IsSound 64 w (divide_half flags) }
+    ensures remainder_unsigned_half { (w : World) (flags : Flags) → IsSound 64 w (remainder_unsigned_half flags) }
+    ensures remainder_half { (w : World) (flags : Flags) → IsSound 64 w (remainder_half flags) }
+{}
+
+/// A choice between two values, of a word or fewer bits.
+pub fn choices_are_selected()
+    ensures choose { (x : ℕ) (w : World) (n : ℕ) (flags : Flags) → n ≤ x → IsSound x w (choose x n flags) }
+{}
+
+/// Branches on a comparison and on a word.
+pub fn branches_are_selected()
+    ensures on_comparison { (x : ℕ) (w : World) (pred : Pred) → IsSelectedBranch x w pred (branch_of pred) }
+    ensures on_word { (x : ℕ) (w : World) → IsSelectedTest x w }
 {}

@@ -9,7 +9,8 @@ pub use constants::{Sequence, Step, materialise};
 pub use laws::sums_are_selected;
 pub use laws::{logic_is_selected, products_are_selected, sums_are_selected};
 pub use laws::{
-    comparisons_are_selected, logic_is_selected, products_are_selected, shifts_are_selected,
+    branches_are_selected, casts_are_selected, choices_are_selected, comparisons_are_selected,
+    logic_is_selected, products_are_selected, quotients_are_selected, shifts_are_selected,
     sums_are_selected,
 };
 
