@@ -1,24 +1,26 @@
--- Casts are selected.
-use Rattle.std.proofs.Common.{◌≡◌, ℕ, ◌+◌, ◌%◌, ◌^◌, ◌<◌, ◌≤◌, ◌==◌, Bool, true, false, cond, nat_lt, [], ◌∷◌, ◌++◌, Option, Some, None, refl, sym, ap, ◌∙◌, subst, arith, inl, pos}
+-- Casts, addresses of stack objects and values that are free are selected.
+use Rattle.std.proofs.Common.{◌≡◌, ℕ, ◌+◌, ◌%◌, ◌^◌, ◌<◌, ◌≤◌, ◌==◌, Bool, true, false, cond, nat_lt, [], ◌∷◌, ◌++◌, Some, refl, sym, ap, ◌∙◌, subst, arith, pos}
+use Rattle.std.proofs.lemmas.Nat.{pow_pos}
 use Rattle.std.proofs.lemmas.Bool.{true≢false, false≢true, le-ltb, eqb-true}
 use Rattle.std.proofs.lemmas.Bool.Decides.{nat_tests}
 use Rattle.std.proofs.Math.Nat.{mod-eq_of_lt}
-use Rattle.gi_llt.specs.Bits.{wrapped, sign_extended}
+use Rattle.gi_llt.specs.Bits.{unsigned, wrapped, sign_extended}
 use Rattle.gi_mir.specs.Stated.{no_flags}
 use Rattle.gi_mir.specs.declared.opcode.Opcode.{Opcode}
 use Rattle.gi_mir.specs.declared.opcode.Opcode.TheVariants as op
 use Rattle.gi_mir.specs.declared.operand.Flags.{Flags}
 use Rattle.gi_meaning.specs.Argument.{Value, Number}
-use Rattle.gi_meaning.specs.Given.{Given, LowBits, one, in_low_bits}
+use Rattle.gi_meaning.specs.Given.{free, Given, LowBits, one, in_low_bits}
 use Rattle.gi_meaning.specs.Generic.{unary, zero_extension, extension_in_register}
-use Rattle.gi_meaning.specs.Machine.{by_amount, on_immediate, on_low_half, on_rv64, left_word, right_word, sum_word}
+use Rattle.gi_meaning.specs.Machine.{add_immediate, by_amount, on_immediate, on_low_half, on_rv64, left_word, right_word, sum_word}
 use Rattle.gi_meaning.specs.Meaning.{Generic, meaning_of}
-use Rattle.gi_meaning.specs.State.{World, Outside}
-use Rattle.gi_meaning.specs.Act.{Answer, Results, Answers, copied}
-use Rattle.gi_refine.specs.Values.{Environment, At, Fixed, Operation, Acts, Makes, MayMake, Then, IsSound}
-use Rattle.gi_refine.proofs.RuleSteps.{SameGiven, Gives, GivesNone, same_given}
-use Rattle.gi_riscv.specs.SelectionRules.{cast, with_number, zero_extend, sign_extend, sign_extend_in_register, by_copy, truncate, any_extend, pointer_to_integer, integer_to_pointer, freeze}
-use Rattle.gi_riscv.proofs.MachineSteps.{MayGive, may_make, acts, OnNumber, on_word_and_number}
+use Rattle.gi_meaning.specs.State.{World}
+use Rattle.gi_meaning.specs.Act.{Answers, copied}
+use Rattle.gi_refine.specs.TrialRules.{on_one}
+use Rattle.gi_refine.specs.Values.{Environment, At, Fixed, Operation, Makes, IsSound}
+use Rattle.gi_refine.proofs.RuleSteps.{same_given}
+use Rattle.gi_riscv.specs.SelectionRules.{leave_free, no_operands, stack_address, address_and_zero, with_number, zero_extend, sign_extend, sign_extend_in_register, by_copy, truncate, any_extend, pointer_to_integer, integer_to_pointer, freeze}
+use Rattle.gi_riscv.proofs.MachineSteps.{same_made, MayGive, may_make, acts, OnNumber, on_word_and_number}
 use Rattle.gi_riscv.proofs.WordSteps.{number_step}
 
 -- ══ Extensions ══
@@ -78,23 +80,12 @@ sign_extend_in_register_sound w flags = record {
 
 -- ══ Copies ══
 
--- what the copy made, the cast may make where it may answer what the copy gives
-copy_made : (x : ℕ) (w : World) (outside : Outside) (old : Opcode) (flags : Flags) (m n a : ℕ) (given : Given) (made : Option Environment)
-    → ((answer : Answer) → Answers given outside answer → Acts x w (cast old flags n) outside ((m, a) ∷ []) answer) → SameGiven given outside n ((m, a) ∷ []) ((m, a) ∷ []) made
-    → MayMake x w outside (by_copy old flags m n) ((m, a) ∷ []) made
-copy_made x w outside old flags m n a given made act (Gives v is may) =
-    subst (MayMake x w outside (by_copy old flags m n) ((m, a) ∷ [])) (sym is)
-    (inl ((m, a) ∷ (n, v) ∷ [], (Results (v ∷ []) outside, act (Results (v ∷ []) outside) may, refl), (refl, tt)))
-copy_made x w outside old flags m n a given made act (GivesNone is answer may none) =
-    subst (MayMake x w outside (by_copy old flags m n) ((m, a) ∷ [])) (sym is)
-    (answer, act answer may, subst (λ e. Then e (Makes x w outside []) None) (sym none) refl)
-
 copy_sound : (x : ℕ) (w : World) (old : Opcode) (flags : Flags) (m n : ℕ) (gives : ℕ → ℕ → ℕ → Given) → meaning_of flags old ≡ Generic (unary gives)
     → ((a : ℕ) → a < 2 ^ m → gives m n a ≡ copied m n a) → IsSound x w (by_copy old flags m n)
 copy_sound x w old flags m n gives means same = record {
   by = λ outside a a_fits facts made makes.
       let env : Environment = (m, a) ∷ [] in
-      copy_made x w outside old flags m n a (copied m n a) made
+      same_made x w outside (m ∷ []) [] old flags (At 0 ∷ []) (on_one op.Copy n 0 ∷ []) 1 n env (copied m n a) made
       (λ answer may. acts x w outside old flags (At 0 ∷ []) n env (unary gives) (Value m a ∷ []) answer means refl (subst (λ g. Answers g outside answer) (sym (same a a_fits)) may))
       (same_given (copied m n a) outside n env env makes.0 made makes.1 makes.2);
 }
@@ -143,3 +134,24 @@ integer_to_pointer_sound x w flags m n within = copy_sound x w op.GenericInteger
 
 pub freeze_sound : (x : ℕ) (w : World) (flags : Flags) (n : ℕ) → IsSound x w (freeze flags n)
 freeze_sound x w flags n = copy_sound x w op.GenericFreeze flags n n (λ m n a. one a) refl (λ a fits. copied_whole n a fits)
+
+-- ══ A value that is free, and the address of a stack object ══
+
+pub leave_free_sound : (x : ℕ) (w : World) (n : ℕ) (flags : Flags) → IsSound x w (leave_free n flags)
+leave_free_sound x w n flags = record {
+  by = λ outside facts made makes.
+      same_made x w outside [] [] op.GenericImplicitDef flags [] (no_operands op.ImplicitDef no_flags n ∷ []) 0 n [] (free n) made (λ answer may. may)
+      (same_given (free n) outside n [] [] makes.0 made makes.1 makes.2);
+}
+
+with_zero_added : (x a : ℕ) → a < 2 ^ x → wrapped x (a + unsigned x (pos 0)) ≡ a
+with_zero_added x a fits = let z : 0 % 2 ^ x ≡ 0 = mod-eq_of_lt (pow_pos x) in ap (wrapped x) (omega (arith, z)) ∙ mod-eq_of_lt fits
+
+pub stack_address_sound : (x : ℕ) (w : World) (flags : Flags) (address : ℕ) → address < 2 ^ x → IsSound x w (stack_address x flags address)
+stack_address_sound x w flags address fits = record {
+  by = λ outside facts made makes.
+      let r : ℕ = wrapped x (address + unsigned x (pos 0)) in
+      may_make x w outside [] [] op.GenericFrameIndex flags (Fixed (Value x address) ∷ []) (address_and_zero x address ∷ []) 0 0 x r [] ((x, r) ∷ [])
+      (unary (λ m n a. one a)) (Value x address ∷ []) made refl refl refl (ap (λ v. v ∷ []) (with_zero_added x address fits))
+      (number_step x w outside (meaning_of no_flags op.AddImmediate) add_immediate (λ u. sum_word x u (unsigned x (pos 0))) address (pos 0) [] (Makes x w outside []) made makes.0 refl (λ width word. refl) makes.1 makes.2);
+}

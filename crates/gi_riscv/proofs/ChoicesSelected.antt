@@ -3,7 +3,6 @@ use Rattle.std.proofs.Common.{◌≡◌, ℕ, ◌-◌, ◌%◌, ◌^◌, ◌<◌
 use Rattle.std.specs.Prelude.{bit_and, bit_xor}
 use Rattle.std.specs.Int.Bits.{xor_self, xor_assoc, xor_zero_l, xor_zero_r, and_zero_r}
 use Rattle.std.proofs.lemmas.Nat.{pow_pos, and_mask, and_mod, xor_mod, xor_lt, xor_comm}
-use Rattle.std.proofs.lemmas.Bool.Decides.{nat_tests}
 use Rattle.std.proofs.Math.Nat.{mod-eq_of_lt}
 use Rattle.gi_llt.specs.Bits.{wrapped, unsigned}
 use Rattle.gi_mir.specs.Stated.{no_flags}
@@ -20,7 +19,9 @@ use Rattle.gi_meaning.proofs.Numbers.{unsigned_below}
 use Rattle.gi_refine.specs.Values.{Environment, At, Operation, Makes, Then, answered, IsSound}
 use Rattle.gi_refine.specs.TrialRules.{on_two}
 use Rattle.gi_riscv.specs.SelectionRules.{with_zero, choose}
-use Rattle.gi_riscv.proofs.MachineSteps.{may_make, OnTwo, on_two_words, whole_read, IsReadAs, KeepsLow, low_is, low_reads, unsigned_low}
+use Rattle.gi_riscv.proofs.ComparisonsSelected.{is_above}
+use Rattle.gi_riscv.proofs.LowBits.{KeepsLow, low_is, low_reads, unsigned_low}
+use Rattle.gi_riscv.proofs.MachineSteps.{may_make, OnTwo, on_two_words, whole_read, IsReadAs}
 use Rattle.gi_riscv.proofs.WordSteps.{word_step}
 
 -- ══ Bits ══
@@ -50,9 +51,6 @@ chosen_otherwise true true a b is = cc
 chosen_otherwise true false a b is = refl
 chosen_otherwise false true a b is = refl
 chosen_otherwise false false a b is = cc
-
-is_above : (m : ℕ) → nat_lt 0 m ≡ not (m == 0)
-is_above m = grind (arith, nat_tests)
 
 -- ══ Steps ══
 

@@ -55,7 +55,7 @@ xor_of_same a b same = ap (λ m. bit_xor m b) same ∙ xor_self b
 is_zero : (m : ℕ) → nat_lt m 1 ≡ (m == 0)
 is_zero m = grind (arith, nat_tests)
 
-is_above : (m : ℕ) → nat_lt 0 m ≡ not (m == 0)
+pub is_above : (m : ℕ) → nat_lt 0 m ≡ not (m == 0)
 is_above m = grind (arith, nat_tests)
 
 xor_is_zero : (a b : ℕ) → (bit_xor a b == 0) ≡ (a == b)

@@ -6,12 +6,14 @@ pub mod Rounds
 pub mod Words
 pub mod BranchesSelected
 pub mod CastsSelected
+pub mod ChoicesSelected
 pub mod ComparisonsSelected
 pub mod LogicSelected
+pub mod LowBits
 pub mod MachineSteps
+pub mod OneInstruction
 pub mod ProductsSelected
 pub mod QuotientsSelected
-pub mod ChoicesSelected
 pub mod ShiftsSelected
 pub mod SumsSelected
 pub mod WordSteps

@@ -15,7 +15,9 @@ use Rattle.gi_meaning.specs.State.{World}
 use Rattle.gi_meaning.proofs.Numbers.{unsigned_below}
 use Rattle.gi_refine.specs.Values.{IsSound}
 use Rattle.gi_riscv.specs.SelectionRules.{by_number, by_first_number, logical_and, logical_or, logical_xor, and_number, or_number, xor_number, and_first_number, or_first_number, xor_first_number}
-use Rattle.gi_riscv.proofs.MachineSteps.{NumbersLaw, MayGive, may_unless, registers_sound, immediate_sound, first_immediate_sound, KeepsLow, low_may, number_reads}
+use Rattle.gi_riscv.proofs.LowBits.{KeepsLow, low_may, number_reads}
+use Rattle.gi_riscv.proofs.MachineSteps.{MayGive, may_unless}
+use Rattle.gi_riscv.proofs.OneInstruction.{NumbersLaw, registers_sound, immediate_sound, first_immediate_sound}
 
 -- ══ Numbers ══
 

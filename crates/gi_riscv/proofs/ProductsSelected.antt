@@ -10,7 +10,8 @@ use Rattle.gi_meaning.specs.Machine.{product_word, on_low_half}
 use Rattle.gi_meaning.specs.State.{World}
 use Rattle.gi_refine.specs.Values.{IsSound}
 use Rattle.gi_riscv.specs.SelectionRules.{multiply, multiply_half, multiply_high_unsigned, multiply_high}
-use Rattle.gi_riscv.proofs.MachineSteps.{NumbersLaw, NumbersFit, may_unless, registers_sound, whole_law, half_law}
+use Rattle.gi_riscv.proofs.MachineSteps.{may_unless}
+use Rattle.gi_riscv.proofs.OneInstruction.{NumbersLaw, NumbersFit, registers_sound, whole_law, half_law}
 
 product_fits : (n : ℕ) → NumbersFit n product_word
 product_fits n a b a_fits b_fits = mod_below (a * b) (2 ^ n) (pow_pos n)

@@ -13,7 +13,8 @@ use Rattle.gi_meaning.specs.State.{World}
 use Rattle.gi_meaning.proofs.Numbers.{unsigned_below}
 use Rattle.gi_refine.specs.Values.{IsSound}
 use Rattle.gi_riscv.specs.SelectionRules.{divide_unsigned, divide, remainder_unsigned, remainder, divide_unsigned_half, divide_half, remainder_unsigned_half, remainder_half}
-use Rattle.gi_riscv.proofs.MachineSteps.{NumbersLaw, NumbersFit, MayGive, may_unless, registers_sound, whole_law, half_law}
+use Rattle.gi_riscv.proofs.MachineSteps.{MayGive, may_unless}
+use Rattle.gi_riscv.proofs.OneInstruction.{NumbersLaw, NumbersFit, registers_sound, whole_law, half_law}
 
 -- ══ Numbers ══
 

@@ -17,7 +17,8 @@ use Rattle.gi_meaning.specs.State.{World}
 use Rattle.gi_refine.specs.Values.{IsSound}
 use Rattle.gi_refine.proofs.RuleSteps.{unless_given}
 use Rattle.gi_riscv.specs.SelectionRules.{by_number, shift_left, shift_right, shift_right_signed, shift_left_half, shift_right_half, shift_right_signed_half, shift_left_by, shift_right_by, shift_right_signed_by, shift_left_half_by, shift_right_half_by, shift_right_signed_half_by}
-use Rattle.gi_riscv.proofs.MachineSteps.{NumbersLaw, NumbersFit, MayGive, may_unless, registers_sound, number_sound, whole_law, half_law, whole_number_law, half_number_law, if_true}
+use Rattle.gi_riscv.proofs.MachineSteps.{MayGive, may_unless}
+use Rattle.gi_riscv.proofs.OneInstruction.{NumbersLaw, NumbersFit, registers_sound, number_sound, whole_law, half_law, whole_number_law, half_number_law, if_true}
 
 -- ══ Numbers ══
 

@@ -14,7 +14,9 @@ use Rattle.gi_meaning.specs.State.{World}
 use Rattle.gi_meaning.proofs.Numbers.{unsigned_below, mod-step}
 use Rattle.gi_refine.specs.Values.{IsSound}
 use Rattle.gi_riscv.specs.SelectionRules.{add, add_pointer, subtract, add_half, subtract_half, add_number, add_first_number, add_number_to_pointer, add_number_half, add_first_number_half, subtract_number, subtract_number_half}
-use Rattle.gi_riscv.proofs.MachineSteps.{unsigned_low, NumbersLaw, NumbersFit, MayGive, may_unless, registers_sound, number_sound, first_number_sound, whole_law, half_law, whole_number_law, half_number_law, whole_may, half_may, if_true}
+use Rattle.gi_riscv.proofs.LowBits.{unsigned_low}
+use Rattle.gi_riscv.proofs.MachineSteps.{MayGive, may_unless}
+use Rattle.gi_riscv.proofs.OneInstruction.{NumbersLaw, NumbersFit, registers_sound, number_sound, first_number_sound, whole_law, half_law, whole_number_law, half_number_law, whole_may, half_may, if_true}
 
 -- ══ Numbers ══
 

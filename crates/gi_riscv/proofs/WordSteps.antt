@@ -9,7 +9,8 @@ use Rattle.gi_meaning.specs.State.{World, Outside}
 use Rattle.gi_meaning.specs.Act.{Answer, Act}
 use Rattle.gi_refine.specs.Values.{Environment, Then, answered}
 use Rattle.gi_refine.proofs.RuleSteps.{whole_fitted}
-use Rattle.gi_riscv.proofs.MachineSteps.{OnTwo, on_two_words, OnNumber, on_word_and_number, whole_read, if_true}
+use Rattle.gi_riscv.proofs.MachineSteps.{OnTwo, on_two_words, OnNumber, on_word_and_number, whole_read}
+use Rattle.gi_riscv.proofs.OneInstruction.{if_true}
 
 -- on two words
 pub word_step : (x : ℕ) (w : World) (outside : Outside) (meaning : Meaning) (f : ℕ → ℕ → ℕ → ℕ) (a b : ℕ) (env : Environment) (rest : Environment → Option Environment → Type 0) (made : Option Environment) (answer : Answer)

@@ -266,6 +266,30 @@ integer_to_pointer flags m n = by_copy op.GenericIntegerToPointer flags m n
 abbrev pub freeze : Flags → (n : ℕ) → Rule
 freeze flags n = by_copy op.GenericFreeze flags n n
 
+-- ══ A value that is free, and the address of a stack object ══
+
+abbrev pub no_operands : Opcode → Flags → (n : ℕ) → Operation
+no_operands op flags n = record { op = op; flags = flags; slots = []; mem = None; widths = n ∷ [] }
+
+abbrev pub leave_free : (n : ℕ) → Flags → Rule
+leave_free n flags = selected [] [] (no_operands op.GenericImplicitDef flags n) (no_operands op.ImplicitDef no_flags n ∷ [])
+
+-- an address that the world gives, and zero
+abbrev pub address_and_zero : (x address : ℕ) → Operation
+address_and_zero x address = record {
+  op = op.AddImmediate;
+  flags = no_flags;
+  slots = Fixed (Value x address) ∷ Fixed (Number (pos 0)) ∷ [];
+  mem = None;
+  widths = x ∷ [];
+}
+
+abbrev pub stack_address : (x : ℕ) → Flags → (address : ℕ) → Rule
+stack_address x flags address =
+    selected [] []
+    (record { op = op.GenericFrameIndex; flags = flags; slots = Fixed (Value x address) ∷ []; mem = None; widths = x ∷ [] })
+    (address_and_zero x address ∷ [])
+
 -- ══ Quotients and remainders: the generic ones are undefined where the instruction's result is another ══
 
 abbrev pub divide_unsigned : (x : ℕ) → Flags → Rule

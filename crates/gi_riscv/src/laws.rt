@@ -16,14 +16,14 @@ pub fn address_is_made()
 =======
 //! For each row of selection: what the instructions make of values, the generic operation may make, whatever its flags.
 
-ghost use Rattle.std.specs.Prelude.{◌≡◌, ◌<◌, ◌≤◌, ℕ, true, ℤ};
+ghost use Rattle.std.specs.Prelude.{◌≡◌, ◌<◌, ◌≤◌, ◌^◌, ℕ, true, ℤ};
 ghost use Rattle.gi_mir.specs.declared.operand.Flags.{Flags};
 ghost use Rattle.gi_mir.specs.declared.operand.Pred.{Pred};
 ghost use Rattle.gi_meaning.specs.Machine.{is_immediate};
 ghost use Rattle.gi_meaning.specs.State.{World};
 ghost use Rattle.gi_refine.specs.Values.{IsSound};
 ghost use Rattle.gi_riscv.specs.SelectedBranches.{IsSelectedBranch, IsSelectedTest, branch_of};
-ghost use Rattle.gi_riscv.specs.SelectionRules.{choose, zero_extend, sign_extend, sign_extend_in_register, truncate, any_extend, pointer_to_integer, integer_to_pointer, freeze, divide_unsigned, divide, remainder_unsigned, remainder, divide_unsigned_half, divide_half, remainder_unsigned_half, remainder_half, shift_left, shift_right, shift_right_signed, shift_left_half, shift_right_half, shift_right_signed_half, shift_left_by, shift_right_by, shift_right_signed_by, shift_left_half_by, shift_right_half_by, shift_right_signed_half_by, compare_ult, compare_ugt, compare_slt, compare_sgt, compare_uge, compare_ule, compare_sge, compare_sle, compare_eq, compare_ne, compare_eq_zero, compare_ne_zero, compare_ult_number, compare_slt_number, multiply, multiply_half, multiply_high, multiply_high_unsigned, and_first_number, and_number, logical_and, logical_or, logical_xor, or_first_number, or_number, xor_first_number, xor_number, add, add_first_number, add_first_number_half, add_half, add_number, add_number_half, add_number_to_pointer, add_pointer, subtract, subtract_half, subtract_number, subtract_number_half};
+ghost use Rattle.gi_riscv.specs.SelectionRules.{leave_free, stack_address, choose, zero_extend, sign_extend, sign_extend_in_register, truncate, any_extend, pointer_to_integer, integer_to_pointer, freeze, divide_unsigned, divide, remainder_unsigned, remainder, divide_unsigned_half, divide_half, remainder_unsigned_half, remainder_half, shift_left, shift_right, shift_right_signed, shift_left_half, shift_right_half, shift_right_signed_half, shift_left_by, shift_right_by, shift_right_signed_by, shift_left_half_by, shift_right_half_by, shift_right_signed_half_by, compare_ult, compare_ugt, compare_slt, compare_sgt, compare_uge, compare_ule, compare_sge, compare_sle, compare_eq, compare_ne, compare_eq_zero, compare_ne_zero, compare_ult_number, compare_slt_number, multiply, multiply_half, multiply_high, multiply_high_unsigned, and_first_number, and_number, logical_and, logical_or, logical_xor, or_first_number, or_number, xor_first_number, xor_number, add, add_first_number, add_first_number_half, add_half, add_number, add_number_half, add_number_to_pointer, add_pointer, subtract, subtract_half, subtract_number, subtract_number_half};
 
 /// Sums and differences, with two registers and with a short constant.
 pub fn sums_are_selected()
@@ -107,6 +107,12 @@ pub fn casts_are_selected()
     ensures pointer_to_integer { (x : ℕ) (w : World) (flags : Flags) (m n : ℕ) → n ≤ m → IsSound x w (pointer_to_integer flags m n) }
     ensures integer_to_pointer { (x : ℕ) (w : World) (flags : Flags) (m n : ℕ) → n ≤ m → IsSound x w (integer_to_pointer flags m n) }
     ensures freeze { (x : ℕ) (w : World) (flags : Flags) (n : ℕ) → IsSound x w (freeze flags n) }
+{}
+
+/// A value that is free, and the address of a stack object.
+pub fn places_are_selected()
+    ensures leave_free { (x : ℕ) (w : World) (n : ℕ) (flags : Flags) → IsSound x w (leave_free n flags) }
+    ensures stack_address { (x : ℕ) (w : World) (flags : Flags) (address : ℕ) → address < 2 ^ x → IsSound x w (stack_address x flags address) }
 {}
 
 /// Quotients and remainders.
