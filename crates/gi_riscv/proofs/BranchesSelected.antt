@@ -11,7 +11,7 @@ use Rattle.gi_meaning.specs.Meaning.{MachineBranching, Generic}
 use Rattle.gi_meaning.specs.State.{World, Outside}
 use Rattle.gi_meaning.specs.Act.{Answer, Results, Leaves, Act, IsWordOf, AllReadAs, machine_branch, branch}
 use Rattle.gi_refine.proofs.RuleSteps.{whole_word, not_below_itself}
-use Rattle.gi_riscv.specs.SelectedBranches.{branch_of, HaveSameAnswers, IsSelectedBranch, IsSelectedTest}
+use Rattle.gi_riscv.specs.SelectedBranches.{branch_of, HaveSameAnswers, IsSelectedBranch, IsSelectedJump, IsSelectedTest}
 
 -- ══ What a machine's branch answers ══
 
@@ -94,3 +94,6 @@ leaves_otherwise false block outside = refl
 
 pub on_word : (x : ℕ) (w : World) → IsSelectedTest x w
 on_word x w = record { by = λ outside flags c block. both_leave x w (λ x a b. not (a == b)) c 0 x c block outside (leaves_otherwise (c == 0) block outside) }
+
+pub always : (x : ℕ) (w : World) → IsSelectedJump x w
+always x w = record { by = λ outside flags block answer. (λ act. act, λ act. act) }

@@ -55,3 +55,8 @@ pub record IsSelectedTest (x : ℕ) (w : World) : Type 0 where
       → HaveSameAnswers
       (Act x w (meaning_of flags op.GenericBranchConditional) None [] (Value x c ∷ To block ∷ []) outside)
       (Act x w (meaning_of no_flags op.BranchNotEqual) None [] (Value x c ∷ Value x 0 ∷ To block ∷ []) outside)
+
+-- a branch that is always taken
+pub record IsSelectedJump (x : ℕ) (w : World) : Type 0 where
+  pub by : (outside : Outside) (flags : Flags) (block : ℕ)
+      → HaveSameAnswers (Act x w (meaning_of flags op.GenericBranch) None [] (To block ∷ []) outside) (Act x w (meaning_of no_flags op.PseudoBranch) None [] (To block ∷ []) outside)
