@@ -8,6 +8,7 @@ pub mod BranchesSelected
 pub mod CastsSelected
 pub mod ChoicesSelected
 pub mod ComparisonsSelected
+pub mod FunctionsSelected
 pub mod LogicSelected
 pub mod LowBits
 pub mod MachineSteps

@@ -11,7 +11,7 @@ pub use laws::{logic_is_selected, products_are_selected, sums_are_selected};
 pub use laws::{
     branches_are_selected, casts_are_selected, choices_are_selected, comparisons_are_selected,
     logic_is_selected, places_are_selected, products_are_selected, quotients_are_selected,
-    shifts_are_selected, sums_are_selected,
+    selection_in_functions_refines, shifts_are_selected, sums_are_selected,
 };
 
 #[cfg(test)]
