@@ -1,5 +1,5 @@
 use Rattle.gi_riscv.proofs.QuotientsSelected.{divide_unsigned_sound, divide_sound, remainder_unsigned_sound, remainder_sound, divide_unsigned_half_sound, divide_half_sound, remainder_unsigned_half_sound, remainder_half_sound}
-use Rattle.gi_riscv.proofs.laws.quotients_are_selected.Goals as goal
+use Rattle.gi_riscv.proofs.selection.quotients_are_selected.Goals as goal
 
 pub returns : goal.returns
 returns c = record {

@@ -1,5 +1,5 @@
 use Rattle.gi_riscv.proofs.ComparisonsSelected.{compare_ult_sound, compare_ugt_sound, compare_slt_sound, compare_sgt_sound, compare_uge_sound, compare_ule_sound, compare_sge_sound, compare_sle_sound, compare_eq_sound, compare_ne_sound, compare_eq_zero_sound, compare_ne_zero_sound, compare_ult_number_sound, compare_slt_number_sound}
-use Rattle.gi_riscv.proofs.laws.comparisons_are_selected.Goals as goal
+use Rattle.gi_riscv.proofs.selection.comparisons_are_selected.Goals as goal
 
 pub returns : goal.returns
 returns c = record {

@@ -1,5 +1,5 @@
 use Rattle.gi_riscv.proofs.SumsSelected.{add_sound, add_pointer_sound, subtract_sound, add_half_sound, subtract_half_sound, add_number_sound, add_first_number_sound, add_number_to_pointer_sound, add_number_half_sound, add_first_number_half_sound, subtract_number_sound, subtract_number_half_sound}
-use Rattle.gi_riscv.proofs.laws.sums_are_selected.Goals as goal
+use Rattle.gi_riscv.proofs.selection.sums_are_selected.Goals as goal
 
 pub returns : goal.returns
 returns c = record {

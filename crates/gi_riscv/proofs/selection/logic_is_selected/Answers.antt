@@ -1,5 +1,5 @@
 use Rattle.gi_riscv.proofs.LogicSelected.{logical_and_sound, logical_or_sound, logical_xor_sound, and_number_sound, and_first_number_sound, or_number_sound, or_first_number_sound, xor_number_sound, xor_first_number_sound}
-use Rattle.gi_riscv.proofs.laws.logic_is_selected.Goals as goal
+use Rattle.gi_riscv.proofs.selection.logic_is_selected.Goals as goal
 
 pub returns : goal.returns
 returns c = record {

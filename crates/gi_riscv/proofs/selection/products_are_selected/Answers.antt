@@ -1,5 +1,5 @@
 use Rattle.gi_riscv.proofs.ProductsSelected.{multiply_sound, multiply_half_sound, multiply_high_unsigned_sound, multiply_high_sound}
-use Rattle.gi_riscv.proofs.laws.products_are_selected.Goals as goal
+use Rattle.gi_riscv.proofs.selection.products_are_selected.Goals as goal
 
 pub returns : goal.returns
 returns c = record {

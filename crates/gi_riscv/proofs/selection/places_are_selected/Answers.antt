@@ -1,5 +1,5 @@
 use Rattle.gi_riscv.proofs.CastsSelected.{leave_free_sound, stack_address_sound}
-use Rattle.gi_riscv.proofs.laws.places_are_selected.Goals as goal
+use Rattle.gi_riscv.proofs.selection.places_are_selected.Goals as goal
 
 pub returns : goal.returns
 returns c = record {
