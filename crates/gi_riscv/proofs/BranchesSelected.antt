@@ -10,7 +10,8 @@ use Rattle.gi_meaning.specs.Generic.{bit_of, holds, comparison}
 use Rattle.gi_meaning.specs.Meaning.{MachineBranching, Generic}
 use Rattle.gi_meaning.specs.State.{World, Outside}
 use Rattle.gi_meaning.specs.Act.{Answer, Results, Leaves, Act, IsWordOf, AllReadAs, machine_branch, branch}
-use Rattle.gi_refine.proofs.RuleSteps.{whole_word, not_below_itself}
+use Rattle.gi_refine.proofs.Basics.{not_below_itself}
+use Rattle.gi_refine.proofs.RuleSteps.{whole_word}
 use Rattle.gi_riscv.specs.SelectedBranches.{branch_of, HaveSameAnswers, IsSelectedBranch, IsSelectedJump, IsSelectedTest}
 
 -- ══ What a machine's branch answers ══

@@ -27,7 +27,7 @@ shift_tested = record {
     seen = refl;
     covered = covered_by (only_virtual (λ r. false)) (only_virtual (λ r. false)) (shift_left_half_by no_flags 3) shift_placed refl (λ p h. h);
   };
-  data_of = block_of [] (half_and_three ++ (generic_shift ++ half_returned));
+  block_data = block_of [] (half_and_three ++ (generic_shift ++ half_returned));
   back = generic_shift ++ half_returned;
   here = refl;
   splits = refl;

@@ -9,7 +9,8 @@ use Rattle.gi_meaning.specs.Meaning.{Generic, Machine, meaning_of}
 use Rattle.gi_meaning.specs.State.{World, Outside}
 use Rattle.gi_meaning.specs.Act.{Answer, Results, Breaks, Act, Answers, AnswersWords, fitted, IsWordOf}
 use Rattle.gi_refine.specs.Values.{Environment, Slot, Operation, Fact, Rule, Acts, ActsFrom, Makes, MayMake, Then, answered, arguments_at}
-use Rattle.gi_refine.proofs.RuleSteps.{SameGiven, Gives, GivesNone, answers_given, unless_given, not_below_itself, words_exactly}
+use Rattle.gi_refine.proofs.Basics.{not_below_itself}
+use Rattle.gi_refine.proofs.RuleSteps.{SameGiven, Gives, GivesNone, answers_given, unless_given, words_exactly}
 
 -- ══ What the old operation may give ══
 

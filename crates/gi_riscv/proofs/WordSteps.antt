@@ -8,7 +8,7 @@ use Rattle.gi_meaning.specs.Meaning.{Meaning, Machine}
 use Rattle.gi_meaning.specs.State.{World, Outside}
 use Rattle.gi_meaning.specs.Act.{Answer, Act}
 use Rattle.gi_refine.specs.Values.{Environment, Then, answered}
-use Rattle.gi_refine.proofs.RuleSteps.{whole_fitted}
+use Rattle.gi_refine.proofs.Basics.{whole_fitted}
 use Rattle.gi_riscv.proofs.MachineSteps.{OnTwo, on_two_words, OnNumber, on_word_and_number, whole_read}
 use Rattle.gi_riscv.proofs.OneInstruction.{if_true}
 

@@ -7,20 +7,19 @@ use Rattle.gi_mir.specs.declared.opcode.Opcode.TheVariants as op
 use Rattle.gi_mir.specs.declared.operand.Kind.{Kind}
 use Rattle.gi_mir.specs.declared.operand.Kind.TheVariants.{Generic}
 use Rattle.gi_mir.specs.declared.operand.Operand.TheVariants.{Def, Int}
-use Rattle.gi_refine.specs.Examples.{made, s32, use_of, copy_in, copy_out, return_of}
+use Rattle.gi_refine.specs.Examples.{made, one_block, of_one, of_two, constant_in, s32, use_of, copy_in, copy_out, return_of}
 use Rattle.gi_refine.specs.Lifting.{Placing}
-use Rattle.gi_refine.specs.TrialFunctions.{of_two, constant_in, straight}
 
 abbrev s64 : Kind
 s64 = Generic (Scalar 64)
 
 -- `%0 = COPY $x10`, `%1 = G_TRUNC %0`, `%2 = G_CONSTANT i32 3`
 abbrev pub half_and_three : List (ℕ × InstrData)
-half_and_three = copy_in 0 10 s64 ∷ made op.GenericTruncate (Def (reg_of 1) s32 ∷ use_of 0 ∷ []) None ∷ constant_in 2 32 3 s32 ∷ []
+half_and_three = copy_in 0 10 s64 ∷ of_one op.GenericTruncate 1 s32 0 ∷ constant_in 2 32 3 s32 ∷ []
 
 -- `%4 = G_ANYEXT %3`, `$x10 = COPY %4`
 abbrev pub half_returned : List (ℕ × InstrData)
-half_returned = made op.GenericAnyExtend (Def (reg_of 4) s64 ∷ use_of 3 ∷ []) None ∷ copy_out 10 4 ∷ return_of 10 ∷ []
+half_returned = of_one op.GenericAnyExtend 4 s64 3 ∷ copy_out 10 4 ∷ return_of 10 ∷ []
 
 -- `%3 = G_SHL %1, %2`
 abbrev pub generic_shift : List (ℕ × InstrData)
@@ -31,7 +30,7 @@ abbrev pub word_shift : List (ℕ × InstrData)
 word_shift = made op.ShiftLeftLogicalImmediateWord (Def (reg_of 3) s32 ∷ use_of 1 ∷ Int (pos 3) ∷ []) None ∷ []
 
 abbrev pub on_half : List (ℕ × InstrData) → FunctionData
-on_half is = straight (half_and_three ++ (is ++ half_returned))
+on_half is = one_block (half_and_three ++ (is ++ half_returned))
 
 abbrev pub shift_placed : Placing
 shift_placed = record { inputs = 1 ∷ 2 ∷ []; old = (3 ∷ []) ∷ []; new = (3 ∷ []) ∷ [] }

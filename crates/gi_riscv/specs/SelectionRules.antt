@@ -10,7 +10,9 @@ use Rattle.gi_mir.specs.declared.opcode.Opcode.TheVariants as op
 use Rattle.gi_mir.specs.declared.operand.Flags.{Flags}
 use Rattle.gi_mir.specs.declared.operand.Pred.{Pred}
 use Rattle.gi_mir.specs.declared.operand.Pred.TheVariants.{Eq, Ne, Ugt, Uge, Ult, Ule, Sgt, Sge, Slt, Sle}
-use Rattle.gi_meaning.specs.Argument.{Value, Number, Test}
+use Rattle.gi_mir.specs.declared.operand.SymbolFlag.{SymbolFlag}
+use Rattle.gi_mir.specs.declared.operand.SymbolFlag.TheVariants.{Hi, Lo}
+use Rattle.gi_meaning.specs.Argument.{Value, Number, Symbol, Test}
 use Rattle.gi_refine.specs.Values.{At, Fixed, Operation, Fact, Defines, Rule}
 use Rattle.gi_refine.specs.TrialRules.{constant, on_one, on_two}
 
@@ -324,3 +326,12 @@ choose x n flags =
     (record { op = op.GenericSelect; flags = flags; slots = At 0 ∷ At 1 ∷ At 2 ∷ []; mem = None; widths = n ∷ [] })
     (with_zero op.SetLessUnsigned x 0 ∷ with_zero op.Subtract x 3
     ∷ on_two op.Xor no_flags n 1 2 ∷ on_two op.And no_flags n 5 4 ∷ on_two op.Xor no_flags n 2 6 ∷ [])
+
+-- ══ The address of a global: its upper part, and the rest added ══
+
+abbrev pub global_address : (x : ℕ) → Flags → SymbolFlag → (name : List ℕ) → (address : ℕ) → Rule
+global_address x flags flag name address =
+    selected [] []
+    (record { op = op.GenericGlobalValue; flags = flags; slots = Fixed (Symbol flag name address) ∷ []; mem = None; widths = x ∷ [] })
+    (record { op = op.LoadUpperImmediate; flags = no_flags; slots = Fixed (Symbol Hi name address) ∷ []; mem = None; widths = x ∷ [] }
+    ∷ record { op = op.AddImmediate; flags = no_flags; slots = At 0 ∷ Fixed (Symbol Lo name address) ∷ []; mem = None; widths = x ∷ [] } ∷ [])

@@ -1,32 +1,17 @@
-<<<<<<< HEAD
-//! Laws about addresses.
-
-ghost use Rattle.std.specs.Prelude.{◌≡◌, ◌⊎◌, ℕ, List};
-ghost use Rattle.gi_mir.specs.declared.operand.Flags.{Flags};
-ghost use Rattle.gi_meaning.specs.State.{World, IsWorld};
-ghost use Rattle.gi_riscv.specs.Addresses.{IsReached, AddressIsMade};
-
-/// `LUI` of the high part of a symbol's address and `ADDI` of its low part make the address, where they reach it;
-/// and so they do for each global of a world.
-pub fn address_is_made()
-    ensures address { (flags : Flags) (x : ℕ) (name : List ℕ) (address : ℕ) → (x ≡ 32) ⊎ (x ≡ 64)
-        → IsReached x address → AddressIsMade flags x name address }
-    ensures global { (flags : Flags) (x : ℕ) (name : List ℕ) (world : World) → (x ≡ 32) ⊎ (x ≡ 64)
-        → IsWorld x world → AddressIsMade flags x name (world.global name) }
-=======
 //! For each row of selection: what the instructions make of values, the generic operation may make, whatever its flags.
 
-ghost use Rattle.std.specs.Prelude.{◌≡◌, ◌<◌, ◌≤◌, ◌^◌, ℕ, true, ℤ};
+ghost use Rattle.std.specs.Prelude.{◌⊎◌, List, ◌≡◌, ◌<◌, ◌≤◌, ◌^◌, ℕ, true, ℤ};
 ghost use Rattle.gi_mir.specs.declared.operand.Flags.{Flags};
 ghost use Rattle.gi_mir.specs.declared.operand.Pred.{Pred};
+ghost use Rattle.gi_mir.specs.declared.operand.SymbolFlag.{SymbolFlag};
 ghost use Rattle.gi_meaning.specs.Machine.{is_immediate};
-ghost use Rattle.gi_meaning.specs.State.{World};
+ghost use Rattle.gi_meaning.specs.State.{IsWorld, World};
 ghost use Rattle.gi_refine.specs.Examples.{names};
 ghost use Rattle.gi_refine.specs.Refinement.{IsRefinement};
 ghost use Rattle.gi_refine.specs.Values.{IsSound};
 ghost use Rattle.gi_riscv.specs.SelectedBranches.{IsSelectedBranch, IsSelectedJump, IsSelectedTest, branch_of};
 ghost use Rattle.gi_riscv.specs.SelectedFunctions.{generic_shift, on_half, word_shift};
-ghost use Rattle.gi_riscv.specs.SelectionRules.{leave_free, stack_address, choose, zero_extend, sign_extend, sign_extend_in_register, truncate, any_extend, pointer_to_integer, integer_to_pointer, freeze, divide_unsigned, divide, remainder_unsigned, remainder, divide_unsigned_half, divide_half, remainder_unsigned_half, remainder_half, shift_left, shift_right, shift_right_signed, shift_left_half, shift_right_half, shift_right_signed_half, shift_left_by, shift_right_by, shift_right_signed_by, shift_left_half_by, shift_right_half_by, shift_right_signed_half_by, compare_ult, compare_ugt, compare_slt, compare_sgt, compare_uge, compare_ule, compare_sge, compare_sle, compare_eq, compare_ne, compare_eq_zero, compare_ne_zero, compare_ult_number, compare_slt_number, multiply, multiply_half, multiply_high, multiply_high_unsigned, and_first_number, and_number, logical_and, logical_or, logical_xor, or_first_number, or_number, xor_first_number, xor_number, add, add_first_number, add_first_number_half, add_half, add_number, add_number_half, add_number_to_pointer, add_pointer, subtract, subtract_half, subtract_number, subtract_number_half};
+ghost use Rattle.gi_riscv.specs.SelectionRules.{global_address, leave_free, stack_address, choose, zero_extend, sign_extend, sign_extend_in_register, truncate, any_extend, pointer_to_integer, integer_to_pointer, freeze, divide_unsigned, divide, remainder_unsigned, remainder, divide_unsigned_half, divide_half, remainder_unsigned_half, remainder_half, shift_left, shift_right, shift_right_signed, shift_left_half, shift_right_half, shift_right_signed_half, shift_left_by, shift_right_by, shift_right_signed_by, shift_left_half_by, shift_right_half_by, shift_right_signed_half_by, compare_ult, compare_ugt, compare_slt, compare_sgt, compare_uge, compare_ule, compare_sge, compare_sle, compare_eq, compare_ne, compare_eq_zero, compare_ne_zero, compare_ult_number, compare_slt_number, multiply, multiply_half, multiply_high, multiply_high_unsigned, and_first_number, and_number, logical_and, logical_or, logical_xor, or_first_number, or_number, xor_first_number, xor_number, add, add_first_number, add_first_number_half, add_half, add_number, add_number_half, add_number_to_pointer, add_pointer, subtract, subtract_half, subtract_number, subtract_number_half};
 
 /// Sums and differences, with two registers and with a short constant.
 pub fn sums_are_selected()
@@ -42,7 +27,6 @@ pub fn sums_are_selected()
     ensures add_first_number_half { (w : World) (flags : Flags) (i : ℤ) → is_immediate i ≡ true → IsSound 64 w (add_first_number_half flags i) }
     ensures subtract_number { (x : ℕ) (w : World) (flags : Flags) (i : ℤ) → is_immediate i ≡ true → IsSound x w (subtract_number x flags i) }
     ensures subtract_number_half { (w : World) (flags : Flags) (i : ℤ) → is_immediate i ≡ true → IsSound 64 w (subtract_number_half flags i) }
->>>>>>> 8403cd2 (Selection of sums: rules as data, and each is sound on values for all widths and flags)
 {}
 
 /// Logic, on registers of any width, and with a short constant.
@@ -112,10 +96,11 @@ pub fn casts_are_selected()
     ensures freeze { (x : ℕ) (w : World) (flags : Flags) (n : ℕ) → IsSound x w (freeze flags n) }
 {}
 
-/// A value that is free, and the address of a stack object.
+/// A value that is free, and the addresses of stack objects and of globals.
 pub fn places_are_selected()
     ensures leave_free { (x : ℕ) (w : World) (n : ℕ) (flags : Flags) → IsSound x w (leave_free n flags) }
     ensures stack_address { (x : ℕ) (w : World) (flags : Flags) (address : ℕ) → address < 2 ^ x → IsSound x w (stack_address x flags address) }
+    ensures global_address { (x : ℕ) (w : World) (flags : Flags) (flag : SymbolFlag) (name : List ℕ) → (x ≡ 32) ⊎ (x ≡ 64) → IsWorld x w → IsSound x w (global_address x flags flag name (w.global name)) }
 {}
 
 /// Quotients and remainders.
