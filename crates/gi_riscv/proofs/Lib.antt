@@ -19,3 +19,4 @@ pub mod ShiftsSelected
 pub mod SumsSelected
 pub mod WordSteps
 pub mod Words
+pub mod ZeroSelected

@@ -2,7 +2,7 @@
 -- (RISC-V unprivileged ISA, "Integer Computational Instructions", "RV64I", "M": what each instruction computes.)
 -- A rule of x bits is for words; one of 32 bits is for RV64, where a register of 32 bits stands for any word with these
 -- low bits.
-use Rattle.std.specs.Prelude.{ℕ, ◌+◌, ◌-◌, List, [], ◌∷◌, length, None, ℤ, pos, neg_ℤ}
+use Rattle.std.specs.Prelude.{◌==◌, if◌then◌else◌, map, ℕ, ◌+◌, ◌-◌, List, [], ◌∷◌, length, None, ℤ, pos, neg_ℤ}
 use Rattle.gi_llt.specs.Bits.{unsigned}
 use Rattle.gi_mir.specs.Stated.{no_flags}
 use Rattle.gi_mir.specs.declared.opcode.Opcode.{Opcode}
@@ -13,7 +13,7 @@ use Rattle.gi_mir.specs.declared.operand.Pred.TheVariants.{Eq, Ne, Ugt, Uge, Ult
 use Rattle.gi_mir.specs.declared.operand.SymbolFlag.{SymbolFlag}
 use Rattle.gi_mir.specs.declared.operand.SymbolFlag.TheVariants.{Hi, Lo}
 use Rattle.gi_meaning.specs.Argument.{Value, Number, Symbol, Test}
-use Rattle.gi_refine.specs.Values.{At, Fixed, Operation, Fact, Defines, Rule}
+use Rattle.gi_refine.specs.Values.{Slot, At, Fixed, Operation, Fact, Defines, Rule}
 use Rattle.gi_refine.specs.TrialRules.{constant, on_one, on_two}
 
 -- ══ Forms ══
@@ -335,3 +335,19 @@ global_address x flags flag name address =
     (record { op = op.GenericGlobalValue; flags = flags; slots = Fixed (Symbol flag name address) ∷ []; mem = None; widths = x ∷ [] })
     (record { op = op.LoadUpperImmediate; flags = no_flags; slots = Fixed (Symbol Hi name address) ∷ []; mem = None; widths = x ∷ [] }
     ∷ record { op = op.AddImmediate; flags = no_flags; slots = At 0 ∷ Fixed (Symbol Lo name address) ∷ []; mem = None; widths = x ∷ [] } ∷ [])
+
+-- ══ `$x0` for a register that holds zero ══
+
+abbrev pub zero_slot : (x place : ℕ) → Slot → Slot
+zero_slot x place (At p) = if p == place then Fixed (Value x 0) else At p
+zero_slot x place (Fixed argument) = Fixed argument
+
+-- an instruction takes `$x0` where it took the place of a zero
+abbrev pub use_zero : (x n : ℕ) → (inputs : List ℕ) → (place : ℕ) → Opcode → List Slot → (m : ℕ) → Rule
+use_zero x n inputs place op slots m = record {
+  inputs = inputs;
+  facts = Defines (constant n 0) (place ∷ []) ∷ [];
+  old = record { op = op; flags = no_flags; slots = slots; mem = None; widths = m ∷ [] } ∷ [];
+  new = record { op = op; flags = no_flags; slots = map (zero_slot x place) slots; mem = None; widths = m ∷ [] } ∷ [];
+  kept = (length inputs, length inputs) ∷ [];
+}

@@ -2,17 +2,22 @@
 
 ghost use Rattle.std.specs.Prelude.{◌⊎◌, List, ◌≡◌, ◌<◌, ◌≤◌, ◌^◌, ℕ, true, ℤ};
 ghost use Rattle.gi_llt.specs.Bits.{signed, unsigned};
+ghost use Rattle.gi_mir.specs.Stated.{no_flags};
+ghost use Rattle.gi_mir.specs.declared.opcode.Opcode.{Opcode};
 ghost use Rattle.gi_mir.specs.declared.operand.Flags.{Flags};
 ghost use Rattle.gi_mir.specs.declared.operand.Pred.{Pred};
 ghost use Rattle.gi_mir.specs.declared.operand.SymbolFlag.{SymbolFlag};
+ghost use Rattle.gi_meaning.specs.Argument.{Argument};
+ghost use Rattle.gi_meaning.specs.Given.{Given};
+ghost use Rattle.gi_meaning.specs.Meaning.{Machine, meaning_of};
 ghost use Rattle.gi_meaning.specs.Machine.{is_immediate};
 ghost use Rattle.gi_meaning.specs.State.{IsWorld, World};
 ghost use Rattle.gi_refine.specs.Examples.{names};
 ghost use Rattle.gi_refine.specs.Refinement.{IsRefinement};
-ghost use Rattle.gi_refine.specs.Values.{IsSound};
+ghost use Rattle.gi_refine.specs.Values.{IsSound, Slot};
 ghost use Rattle.gi_riscv.specs.SelectedBranches.{IsSelectedBranch, IsSelectedJump, IsSelectedTest, branch_of};
 ghost use Rattle.gi_riscv.specs.SelectedFunctions.{generic_shift, on_half, word_shift};
-ghost use Rattle.gi_riscv.specs.SelectionRules.{global_address, leave_free, stack_address, choose, zero_extend, sign_extend, sign_extend_in_register, truncate, any_extend, pointer_to_integer, integer_to_pointer, freeze, divide_unsigned, divide, remainder_unsigned, remainder, divide_unsigned_half, divide_half, remainder_unsigned_half, remainder_half, shift_left, shift_right, shift_right_signed, shift_left_half, shift_right_half, shift_right_signed_half, shift_left_by, shift_right_by, shift_right_signed_by, shift_left_half_by, shift_right_half_by, shift_right_signed_half_by, compare_ult, compare_ugt, compare_slt, compare_sgt, compare_uge, compare_ule, compare_sge, compare_sle, compare_eq, compare_ne, compare_eq_zero, compare_ne_zero, compare_ult_number, compare_slt_number, multiply, multiply_half, multiply_high, multiply_high_unsigned, and_first_number, and_number, logical_and, logical_or, logical_xor, or_first_number, or_number, xor_first_number, xor_number, add, add_first_number, add_first_number_half, add_half, add_number, add_number_half, add_number_to_pointer, add_pointer, subtract, subtract_half, subtract_number, subtract_number_half};
+ghost use Rattle.gi_riscv.specs.SelectionRules.{use_zero, global_address, leave_free, stack_address, choose, zero_extend, sign_extend, sign_extend_in_register, truncate, any_extend, pointer_to_integer, integer_to_pointer, freeze, divide_unsigned, divide, remainder_unsigned, remainder, divide_unsigned_half, divide_half, remainder_unsigned_half, remainder_half, shift_left, shift_right, shift_right_signed, shift_left_half, shift_right_half, shift_right_signed_half, shift_left_by, shift_right_by, shift_right_signed_by, shift_left_half_by, shift_right_half_by, shift_right_signed_half_by, compare_ult, compare_ugt, compare_slt, compare_sgt, compare_uge, compare_ule, compare_sge, compare_sle, compare_eq, compare_ne, compare_eq_zero, compare_ne_zero, compare_ult_number, compare_slt_number, multiply, multiply_half, multiply_high, multiply_high_unsigned, and_first_number, and_number, logical_and, logical_or, logical_xor, or_first_number, or_number, xor_first_number, xor_number, add, add_first_number, add_first_number_half, add_half, add_number, add_number_half, add_number_to_pointer, add_pointer, subtract, subtract_half, subtract_number, subtract_number_half};
 
 /// The number that a constant stands for with its sign stands for the constant: a rule for a number `i` is one for the
 /// constant whose signed value is `i`.
@@ -125,6 +130,11 @@ pub fn quotients_are_selected()
 /// A choice between two values, of a word or fewer bits.
 pub fn choices_are_selected()
     ensures choose { (x : ℕ) (w : World) (n : ℕ) (flags : Flags) → n ≤ x → IsSound x w (choose x n flags) }
+{}
+
+/// Any instruction may take `$x0` for a register of a word or fewer bits that holds the constant zero.
+pub fn zero_is_selected()
+    ensures use_zero { (x : ℕ) (w : World) (n : ℕ) (inputs : List ℕ) (place : ℕ) (op : Opcode) (slots : List Slot) (m : ℕ) (gives : ℕ → List Argument → Given) → n ≤ x → meaning_of no_flags op ≡ Machine gives → IsSound x w (use_zero x n inputs place op slots m) }
 {}
 
 /// Branches on a comparison, on a word and without a condition.
