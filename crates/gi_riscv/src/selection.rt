@@ -1,6 +1,7 @@
 //! For each row of selection: what the instructions make of values, the generic operation may make, whatever its flags.
 
 ghost use Rattle.std.specs.Prelude.{◌⊎◌, List, ◌≡◌, ◌<◌, ◌≤◌, ◌^◌, ℕ, true, ℤ};
+ghost use Rattle.gi_llt.specs.Bits.{signed, unsigned};
 ghost use Rattle.gi_mir.specs.declared.operand.Flags.{Flags};
 ghost use Rattle.gi_mir.specs.declared.operand.Pred.{Pred};
 ghost use Rattle.gi_mir.specs.declared.operand.SymbolFlag.{SymbolFlag};
@@ -12,6 +13,12 @@ ghost use Rattle.gi_refine.specs.Values.{IsSound};
 ghost use Rattle.gi_riscv.specs.SelectedBranches.{IsSelectedBranch, IsSelectedJump, IsSelectedTest, branch_of};
 ghost use Rattle.gi_riscv.specs.SelectedFunctions.{generic_shift, on_half, word_shift};
 ghost use Rattle.gi_riscv.specs.SelectionRules.{global_address, leave_free, stack_address, choose, zero_extend, sign_extend, sign_extend_in_register, truncate, any_extend, pointer_to_integer, integer_to_pointer, freeze, divide_unsigned, divide, remainder_unsigned, remainder, divide_unsigned_half, divide_half, remainder_unsigned_half, remainder_half, shift_left, shift_right, shift_right_signed, shift_left_half, shift_right_half, shift_right_signed_half, shift_left_by, shift_right_by, shift_right_signed_by, shift_left_half_by, shift_right_half_by, shift_right_signed_half_by, compare_ult, compare_ugt, compare_slt, compare_sgt, compare_uge, compare_ule, compare_sge, compare_sle, compare_eq, compare_ne, compare_eq_zero, compare_ne_zero, compare_ult_number, compare_slt_number, multiply, multiply_half, multiply_high, multiply_high_unsigned, and_first_number, and_number, logical_and, logical_or, logical_xor, or_first_number, or_number, xor_first_number, xor_number, add, add_first_number, add_first_number_half, add_half, add_number, add_number_half, add_number_to_pointer, add_pointer, subtract, subtract_half, subtract_number, subtract_number_half};
+
+/// The number that a constant stands for with its sign stands for the constant: a rule for a number `i` is one for the
+/// constant whose signed value is `i`.
+pub fn numbers_stand_for_constants()
+    ensures { (n value : ℕ) → value < 2 ^ n → unsigned n (signed n value) ≡ value }
+{}
 
 /// Sums and differences, with two registers and with a short constant.
 pub fn sums_are_selected()
