@@ -86,82 +86,40 @@ fn selects_and_prints(rt: HostRuntime) -> Result<(), Fail> {
 }
 
 #[test]
-fn says_why_it_stops(rt: HostRuntime) -> Result<(), Fail> {
+fn stops_at_faults(rt: HostRuntime) -> Result<(), Fail> {
     let alloc = rt.alloc();
-    for (words, instructions, input_fails, out_fails, status, out, err) in [
-        (
-            &WORDS[..],
-            SUM,
-            &[2][..],
-            &[][..],
-            4u8,
-            "",
-            "gisel: read fault\n",
-        ),
-        (
-            &WORDS[..],
-            SUM,
-            &[1][..],
-            &[][..],
-            4,
-            "",
-            "gisel: read fault\n",
-        ),
-        (
-            &WORDS[..],
-            SUM,
-            &[][..],
-            &[3][..],
-            5,
-            "---\nname: ",
-            "gisel: write fault\n",
-        ),
-        (
-            &WORDS[..],
-            SUM,
-            &[][..],
-            &[1][..],
-            5,
-            "",
-            "gisel: write fault\n",
-        ),
+    for (input_fails, out_fails, status, out, err) in [
+        (&[1][..], &[][..], 4u8, "", "gisel: read fault\n"),
+        (&[2][..], &[][..], 4, "", "gisel: read fault\n"),
+        (&[][..], &[1][..], 5, "", "gisel: write fault\n"),
+        (&[][..], &[3][..], 5, "---\nname: ", "gisel: write fault\n"),
+    ] {
+        let text = text_of(alloc, SUM)?;
+        let answered = run(alloc, &WORDS, text, input_fails, out_fails)?;
+        assert_eq!(rt; answered.status, status);
+        assert_eq!(rt; answered.out.as_slice(), out.as_bytes());
+        assert_eq!(rt; answered.err.as_slice(), err.as_bytes());
+    }
+    Ok(())
+}
+
+#[test]
+fn refuses_words_and_lines(rt: HostRuntime) -> Result<(), Fail> {
+    let alloc = rt.alloc();
+    let difference = "    %0:gprb(s32) = G_SUB %0, %0\n    PseudoRET implicit $x10\n";
+    for (words, instructions, status, err) in [
         (
             &WORDS[..1],
             SUM,
-            &[][..],
-            &[][..],
-            2,
-            "",
+            2u8,
             "gisel: usage: -start-after=regbankselect\n",
         ),
-        (
-            &WORDS[..],
-            "    %0:gprb(s32) = G_SUB %0, %0\n    PseudoRET implicit $x10\n",
-            &[][..],
-            &[][..],
-            1,
-            "",
-            "gisel: line 9: not built\n",
-        ),
-        (
-            &WORDS[..],
-            "",
-            &[][..],
-            &[][..],
-            1,
-            "",
-            "gisel: line 8: not built\n",
-        ),
+        (&WORDS[..], difference, 1, "gisel: line 9: not built\n"),
+        (&WORDS[..], "", 1, "gisel: line 8: not built\n"),
     ] {
-        let answered = run(
-            alloc,
-            words,
-            text_of(alloc, instructions)?,
-            input_fails,
-            out_fails,
-        )?;
+        let answered = run(alloc, words, text_of(alloc, instructions)?, &[], &[])?;
         assert_eq!(rt; answered.status, status);
-        assert_eq!(rt; answered.out.as_slice(), out.as_bytes());
+        assert!(rt; answered.out.is_empty());
         assert_eq!(rt; answered.err.as_slice(), err.as_bytes());
     }
     Ok(())
