@@ -1,9 +1,10 @@
 -- What an instruction, a block, a function and a module are, without how the program keeps them.
-use Rattle.std.specs.Prelude.{ℕ, Bool, List, Option}
+use Rattle.std.specs.Prelude.{ℕ, Bool, false, List, Option}
 use Rattle.gi_mir.specs.declared.opcode.Opcode.{Opcode}
 use Rattle.gi_mir.specs.declared.operand.Flags.{Flags}
 use Rattle.gi_mir.specs.declared.operand.MemOp.{MemOp}
 use Rattle.gi_mir.specs.declared.operand.Operand.{Operand}
+use Rattle.gi_mir.specs.declared.operand.Reg.{Reg}
 use Rattle.gi_mir.specs.declared.operand.StackObject.{StackObject}
 
 -- an instruction, with the line of the text that it comes from
@@ -38,3 +39,10 @@ pub record ModuleData : Type 0 where
   pub ir : Option (List (List ℕ))
   pub names : List (List ℕ)
   pub functions : List FunctionData
+
+-- the register of a number, and no flags
+abbrev pub reg_of : ℕ → Reg
+reg_of number = record { 0 = number }
+
+abbrev pub no_flags : Flags
+no_flags = record { nuw = false; nsw = false; exact = false; disjoint = false; nneg = false }

@@ -1,5 +1,4 @@
 pub mod Accepted
-pub mod AddExample
 pub mod Classes
 pub mod Data
 pub mod Edit
@@ -7,10 +6,6 @@ pub mod Formed
 pub mod Ids
 pub mod Names
 pub mod Numbering
-pub mod Printable
-pub mod Printed
 pub mod Registers
 pub mod Renaming
 pub mod Row
-pub mod Spelling
-pub mod Stated

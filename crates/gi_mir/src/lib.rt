@@ -11,6 +11,5 @@ pub mod names;
 pub mod opcode;
 pub mod operand;
 pub mod row;
-pub mod spelling;
 #[cfg(test)]
 mod tests;

@@ -5,7 +5,7 @@ use Rattle.std.specs.List.{list_all, position_or_len}
 use Rattle.gi_llt.specs.Tokens.{piece_bytes}
 use Rattle.gi_mir.specs.Data.{InstrData}
 use Rattle.gi_mir.specs.Renaming.{renamed_operand}
-use Rattle.gi_mir.specs.Printed.{word, is_definition, definitions_of, sources_of, source_forms, first_row, definition_pieces, defined_pieces, source_pieces, sources_pieces, flags_pieces, memory_pieces, instr_pieces}
+use Rattle.gi_spelling.specs.Printed.{word, is_definition, definitions_of, sources_of, source_forms, first_row, definition_pieces, defined_pieces, source_pieces, sources_pieces, flags_pieces, memory_pieces, instr_pieces}
 use Rattle.gi_mir.specs.Row.{word_of, rows_of}
 use Rattle.gi_mir.specs.declared.operand.Kind.{Kind}
 use Rattle.gi_mir.specs.declared.operand.Operand.{Operand}

@@ -9,7 +9,7 @@ use Rattle.gi_llt.specs.Tokens.{Piece, Token, Spaces, piece_bytes}
 use Rattle.gi_llt.specs.declared.Llt.{Llt}
 use Rattle.gi_llt.specs.declared.Llt.TheVariants.{Scalar, Pointer}
 use Rattle.gi_mir.specs.declared.operand.MemOp.{MemOp}
-use Rattle.gi_mir.specs.Printed.{type_piece, mark, bracketed, align_pieces, usual_align, memory_pieces, listed, sources_pieces, defined_pieces}
+use Rattle.gi_spelling.specs.Printed.{type_piece, mark, bracketed, align_pieces, usual_align, memory_pieces, listed, sources_pieces, defined_pieces}
 
 pub piece_bytes_append : (ps qs : List Piece) → piece_bytes (ps ++ qs) ≡ piece_bytes ps ++ piece_bytes qs
 piece_bytes_append [] qs = refl

@@ -3,7 +3,7 @@
 ghost use Rattle.std.specs.Prelude.{◌≡◌, ◌++◌, ◌∷◌, ◌<◌, ◌+◌, ◌==◌, ◌&&◌, ◌||◌, [], not, OnOk};
 ghost use Rattle.std.specs.List.{list_any};
 ghost use Rattle.gi_llt.specs.Tokens.{Spaces, piece_bytes};
-ghost use Rattle.gi_mir.specs.Printed.{sources_pieces, instr_line, instr_lines, is_branch_op, falls_through, implied_successors, block_pieces, physical_pieces, block_head_pieces, states_successors, liveins_lines, set_off, block_lines, text_of};
+ghost use Rattle.gi_spelling.specs.Printed.{sources_pieces, instr_line, instr_lines, is_branch_op, falls_through, implied_successors, block_pieces, physical_pieces, block_head_pieces, states_successors, liveins_lines, set_off, block_lines, text_of};
 ghost use Rattle.gi_mir.specs.Row.{is_unconditional_op};
 ghost use Rattle.gi_mir_print.specs.Shown.{kind_at, shown_instr, shown_instrs, is_target, has_target, gap_after, successors_stated};
 

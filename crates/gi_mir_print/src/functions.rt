@@ -4,7 +4,7 @@ ghost use Rattle.std.specs.Prelude.{◌≡◌, ◌++◌, ◌∷◌, ◌<◌, [],
 ghost use Rattle.gi_llt.specs.Tokens.{piece_bytes};
 ghost use Rattle.gi_mir.specs.Edit.{block_at};
 ghost use Rattle.gi_mir.specs.Numbering.{numbered, numbered_module};
-ghost use Rattle.gi_mir.specs.Printed.{instr_pieces, block_lines, blocks_lines, key_lines, object_line, object_lines, stack_lines, printed_lines, functions_lines, ir_lines, name_at, text_of, printed};
+ghost use Rattle.gi_spelling.specs.Printed.{instr_pieces, block_lines, blocks_lines, key_lines, object_line, object_lines, stack_lines, printed_lines, functions_lines, ir_lines, name_at, text_of, printed};
 ghost use Rattle.gi_mir_print.specs.Shown.{kind_at, shown_block, shown_blocks, begun_lines, shown_function};
 
 use crate::blocks::push_block_lines;

@@ -4,7 +4,7 @@ ghost use Rattle.std.specs.Prelude.{◌≡◌, ◌≤◌, ◌++◌, ◌∷◌, [
 ghost use Rattle.std.specs.List.{list_all};
 ghost use Rattle.gi_llt.specs.Tokens.{piece_bytes};
 ghost use Rattle.gi_mir.specs.Numbering.{number_in};
-ghost use Rattle.gi_mir.specs.Printed.{kind_pieces, use_pieces, operand_pieces, is_definition, definitions_of, sources_of, source_forms, first_row, is_typed_form, is_typed_by, forms_after, source_pieces, sources_pieces, definition_pieces, defined_pieces, instr_pieces};
+ghost use Rattle.gi_spelling.specs.Printed.{kind_pieces, use_pieces, operand_pieces, is_definition, definitions_of, sources_of, source_forms, first_row, is_typed_form, is_typed_by, forms_after, source_pieces, sources_pieces, definition_pieces, defined_pieces, instr_pieces};
 ghost use Rattle.gi_mir.specs.Registers.{type_of_kind};
 ghost use Rattle.gi_mir.specs.Row.{rows_of};
 ghost use Rattle.gi_mir_print.specs.Shown.{is_definition_form, kind_at, shown_operand, shown_operands, shown_instr};

@@ -5,7 +5,7 @@ ghost use Rattle.std.specs.Prelude.{◌≡◌, ◌<◌, ◌≤◌, ◌-◌, ◌^
 ghost use Rattle.std.specs.Fmt.{signed_decimal};
 ghost use Rattle.gi_llt.specs.Bits.{signed};
 ghost use Rattle.gi_llt.specs.Tokens.{Number, Global, Routine, Spaces, token, piece_bytes};
-ghost use Rattle.gi_mir.specs.Printed.{word, bracketed, type_piece, kind_pieces, shown_type, block_piece, frame_piece, physical_piece, symbol_flag_pieces, constant_pieces, predicate_word, routine_names, name_at, flag_pieces, flags_pieces, usual_align, align_pieces, memory_pieces};
+ghost use Rattle.gi_spelling.specs.Printed.{word, bracketed, type_piece, kind_pieces, shown_type, block_piece, frame_piece, physical_piece, symbol_flag_pieces, constant_pieces, predicate_word, routine_names, name_at, flag_pieces, flags_pieces, usual_align, align_pieces, memory_pieces};
 
 use gi_llt::{Llt, Memory};
 use gi_mir::names::Names;

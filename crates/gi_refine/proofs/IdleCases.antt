@@ -2,8 +2,7 @@
 use Rattle.std.proofs.Common.{◌≡◌, ℕ, ◌^◌, ◌<◌, Bool, true, false, ◌==◌, if◌then◌else◌, List, [], ◌∷◌, Some, None, refl, ap, lit<}
 use Rattle.std.proofs.lemmas.Bool.{eqb-false}
 use Rattle.std.proofs.Math.Nat.{mod-lt}
-use Rattle.gi_mir.specs.Data.{InstrData, FunctionData}
-use Rattle.gi_mir.specs.Stated.{reg_of}
+use Rattle.gi_mir.specs.Data.{InstrData, FunctionData, reg_of}
 use Rattle.gi_mir.specs.declared.opcode.Opcode.TheVariants as op
 use Rattle.gi_mir.specs.declared.operand.Kind.{Kind}
 use Rattle.gi_mir.specs.declared.operand.Operand.TheVariants as operand

@@ -11,8 +11,7 @@ use Rattle.gi_refine.proofs.Staying.{has_same_value}
 use Rattle.gi_refine.proofs.Agreeing.{same_value_stands}
 use Rattle.gi_llt.specs.Bits.{wrapped}
 use Rattle.std.proofs.Common.{◌≡◌, ℕ, ◌==◌, Bool, true, false, List, [], ◌∷◌, Option, Some, None, inl, ⊎_elim, refl, sym, ap, ◌∙◌, subst, arith, option_map, ◌+◌, cond}
-use Rattle.gi_mir.specs.Data.{InstrData}
-use Rattle.gi_mir.specs.Stated.{no_flags}
+use Rattle.gi_mir.specs.Data.{InstrData, no_flags}
 use Rattle.gi_mir.specs.declared.opcode.Opcode.TheVariants as op
 use Rattle.gi_meaning.specs.Argument.{Value, Bits}
 use Rattle.gi_meaning.specs.State.{World, State, Outside, outside_of, Fails, Place, Virtual, put, Physical}

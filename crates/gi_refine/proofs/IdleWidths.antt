@@ -1,8 +1,7 @@
 -- Cases in which a register has another width in the new function, and all other premises of rewriting one place hold.
 use Rattle.std.proofs.Common.{◌≡◌, ℕ, zero, suc, [], ◌∷◌, Option, Some, None, slice_get, unwrap_or, refl, sym, ap, ◌∙◌, subst, lit<}
 use Rattle.std.proofs.lemmas.Bool.{false≢true, eqb-false}
-use Rattle.gi_mir.specs.Data.{BlockData, FunctionData}
-use Rattle.gi_mir.specs.Stated.{reg_of}
+use Rattle.gi_mir.specs.Data.{BlockData, FunctionData, reg_of}
 use Rattle.gi_mir.specs.declared.operand.Operand.TheVariants as operand
 use Rattle.gi_meaning.specs.State.{World, IsWorld, State, Returned, Virtual}
 use Rattle.gi_meaning.specs.Runs.{setting_of, Progress, On, phis_of, joined, value_at, from_block, put_value}

@@ -4,7 +4,7 @@ use Rattle.std.specs.Prelude.{bit_or, IfSome}
 use Rattle.std.proofs.Math.Nat.{mod-one, mod-mod}
 use Rattle.std.proofs.lemmas.Nat.{or_of_32, or_shifted}
 use Rattle.gi_llt.specs.Bits.{wrapped}
-use Rattle.gi_mir.specs.Stated.{no_flags}
+use Rattle.gi_mir.specs.Data.{no_flags}
 use Rattle.gi_mir.specs.declared.opcode.Opcode.TheVariants as op
 use Rattle.gi_meaning.specs.Given.{Undefined, one}
 use Rattle.gi_meaning.specs.Memory.{Memory, with_byte, above, loaded, is_aligned}

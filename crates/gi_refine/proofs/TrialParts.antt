@@ -3,9 +3,8 @@ use Rattle.std.proofs.Common.{◌≡◌, ℕ, ◌+◌, ◌^◌, ◌==◌, ◌||�
 use Rattle.std.proofs.lemmas.Bool.{or_parts}
 use Rattle.std.proofs.lemmas.Nat.{pow_pos, mod_below}
 use Rattle.gi_llt.specs.Bits.{wrapped}
-use Rattle.gi_mir.specs.Data.{InstrData}
+use Rattle.gi_mir.specs.Data.{InstrData, no_flags}
 use Rattle.gi_mir.specs.Registers.{kind_in_instrs}
-use Rattle.gi_mir.specs.Stated.{no_flags}
 use Rattle.gi_meaning.specs.Argument.{Value}
 use Rattle.gi_meaning.specs.Meaning.{Copying}
 use Rattle.gi_meaning.specs.State.{World, State, Outside, outside_of, start, Virtual, put}

@@ -1,8 +1,7 @@
 -- A trial rule that replaces the uses of a register, in a whole function.
 use Rattle.std.proofs.Common.{◌≡◌, ℕ, zero, suc, List, [], ◌∷◌, ◌++◌, slice_get, refl, sym, subst}
 use Rattle.std.proofs.lemmas.Nat.{pow_pos}
-use Rattle.gi_mir.specs.Data.{InstrData}
-use Rattle.gi_mir.specs.Stated.{no_flags}
+use Rattle.gi_mir.specs.Data.{InstrData, no_flags}
 use Rattle.gi_meaning.specs.Argument.{Value, Bits}
 use Rattle.gi_meaning.specs.State.{World, IsWorld, State, outside_of, start, Virtual, put}
 use Rattle.gi_meaning.specs.Act.{Results}

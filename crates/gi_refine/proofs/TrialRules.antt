@@ -4,7 +4,7 @@ use Rattle.std.proofs.lemmas.Option.{same_Some}
 use Rattle.std.proofs.Math.Nat.{mod-eq_of_lt}
 use Rattle.std.proofs.lemmas.Nat.{pow_pos, mod_below}
 use Rattle.gi_llt.specs.Bits.{wrapped}
-use Rattle.gi_mir.specs.Stated.{no_flags}
+use Rattle.gi_mir.specs.Data.{no_flags}
 use Rattle.gi_mir.specs.declared.operand.Flags.{Flags}
 use Rattle.gi_meaning.specs.Generic.{sum, difference, difference_of}
 use Rattle.gi_meaning.specs.State.{World}

@@ -7,7 +7,7 @@ use Rattle.std.proofs.Common.{◌≡◌, ℕ, ◌+◌, ◌-◌, ◌%◌, ◌^◌
 use Rattle.std.proofs.lemmas.Nat.{pow_pos, mod_below, and_mask, pow_below}
 use Rattle.std.specs.Prelude.{bit_and, nat_le, ◌*ℤ◌}
 use Rattle.gi_llt.specs.Bits.{wrapped, signed, sign_extended}
-use Rattle.gi_mir.specs.Stated.{no_flags}
+use Rattle.gi_mir.specs.Data.{no_flags}
 use Rattle.gi_mir.specs.declared.opcode.Opcode.TheVariants as op
 use Rattle.gi_mir.specs.declared.operand.Flags.{Flags}
 use Rattle.gi_meaning.specs.Given.{Undefined, one, free, unless_broken, Given, IsGiven}

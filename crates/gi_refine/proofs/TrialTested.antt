@@ -1,8 +1,7 @@
 -- A trial rule used behind a phi, with a constant from another block: all that it owes of reached states is tested.
 use Rattle.std.proofs.Common.{◌≡◌, ℕ, zero, suc, ◌==◌, false, [], ◌∷◌, ◌++◌, Option, Some, slice_get, unwrap_or, refl, sym, ap, arith}
-use Rattle.gi_mir.specs.Data.{BlockData}
+use Rattle.gi_mir.specs.Data.{BlockData, no_flags}
 use Rattle.gi_mir.specs.Registers.{kind_in_instrs}
-use Rattle.gi_mir.specs.Stated.{no_flags}
 use Rattle.gi_mir.specs.declared.operand.Kind.TheVariants.{Class}
 use Rattle.gi_meaning.specs.Runs.{setting_of, width_of_kind}
 use Rattle.gi_refine.specs.Agreement.{AgreeAt}

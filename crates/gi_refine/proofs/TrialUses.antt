@@ -1,6 +1,6 @@
 -- Trial rules used in whole functions.
 use Rattle.std.proofs.Common.{◌≡◌, false, [], ◌∷◌, refl, sym, subst}
-use Rattle.gi_mir.specs.Stated.{no_flags}
+use Rattle.gi_mir.specs.Data.{no_flags}
 use Rattle.gi_meaning.specs.Argument.{Value}
 use Rattle.gi_meaning.specs.State.{State, outside_of, start, Virtual, put}
 use Rattle.gi_meaning.specs.Act.{Results}

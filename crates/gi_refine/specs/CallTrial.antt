@@ -1,7 +1,6 @@
 -- A trial rule: a product of 64 bits becomes a call of the runtime's routine, on RV32.
 use Rattle.std.specs.Prelude.{ℕ, Bool, ◌&&◌, nat_le, List, [], ◌∷◌, ◌++◌, None}
-use Rattle.gi_mir.specs.Data.{InstrData, FunctionData}
-use Rattle.gi_mir.specs.Stated.{reg_of}
+use Rattle.gi_mir.specs.Data.{InstrData, FunctionData, reg_of}
 use Rattle.gi_mir.specs.declared.opcode.Opcode.TheVariants as op
 use Rattle.gi_mir.specs.declared.operand.Operand.TheVariants as operand
 use Rattle.gi_mir.specs.declared.operand.SymbolFlag.TheVariants.{Call}

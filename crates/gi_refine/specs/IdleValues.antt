@@ -1,8 +1,7 @@
 -- Small uses of rules, each of which breaks one premise of the lifting law and no other.
 use Rattle.gi_mir.specs.declared.operand.Operand.TheVariants.{Def}
 use Rattle.std.specs.Prelude.{◌≡◌, ℕ, ◌==◌, if◌then◌else◌, List, [], ◌∷◌, Option, None, Bool, true, false, cond, map, ◌||◌}
-use Rattle.gi_mir.specs.Data.{InstrData}
-use Rattle.gi_mir.specs.Stated.{no_flags, reg_of}
+use Rattle.gi_mir.specs.Data.{InstrData, no_flags, reg_of}
 use Rattle.gi_mir.specs.declared.opcode.Opcode.TheVariants as op
 use Rattle.gi_meaning.specs.State.{World, State, Place, outside_of}
 use Rattle.gi_meaning.specs.Runs.{Setting}

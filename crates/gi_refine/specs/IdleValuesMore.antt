@@ -1,8 +1,7 @@
 -- More small uses of rules, each of which breaks one premise of the lifting law and no other.
 use Rattle.std.specs.Prelude.{◌≡◌, ℕ, [], ◌∷◌, Some, true, false, Bool, map}
 use Rattle.gi_llt.specs.declared.Llt.TheVariants.{Scalar}
-use Rattle.gi_mir.specs.Data.{InstrData}
-use Rattle.gi_mir.specs.Stated.{no_flags, reg_of}
+use Rattle.gi_mir.specs.Data.{InstrData, no_flags, reg_of}
 use Rattle.gi_mir.specs.declared.opcode.Opcode.TheVariants as op
 use Rattle.gi_mir.specs.declared.operand.MemOp.{MemOp}
 use Rattle.gi_mir.specs.declared.operand.Operand.TheVariants.{Def}

@@ -1,8 +1,7 @@
 -- Small functions of generic instructions and of RISC-V's, one for each kind of effect.
 use Rattle.std.specs.Prelude.{ℕ, ℤ, pos, negsuc, true, false, List, [], ◌∷◌, ◌++◌, Option, Some, None}
 use Rattle.gi_llt.specs.declared.Llt.TheVariants.{Scalar}
-use Rattle.gi_mir.specs.Data.{InstrData, FunctionData}
-use Rattle.gi_mir.specs.Stated.{reg_of, no_flags}
+use Rattle.gi_mir.specs.Data.{InstrData, FunctionData, reg_of, no_flags}
 use Rattle.gi_mir.specs.declared.opcode.Opcode.{Opcode}
 use Rattle.gi_mir.specs.declared.opcode.Opcode.TheVariants as op
 use Rattle.gi_mir.specs.declared.operand.Kind.{Kind}

@@ -1,8 +1,7 @@
 -- Trial rules: a phi of 16 bits becomes one of 32, with an extension before the first terminator of each predecessor and a
 -- truncation behind the last phi; and registers of 32 bits that become words on RV64.
 use Rattle.std.specs.Prelude.{ℕ, List, [], ◌∷◌, None}
-use Rattle.gi_mir.specs.Data.{InstrData, FunctionData}
-use Rattle.gi_mir.specs.Stated.{reg_of}
+use Rattle.gi_mir.specs.Data.{InstrData, FunctionData, reg_of}
 use Rattle.gi_mir.specs.declared.opcode.Opcode.TheVariants as op
 use Rattle.gi_mir.specs.declared.operand.Kind.{Kind}
 use Rattle.gi_mir.specs.declared.operand.Operand.TheVariants as operand

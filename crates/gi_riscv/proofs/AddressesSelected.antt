@@ -1,6 +1,6 @@
 -- Addresses of globals are selected.
 use Rattle.std.proofs.Common.{◌≡◌, ℕ, ◌⊎◌, List, [], ◌∷◌, ◌++◌, Option, Some, None, refl, ap₂, ◌∙◌, subst}
-use Rattle.gi_mir.specs.Stated.{no_flags}
+use Rattle.gi_mir.specs.Data.{no_flags}
 use Rattle.gi_mir.specs.declared.opcode.Opcode.TheVariants as op
 use Rattle.gi_mir.specs.declared.operand.Flags.{Flags}
 use Rattle.gi_mir.specs.declared.operand.SymbolFlag.{SymbolFlag}

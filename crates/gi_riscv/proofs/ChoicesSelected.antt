@@ -5,7 +5,7 @@ use Rattle.std.specs.Int.Bits.{xor_self, xor_assoc, xor_zero_l, xor_zero_r, and_
 use Rattle.std.proofs.lemmas.Nat.{pow_pos, and_mask, and_mod, xor_mod, xor_lt, xor_comm}
 use Rattle.std.proofs.Math.Nat.{mod-eq_of_lt}
 use Rattle.gi_llt.specs.Bits.{wrapped, unsigned}
-use Rattle.gi_mir.specs.Stated.{no_flags}
+use Rattle.gi_mir.specs.Data.{no_flags}
 use Rattle.gi_mir.specs.declared.opcode.Opcode.TheVariants as op
 use Rattle.gi_mir.specs.declared.operand.Flags.{Flags}
 use Rattle.gi_meaning.specs.Argument.{Value}

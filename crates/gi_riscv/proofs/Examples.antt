@@ -1,7 +1,7 @@
 -- Sequences of constants, and addresses at the ends of what LUI and ADDI reach.
 use Rattle.std.proofs.Common.{◌≡◌, [], ◌∷◌, refl, pos, negsuc, lit<, arith}
 use Rattle.std.proofs.lemmas.Int.{ints}
-use Rattle.gi_mir.specs.Stated.{no_flags}
+use Rattle.gi_mir.specs.Data.{no_flags}
 use Rattle.gi_mir.specs.declared.opcode.Opcode.TheVariants as op
 use Rattle.gi_mir.specs.declared.operand.SymbolFlag.TheVariants.{Hi, Lo}
 use Rattle.gi_meaning.specs.Argument.{Value, Symbol}

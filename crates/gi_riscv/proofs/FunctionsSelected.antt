@@ -1,6 +1,6 @@
 -- A rule of selection used in a whole function.
 use Rattle.std.proofs.Common.{false, [], ◌∷◌, ◌++◌, refl, arith}
-use Rattle.gi_mir.specs.Stated.{no_flags}
+use Rattle.gi_mir.specs.Data.{no_flags}
 use Rattle.gi_refine.specs.Examples.{block_of, names}
 use Rattle.gi_refine.specs.OnePlace.{only_virtual}
 use Rattle.gi_refine.specs.Refinement.{IsRefinement}

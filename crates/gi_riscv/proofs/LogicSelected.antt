@@ -5,7 +5,7 @@ use Rattle.std.proofs.lemmas.Nat.{and_mod, or_mod, xor_mod, or_lt, and_comm, or_
 use Rattle.gi_llt.specs.Bits.{unsigned}
 use Rattle.gi_mir.specs.declared.opcode.Opcode.{Opcode}
 use Rattle.gi_mir.specs.declared.opcode.Opcode.TheVariants as op
-use Rattle.gi_mir.specs.Stated.{no_flags}
+use Rattle.gi_mir.specs.Data.{no_flags}
 use Rattle.gi_mir.specs.declared.operand.Flags.{Flags}
 use Rattle.gi_meaning.specs.Given.{Given, one}
 use Rattle.gi_meaning.specs.Generic.{binary, disjunction}

@@ -2,7 +2,7 @@
 -- (RISC-V unprivileged ISA, "Conditional Branches": BGT, BGTU, BLE and BLEU are BLT, BLTU, BGE and BGEU with the operands
 -- swapped.)
 use Rattle.std.specs.Prelude.{ℕ, List, [], ◌∷◌, None, Bool, true, false}
-use Rattle.gi_mir.specs.Stated.{no_flags}
+use Rattle.gi_mir.specs.Data.{no_flags}
 use Rattle.gi_mir.specs.declared.opcode.Opcode.{Opcode}
 use Rattle.gi_mir.specs.declared.opcode.Opcode.TheVariants as op
 use Rattle.gi_mir.specs.declared.operand.Flags.{Flags}

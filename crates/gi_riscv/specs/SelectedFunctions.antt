@@ -1,8 +1,7 @@
 -- Small functions of RV64, and what selection makes of an instruction of theirs.
 use Rattle.std.specs.Prelude.{ℕ, List, [], ◌∷◌, ◌++◌, None, pos}
 use Rattle.gi_llt.specs.declared.Llt.TheVariants.{Scalar}
-use Rattle.gi_mir.specs.Data.{InstrData, FunctionData}
-use Rattle.gi_mir.specs.Stated.{reg_of}
+use Rattle.gi_mir.specs.Data.{InstrData, FunctionData, reg_of}
 use Rattle.gi_mir.specs.declared.opcode.Opcode.TheVariants as op
 use Rattle.gi_mir.specs.declared.operand.Kind.{Kind}
 use Rattle.gi_mir.specs.declared.operand.Kind.TheVariants.{Generic}

@@ -4,7 +4,7 @@
 -- low bits.
 use Rattle.std.specs.Prelude.{◌==◌, if◌then◌else◌, map, ℕ, ◌+◌, ◌-◌, List, [], ◌∷◌, length, None, ℤ, pos, neg_ℤ}
 use Rattle.gi_llt.specs.Bits.{unsigned}
-use Rattle.gi_mir.specs.Stated.{no_flags}
+use Rattle.gi_mir.specs.Data.{no_flags}
 use Rattle.gi_mir.specs.declared.opcode.Opcode.{Opcode}
 use Rattle.gi_mir.specs.declared.opcode.Opcode.TheVariants as op
 use Rattle.gi_mir.specs.declared.operand.Flags.{Flags}

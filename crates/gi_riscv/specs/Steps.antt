@@ -1,7 +1,7 @@
 -- What a sequence of steps makes of a word, by the meaning of RISC-V's instructions.
 -- (RISC-V unprivileged ISA, "Integer Computational Instructions".)
 use Rattle.std.specs.Prelude.{◌≡◌, ℕ, List, [], ◌∷◌, pos}
-use Rattle.gi_mir.specs.Stated.{no_flags}
+use Rattle.gi_mir.specs.Data.{no_flags}
 use Rattle.gi_mir.specs.declared.opcode.Opcode.{Opcode}
 use Rattle.gi_mir.specs.declared.opcode.Opcode.TheVariants as op
 use Rattle.gi_meaning.specs.Argument.{Argument, Value, Number}

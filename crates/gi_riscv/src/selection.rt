@@ -2,7 +2,7 @@
 
 ghost use Rattle.std.specs.Prelude.{◌⊎◌, List, ◌≡◌, ◌<◌, ◌≤◌, ◌^◌, ℕ, true, ℤ};
 ghost use Rattle.gi_llt.specs.Bits.{signed, unsigned};
-ghost use Rattle.gi_mir.specs.Stated.{no_flags};
+ghost use Rattle.gi_mir.specs.Data.{no_flags};
 ghost use Rattle.gi_mir.specs.declared.opcode.Opcode.{Opcode};
 ghost use Rattle.gi_mir.specs.declared.operand.Flags.{Flags};
 ghost use Rattle.gi_mir.specs.declared.operand.Pred.{Pred};

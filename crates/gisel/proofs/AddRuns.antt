@@ -1,7 +1,7 @@
 -- The example returns the sum of its two words, before and after selection, and does nothing else.
 use Rattle.std.proofs.Common.{◌≡◌, ℕ, suc, List, [], ◌∷◌, drop, refl, ap, ◌∙◌, subst}
 use Rattle.gi_llt.specs.declared.Llt.TheVariants.{Scalar}
-use Rattle.gi_mir.specs.AddExample.{block_of}
+use Rattle.gi_spelling.specs.AddExample.{block_of}
 use Rattle.gi_mir.specs.Data.{InstrData}
 use Rattle.gi_mir.specs.declared.opcode.Opcode.TheVariants.{GenericAdd, Add}
 use Rattle.gi_mir.specs.declared.operand.Kind.TheVariants.{Banked, Class}

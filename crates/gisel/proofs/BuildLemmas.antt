@@ -9,7 +9,7 @@ use Rattle.gi_llt.specs.Bits.{unsigned}
 use Rattle.gi_mir.specs.Data.{InstrData, FunctionData}
 use Rattle.gi_mir.specs.Edit.{with_instr, block_with_instr, empty_block}
 use Rattle.gi_mir.specs.Formed.{is_formed}
-use Rattle.gi_mir.specs.Stated.{StatedInstr, CopyIn, MakeConstant, AddUp, CopyOut, Return, stated_instr, IsStatedInstr, is_argument}
+use Rattle.gi_spelling.specs.Stated.{StatedInstr, CopyIn, MakeConstant, AddUp, CopyOut, Return, stated_instr, IsStatedInstr, is_argument}
 use Rattle.gisel.specs.declared.statement.Statement.{Statement}
 use Rattle.gisel.specs.declared.statement.Statement.TheVariants as statement
 use Rattle.gisel.specs.Built.{IsBuilt, has_arguments}

@@ -6,12 +6,12 @@ use Rattle.gi_mir.specs.declared.operand.Operand.{Operand}
 use Rattle.gi_mir.specs.declared.operand.Operand.TheVariants as operand
 use Rattle.gi_mir.specs.Numbering.{order_of, number_in, numbered, numbered_module}
 use Rattle.gi_mir.specs.Renaming.{renamed_operand, renamed_pair, renamed_block}
-use Rattle.gi_mir.specs.Printable.{is_named_operand, is_named_instr, is_named_block, has_no_liveins, later_blocks, IsPrintable, AllPrintable, IsPrintableModule}
-use Rattle.gi_mir.specs.Printed.{name_at, printed}
-use Rattle.gi_mir.specs.Spelling.{is_name, Spells}
-use Rattle.gi_mir.specs.Stated.{StatedInstr, IsStated, IsStatedText}
+use Rattle.gi_spelling.specs.Printable.{is_named_operand, is_named_instr, is_named_block, has_no_liveins, later_blocks, IsPrintable, AllPrintable, IsPrintableModule}
+use Rattle.gi_spelling.specs.Printed.{name_at, printed}
+use Rattle.gi_spelling.specs.Spelling.{is_name, Spells}
+use Rattle.gi_spelling.specs.Stated.{StatedInstr, IsStated, IsStatedText}
 use Rattle.gi_mir.proofs.NumberingLaws.{number_in_apart}
-use Rattle.gi_mir.proofs.Texts.{stated_printable, printed_spells, stated_spells}
+use Rattle.gi_spelling.proofs.Texts.{stated_printable, printed_spells, stated_spells}
 use Rattle.gi_meaning.proofs.Renaming.{runs_renamed}
 use Rattle.gi_refine.specs.Refinement.{IsRefinement}
 use Rattle.gi_refine.proofs.Refining.{refines_through}

@@ -8,7 +8,7 @@ use Rattle.std.specs.List.{list_all}
 use Rattle.std.specs.Fmt.{signed_decimal}
 use Rattle.gi_llt.specs.Bits.{signed}
 use Rattle.gi_llt.specs.Tokens.{is_digit}
-use Rattle.gi_mir.specs.Stated.{StatedInstr, CopyIn, MakeConstant, AddUp, CopyOut, Return, stated_line, is_short, is_among, is_argument, is_new, is_stated_after, defined_after}
+use Rattle.gi_spelling.specs.Stated.{StatedInstr, CopyIn, MakeConstant, AddUp, CopyOut, Return, stated_line, is_short, is_among, is_argument, is_new, is_stated_after, defined_after}
 use Rattle.gisel.specs.Body.{AllSmall}
 use Rattle.gisel.specs.Digits.{begins_with_digit, value_onto}
 use Rattle.gisel.specs.Statement.{Fits}

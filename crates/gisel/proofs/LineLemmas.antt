@@ -8,7 +8,7 @@ use Rattle.std.specs.Prelude.{codes, decimal, ◌==◌, nat_lt}
 use Rattle.std.specs.Fmt.{signed_decimal}
 use Rattle.std.proofs.lemmas.List.{append-nil, append_cancel_left}
 use Rattle.gi_llt.specs.Bits.{signed, unsigned}
-use Rattle.gi_mir.specs.Stated.{StatedInstr, CopyIn, MakeConstant, AddUp, CopyOut, Return, stated_line, is_short}
+use Rattle.gi_spelling.specs.Stated.{StatedInstr, CopyIn, MakeConstant, AddUp, CopyOut, Return, stated_line, is_short}
 use Rattle.gisel.specs.Digits.{begins_with_digit, begins_otherwise, IsNumberAfter, with_two, with_three}
 use Rattle.gisel.specs.Statement.{Fits}
 use Rattle.gisel.proofs.DigitsLemmas.{NoNumber, apart_after, number_same, rest_same}

@@ -5,8 +5,8 @@ use Rattle.std.proofs.Math.Nat.{mod-eq_of_lt}
 use Rattle.std.specs.List.{list_any}
 use Rattle.std.specs.Option.{option_or}
 use Rattle.gi_llt.specs.Bits.{signed, unsigned}
-use Rattle.gi_mir.specs.Data.{InstrData, FunctionData}
-use Rattle.gi_mir.specs.Stated.{MakeConstant, AddUp, stated_instr, stated_kind, reg_of, is_short}
+use Rattle.gi_mir.specs.Data.{InstrData, FunctionData, reg_of}
+use Rattle.gi_spelling.specs.Stated.{MakeConstant, AddUp, stated_instr, stated_kind, is_short}
 use Rattle.gi_mir.specs.declared.opcode.Opcode.TheVariants.{Add, AddImmediate}
 use Rattle.gi_mir.specs.declared.operand.Operand.TheVariants.{Def, Use, Phys, Int}
 use Rattle.gi_meaning.specs.Machine.{is_immediate}

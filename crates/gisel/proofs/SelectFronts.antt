@@ -11,7 +11,7 @@ use Rattle.gi_llt.specs.Bits.{unsigned}
 use Rattle.gi_mir.specs.Data.{InstrData, BlockData, FunctionData}
 use Rattle.gi_mir.specs.Edit.{defines}
 use Rattle.gi_mir.specs.Registers.{first_there, kind_in_operands, kind_in_instrs}
-use Rattle.gi_mir.specs.Stated.{StatedInstr, CopyIn, MakeConstant, AddUp, CopyOut, Return, stated_instr, is_among, is_stated_after, is_new, is_short, is_argument, defined_after}
+use Rattle.gi_spelling.specs.Stated.{StatedInstr, CopyIn, MakeConstant, AddUp, CopyOut, Return, stated_instr, is_among, is_stated_after, is_new, is_short, is_argument, defined_after}
 use Rattle.gi_mir.specs.declared.operand.Kind.{Kind}
 use Rattle.gi_mir.specs.declared.operand.Kind.TheVariants as kind
 use Rattle.gi_mir.specs.declared.operand.Operand.{Operand}

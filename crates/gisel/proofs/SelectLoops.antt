@@ -6,10 +6,10 @@ use Rattle.std.proofs.lemmas.List.{append-nil, reverse-append, reverse-reverse}
 use Rattle.std.proofs.lemmas.List.Elements.{AllZip-push}
 use Rattle.std.proofs.lemmas.List.Folds.{list_all-append}
 use mathlib.Core.Path.{fun_ext}
-use Rattle.gi_mir.specs.Data.{InstrData, BlockData, FunctionData}
+use Rattle.gi_mir.specs.Data.{InstrData, BlockData, FunctionData, reg_of}
 use Rattle.gi_mir.specs.Edit.{HeadData, above_registers, defines, empty_function, with_block, with_keys, block_with, block_at, head_of}
 use Rattle.gi_mir.specs.Formed.{is_formed}
-use Rattle.gi_mir.specs.Stated.{StatedInstr, CopyIn, MakeConstant, AddUp, CopyOut, Return, stated_instr, reg_of, IsStatedInstr, is_among, is_stated_after, defined_after, live_after}
+use Rattle.gi_spelling.specs.Stated.{StatedInstr, CopyIn, MakeConstant, AddUp, CopyOut, Return, stated_instr, IsStatedInstr, is_among, is_stated_after, defined_after, live_after}
 use Rattle.gisel.specs.NormalForm.{IsNormalForm}
 use Rattle.gisel.specs.Rows.{is_use_of, short_where, selection_rows}
 use Rattle.gisel.specs.Selectable.{IsSelectable, AllSelectable}

@@ -3,8 +3,8 @@
 use Rattle.std.proofs.Common.{◌≡◌, ℕ, zero, suc, ℤ, ◌+◌, ◌<◌, ◌%◌, Bool, true, false, ◌==◌, List, [], ◌∷◌, ◌++◌, Option, Some, None, option_map, slice_get, ◌⊎◌, inl, inr, refl, sym, ap, ◌∙◌, subst, arith, if◌then◌else◌}
 use Rattle.std.proofs.Math.Nat.{mod-eq_of_lt}
 use Rattle.gi_llt.specs.Bits.{wrapped, unsigned}
-use Rattle.gi_mir.specs.Data.{InstrData, BlockData, FunctionData}
-use Rattle.gi_mir.specs.Stated.{stated_kind, reg_of, no_flags}
+use Rattle.gi_mir.specs.Data.{InstrData, BlockData, FunctionData, reg_of, no_flags}
+use Rattle.gi_spelling.specs.Stated.{stated_kind}
 use Rattle.gi_mir.specs.declared.opcode.Opcode.TheVariants.{Add, AddImmediate}
 use Rattle.gi_mir.specs.declared.operand.Operand.TheVariants.{Def, Use, Phys, Int}
 use Rattle.gi_meaning.specs.Act.{Answer, Results}

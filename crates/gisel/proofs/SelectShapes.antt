@@ -10,7 +10,7 @@ use Rattle.gi_mir.specs.Data.{InstrData, BlockData, FunctionData}
 use Rattle.gi_mir.specs.Edit.{above_registers}
 use Rattle.gi_mir.specs.declared.operand.Operand.{Operand}
 use Rattle.gi_mir.specs.declared.operand.Operand.TheVariants as operand
-use Rattle.gi_mir.specs.Stated.{StatedInstr, is_stated_after, defined_after, live_after, is_return, are_stated}
+use Rattle.gi_spelling.specs.Stated.{StatedInstr, is_stated_after, defined_after, live_after, is_return, are_stated}
 use Rattle.gisel.specs.NormalForm.{last_place, first_fit, next, next_at, rewritten_at, rewritten, with_ids}
 use Rattle.gisel.specs.Rows.{Site, is_generic, is_generic_op, is_use_of, reads, is_used, short_in, selection_rows}
 use Rattle.gisel.specs.Selecting.{used_in, short_among}

@@ -5,9 +5,9 @@ use Rattle.std.proofs.lemmas.Bool.Decides.{nat_tests}
 use Rattle.std.proofs.lemmas.List.{append_assoc, append-nil, take-append-drop}
 use Rattle.std.specs.Prelude.{codes, nat_lt, not, ◌&&◌, ⊤}
 use Rattle.gi_mir.specs.Data.{ModuleData}
-use Rattle.gi_mir.specs.Printed.{name_at}
-use Rattle.gi_mir.specs.Spelling.{lines_of}
-use Rattle.gi_mir.specs.Stated.{StatedInstr, Gaps, physical_list, stated_lines, stated_line, instrs_lines, IsStatedText, is_stated_name, are_arguments, are_stated, is_return, is_stated_after, defined_after, live_after}
+use Rattle.gi_spelling.specs.Printed.{name_at}
+use Rattle.gi_spelling.specs.Spelling.{lines_of}
+use Rattle.gi_spelling.specs.Stated.{StatedInstr, Gaps, physical_list, stated_lines, stated_line, instrs_lines, IsStatedText, is_stated_name, are_arguments, are_stated, is_return, is_stated_after, defined_after, live_after}
 use Rattle.gisel.specs.Body.{IsBodyFrom, AllSmall}
 use Rattle.gisel.specs.Header.{IsHead, liveins_line}
 use Rattle.gisel.specs.Next.{IsWrongNext, IsLiveinsLine}

@@ -2,7 +2,7 @@
 use Rattle.std.specs.Prelude.{◌≡◌, ℕ, suc, ◌+◌, List, [], ◌∷◌, true, codes}
 use Rattle.gi_llt.specs.Bits.{wrapped}
 use Rattle.gi_llt.specs.declared.Llt.TheVariants.{Scalar}
-use Rattle.gi_mir.specs.AddExample.{function_of}
+use Rattle.gi_spelling.specs.AddExample.{function_of}
 use Rattle.gi_mir.specs.Data.{FunctionData}
 use Rattle.gi_mir.specs.declared.opcode.Opcode.TheVariants.{GenericAdd, Add}
 use Rattle.gi_mir.specs.declared.operand.Kind.TheVariants.{Banked, Class}

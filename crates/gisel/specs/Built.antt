@@ -2,7 +2,7 @@
 use Rattle.std.specs.Prelude.{◌≡◌, ℕ, Bool, true, false, List, [], ◌∷◌, None}
 use Rattle.std.specs.List.{AllZip}
 use Rattle.gi_mir.specs.Data.{BlockData, FunctionData, ModuleData}
-use Rattle.gi_mir.specs.Stated.{StatedInstr, CopyIn, CopyOut, IsStatedInstr, is_argument}
+use Rattle.gi_spelling.specs.Stated.{StatedInstr, CopyIn, CopyOut, IsStatedInstr, is_argument}
 
 -- the block and the keys of a function, whose instructions are these
 pub record IsBuilt (name : ℕ) (liveins : List ℕ) (instrs : List StatedInstr) (f : FunctionData) : Type 0 where

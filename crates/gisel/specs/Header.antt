@@ -1,7 +1,7 @@
 -- The lines before the instructions.
 use Rattle.std.specs.Prelude.{◌≡◌, ℕ, List, [], ◌∷◌, ◌++◌, codes, decimal}
-use Rattle.gi_mir.specs.Spelling.{lines_of}
-use Rattle.gi_mir.specs.Stated.{Gaps, key_line}
+use Rattle.gi_spelling.specs.Spelling.{lines_of}
+use Rattle.gi_spelling.specs.Stated.{Gaps, key_line}
 
 -- the line `key: value`
 pub record IsKeyLine (line key value : List ℕ) : Type 0 where

@@ -1,6 +1,6 @@
 -- Why the next line is refused.
 use Rattle.std.specs.Prelude.{◌≡◌, ℕ, ◌-◌, max, true, List, [], ◌∷◌, ◌++◌, codes}
-use Rattle.gi_mir.specs.Stated.{StatedInstr, key_line, are_arguments, physical_list, stated_line, is_stated_after}
+use Rattle.gi_spelling.specs.Stated.{StatedInstr, key_line, are_arguments, physical_list, stated_line, is_stated_after}
 
 -- there is none, and the line before it is meant; or it has this number, and isn't of the kind that is wanted
 abbrev pub IsWrongNext : (IsWanted : List ℕ → Type 0) (place : ℕ) (lines : List (List ℕ)) (line : ℕ) → Type 0

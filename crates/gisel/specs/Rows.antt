@@ -10,10 +10,9 @@ use Rattle.gi_mir.specs.declared.operand.Reg.{Reg}
 use Rattle.gi_mir.specs.declared.operand.Kind.{Kind}
 use Rattle.gi_mir.specs.declared.operand.Operand.{Operand}
 use Rattle.gi_mir.specs.declared.operand.Operand.TheVariants.{Def, Use, Phys, PhysDef, ImplicitDef, Int, Constant}
-use Rattle.gi_mir.specs.Data.{InstrData, FunctionData}
+use Rattle.gi_mir.specs.Data.{InstrData, FunctionData, no_flags}
 use Rattle.gi_mir.specs.Edit.{all_instrs, defines}
 use Rattle.gi_mir.specs.Row.{word_of}
-use Rattle.gi_mir.specs.Stated.{no_flags}
 use Rattle.gi_meaning.specs.Machine.{is_immediate}
 
 -- ══ Places ══

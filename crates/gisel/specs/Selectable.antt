@@ -2,7 +2,7 @@
 use Rattle.std.specs.Prelude.{◌≡◌, List, [], ◌∷◌, true, ⊤}
 use Rattle.std.specs.List.{AllZip}
 use Rattle.gi_mir.specs.Data.{BlockData, FunctionData}
-use Rattle.gi_mir.specs.Stated.{StatedInstr, IsStatedInstr, are_stated}
+use Rattle.gi_spelling.specs.Stated.{StatedInstr, IsStatedInstr, are_stated}
 
 pub record IsSelectable (f : FunctionData) : Type 0 where
   pub instrs : List StatedInstr

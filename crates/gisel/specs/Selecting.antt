@@ -8,9 +8,9 @@ use Rattle.gi_mir.specs.declared.operand.Reg.{Reg}
 use Rattle.gi_mir.specs.declared.operand.Kind.TheVariants.{Class}
 use Rattle.gi_mir.specs.declared.operand.Operand.{Operand}
 use Rattle.gi_mir.specs.declared.operand.Operand.TheVariants.{Def, Use, Phys, Int, Constant}
-use Rattle.gi_mir.specs.Data.{InstrData, FunctionData}
+use Rattle.gi_mir.specs.Data.{InstrData, FunctionData, no_flags}
 use Rattle.gi_mir.specs.Edit.{defines, with_instr}
-use Rattle.gi_mir.specs.Stated.{StatedInstr, IsStatedInstr, are_stated, no_flags}
+use Rattle.gi_spelling.specs.Stated.{StatedInstr, IsStatedInstr, are_stated}
 use Rattle.gisel.specs.Rows.{is_use_of, short_where}
 use Rattle.gisel.specs.Selection.{classed_instr}
 use Rattle.gisel.specs.declared.select.Root.{Root}

@@ -1,7 +1,7 @@
 -- What has been defined before a line.
 use Rattle.std.specs.Prelude.{◌≡◌, ℕ, Bool, not, ◌&&◌, List, nat_eq, nat_le}
 use Rattle.std.specs.List.{list_any}
-use Rattle.gi_mir.specs.Stated.{is_among}
+use Rattle.gi_spelling.specs.Stated.{is_among}
 
 -- virtual and physical registers, in any order
 pub record StandingData : Type 0 where

@@ -1,7 +1,7 @@
 -- A statement of the program as one of the text's instructions.
 use Rattle.std.specs.Prelude.{◌≡◌, ◌^◌, ◌<◌, true, ⊤}
 use Rattle.gi_llt.specs.Bits.{unsigned}
-use Rattle.gi_mir.specs.Stated.{StatedInstr, CopyIn, MakeConstant, AddUp, CopyOut, Return, is_short}
+use Rattle.gi_spelling.specs.Stated.{StatedInstr, CopyIn, MakeConstant, AddUp, CopyOut, Return, is_short}
 use Rattle.gisel.specs.declared.statement.Statement.{Statement}
 use Rattle.gisel.specs.declared.statement.Statement.TheVariants as statement
 

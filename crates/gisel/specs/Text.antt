@@ -2,8 +2,8 @@
 use Rattle.std.specs.Prelude.{◌≡◌, ℕ, List}
 use Rattle.gi_mir.specs.Data.{ModuleData}
 use Rattle.gi_mir.specs.Numbering.{numbered_module}
-use Rattle.gi_mir.specs.Printed.{printed}
-use Rattle.gi_mir.specs.Stated.{IsStatedText}
+use Rattle.gi_spelling.specs.Printed.{printed}
+use Rattle.gi_spelling.specs.Stated.{IsStatedText}
 use Rattle.gisel.specs.Selection.{IsSelectedModule}
 
 -- the read text states a module, and the written one is the printed text of what is selected from it, with its

@@ -4,7 +4,8 @@ ghost use Rattle.std.specs.Prelude.{◌≡◌, ℕ, ◌+◌, ◌<◌, ◌^◌, t
 ghost use Rattle.std.specs.List.{list_all};
 ghost use Rattle.gi_llt.specs.Bits.{unsigned};
 ghost use Rattle.gi_mir.specs.Formed.{is_formed};
-ghost use Rattle.gi_mir.specs.Stated.{StatedInstr, stated_instr, no_flags};
+ghost use Rattle.gi_spelling.specs.Stated.{StatedInstr, stated_instr};
+ghost use Rattle.gi_mir.specs.Data.{no_flags};
 ghost use Rattle.gisel.specs.Built.{IsBuilt, IsModule, has_arguments};
 ghost use Rattle.gisel.specs.Refused.{AtLine};
 ghost use Rattle.gisel.specs.Statement.{stated_of};

@@ -1,7 +1,7 @@
 //! What is shown of an example: a function that adds its two arguments, read, selected and printed.
 
-ghost use Rattle.gi_mir.specs.AddExample.{generic_module, selected_module, stated_text, selected_text};
-ghost use Rattle.gi_mir.specs.Spelling.{Spells};
+ghost use Rattle.gi_spelling.specs.AddExample.{generic_module, selected_module, stated_text, selected_text};
+ghost use Rattle.gi_spelling.specs.Spelling.{Spells};
 ghost use Rattle.gisel.specs.AddRuns.{before, after, ReturnsOne};
 
 /// The two texts of the example spell its two functions, and in every world that starts with the words
@@ -12,5 +12,5 @@ pub fn example_is_compiled()
     ensures before { ReturnsOne before }
     ensures after { ReturnsOne after }
 {
-    gi_mir::spelling::example_texts_spell();
+    gi_spelling::laws::example_texts_spell();
 }

@@ -1,7 +1,7 @@
 //! The line of one instruction.
 
 ghost use Rattle.std.specs.Prelude.{◌≡◌, ◌++◌, ℕ, ◌<◌, ◌≤◌, ◌^◌, ◌-◌, true, false, suc, decimal, pos, negsuc, IfSome, MatchOption};
-ghost use Rattle.gi_mir.specs.Stated.{StatedInstr, CopyIn, MakeConstant, AddUp, CopyOut, Return, stated_line};
+ghost use Rattle.gi_spelling.specs.Stated.{StatedInstr, CopyIn, MakeConstant, AddUp, CopyOut, Return, stated_line};
 ghost use Rattle.gisel.specs.Digits.{begins_with_digit, begins_otherwise, with_two, with_three};
 ghost use Rattle.gisel.specs.Statement.{stated_of, Fits};
 

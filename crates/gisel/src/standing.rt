@@ -4,7 +4,7 @@ ghost use Rattle.std.specs.Prelude.{◌≡◌, ℕ, ◌==◌, ◌||◌, List, []
 ghost use Rattle.std.specs.HashSet.{contains};
 ghost use Rattle.std.specs.Prelude.{nat_eq};
 ghost use Rattle.gi_llt.specs.Bits.{unsigned};
-ghost use Rattle.gi_mir.specs.Stated.{is_stated_after, defined_after, live_after, is_argument, is_short};
+ghost use Rattle.gi_spelling.specs.Stated.{is_stated_after, defined_after, live_after, is_argument, is_short};
 ghost use Rattle.gisel.specs.Refused.{AtLine};
 ghost use Rattle.gisel.specs.Statement.{stated_of};
 ghost use Rattle.gisel.specs.Standing.{IsStanding, is_new_where};

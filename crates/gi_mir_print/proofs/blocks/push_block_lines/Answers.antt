@@ -2,7 +2,7 @@ use Rattle.std.proofs.Common.{◌≡◌, ◌++◌, ℕ, List, OnOk, sym, ap, ap�
 use Rattle.gi_mir.specs.Data.{BlockData}
 use Rattle.gi_mir.specs.Edit.{HeadData}
 use Rattle.gi_mir.specs.Numbering.{number_in}
-use Rattle.gi_mir.specs.Printed.{block_lines, text_of, states_successors}
+use Rattle.gi_spelling.specs.Printed.{block_lines, text_of, states_successors}
 use Rattle.gi_mir_print.specs.Shown.{kind_at, shown_instrs}
 use Rattle.gi_mir_print.proofs.LineLemmas.{block_bytes, implied_renamed}
 use Rattle.gi_mir_print.proofs.ListSteps.{on_ok_joined, on_ok_same}

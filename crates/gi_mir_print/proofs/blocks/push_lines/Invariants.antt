@@ -1,5 +1,5 @@
 use Rattle.std.proofs.Common.{◌≡◌, ◌++◌, drop}
-use Rattle.gi_mir.specs.Printed.{instr_lines, text_of}
+use Rattle.gi_spelling.specs.Printed.{instr_lines, text_of}
 use Rattle.gi_mir_print.specs.Shown.{kind_at, shown_instrs}
 use Rattle.gi_mir_print.proofs.blocks.push_lines.Given as goal
 

@@ -1,4 +1,4 @@
-use Rattle.gi_mir.specs.Printed.{liveins_lines}
+use Rattle.gi_spelling.specs.Printed.{liveins_lines}
 use Rattle.gi_mir_print.specs.Shown.{successors_stated}
 use Rattle.gi_mir_print.proofs.LineLemmas.{noted_bytes}
 use Rattle.gi_mir_print.proofs.ListSteps.{on_ok_joined, on_ok_same}

@@ -1,5 +1,5 @@
 use Rattle.std.proofs.Common.{◌≡◌, ◌++◌, codes, drop}
-use Rattle.gi_mir.specs.Printed.{physical_pieces}
+use Rattle.gi_spelling.specs.Printed.{physical_pieces}
 use Rattle.gi_mir_print.proofs.PieceLemmas.{led}
 use Rattle.gi_mir_print.proofs.blocks.push_physicals.Given as goal
 

@@ -1,5 +1,5 @@
 use Rattle.std.proofs.Common.{◌++◌, drop, sym, ap, ◌∙◌, arith}
-use Rattle.gi_mir.specs.Printed.{block_pieces}
+use Rattle.gi_spelling.specs.Printed.{block_pieces}
 use Rattle.gi_mir_print.proofs.ListSteps.{drop_end, text_end}
 use Rattle.gi_mir_print.proofs.PieceLemmas.{led, sources_led}
 use Rattle.gi_mir_print.proofs.blocks.push_places.Goals as goal

@@ -1,7 +1,7 @@
 use Rattle.std.proofs.Common.{◌++◌, map, sym, ap, ap₂, ◌∙◌}
 use Rattle.gi_mir.specs.Data.{ModuleData}
 use Rattle.gi_mir.specs.Numbering.{numbered}
-use Rattle.gi_mir.specs.Printed.{ir_lines, functions_lines, text_of}
+use Rattle.gi_spelling.specs.Printed.{ir_lines, functions_lines, text_of}
 use Rattle.gi_mir_print.proofs.LineLemmas.{text_of_append}
 use Rattle.gi_mir_print.proofs.ListSteps.{on_ok_joined, on_ok_same}
 use Rattle.gi_mir_print.proofs.functions.print.Goals as goal

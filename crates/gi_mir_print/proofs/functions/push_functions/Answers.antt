@@ -1,6 +1,6 @@
 use Rattle.std.proofs.Common.{◌+◌, ◌++◌, drop, map, sym, ap, ◌∙◌}
 use Rattle.gi_mir.specs.Numbering.{numbered}
-use Rattle.gi_mir.specs.Printed.{printed_lines, functions_lines, text_of}
+use Rattle.gi_spelling.specs.Printed.{printed_lines, functions_lines, text_of}
 use Rattle.gi_mir_print.proofs.LineLemmas.{text_of_append}
 use Rattle.gi_mir_print.proofs.ListSteps.{drop_element, text_step}
 use Rattle.gi_mir_print.proofs.functions.push_functions.Goals as goal

@@ -1,6 +1,6 @@
 use Rattle.std.proofs.Common.{◌≡◌, ◌++◌, drop, map}
 use Rattle.gi_mir.specs.Numbering.{numbered}
-use Rattle.gi_mir.specs.Printed.{functions_lines, text_of}
+use Rattle.gi_spelling.specs.Printed.{functions_lines, text_of}
 use Rattle.gi_mir_print.proofs.functions.push_functions.Given as goal
 
 -- the text with what is left is the text with all

@@ -1,5 +1,5 @@
 use Rattle.std.proofs.Common.{◌≡◌, ◌++◌, drop}
-use Rattle.gi_mir.specs.Printed.{object_lines, text_of}
+use Rattle.gi_spelling.specs.Printed.{object_lines, text_of}
 use Rattle.gi_mir_print.proofs.functions.push_objects.Given as goal
 
 -- the text with what is left is the text with all

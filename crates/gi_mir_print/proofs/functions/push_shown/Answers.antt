@@ -1,5 +1,5 @@
 use Rattle.std.proofs.Common.{◌++◌, ap, ◌∙◌}
-use Rattle.gi_mir.specs.Printed.{stack_lines, text_of}
+use Rattle.gi_spelling.specs.Printed.{stack_lines, text_of}
 use Rattle.gi_mir_print.proofs.ListSteps.{on_ok_joined}
 use Rattle.gi_mir_print.proofs.functions.push_shown.Goals as goal
 

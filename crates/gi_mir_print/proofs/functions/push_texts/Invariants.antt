@@ -1,6 +1,6 @@
 use Rattle.std.proofs.Common.{◌≡◌, ◌++◌, drop, map}
 use Rattle.std.specs.Prelude.{string_bytes}
-use Rattle.gi_mir.specs.Printed.{text_of}
+use Rattle.gi_spelling.specs.Printed.{text_of}
 use Rattle.gi_mir_print.proofs.functions.push_texts.Given as goal
 
 -- the text with what is left is the text with all

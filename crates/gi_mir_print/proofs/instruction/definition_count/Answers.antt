@@ -1,5 +1,5 @@
 use Rattle.std.proofs.Common.{◌≤◌, not, rules, length, take, drop, sym, subst, ap, ◌∙◌}
-use Rattle.gi_mir.specs.Printed.{is_definition}
+use Rattle.gi_spelling.specs.Printed.{is_definition}
 use Rattle.gi_mir.proofs.Places.{place_of_answer, position_or_len-bound}
 use Rattle.gi_mir_print.proofs.OperandLemmas.{definitions_taken, sources_dropped}
 use Rattle.gi_mir_print.proofs.instruction.definition_count.Goals as goal

@@ -1,7 +1,7 @@
 use Rattle.std.proofs.Common.{◌≡◌, true, List, sym, subst}
 use Rattle.std.specs.List.{list_all}
 use Rattle.gi_mir.specs.declared.operand.Operand.{Operand}
-use Rattle.gi_mir.specs.Printed.{is_definition}
+use Rattle.gi_spelling.specs.Printed.{is_definition}
 use Rattle.gi_mir_print.proofs.OperandLemmas.{definitions_all}
 use Rattle.gi_mir_print.proofs.instruction.definitions.Goals as goal
 

@@ -1,7 +1,7 @@
 use Rattle.std.proofs.Common.{sym, ap, ◌∙◌}
 use Rattle.gi_llt.specs.Tokens.{piece_bytes}
 use Rattle.gi_mir.specs.Numbering.{number_in}
-use Rattle.gi_mir.specs.Printed.{defined_pieces, definition_pieces}
+use Rattle.gi_spelling.specs.Printed.{defined_pieces, definition_pieces}
 use Rattle.gi_mir_print.specs.Shown.{shown_operands}
 use Rattle.gi_mir_print.proofs.ListSteps.{on_ok_same}
 use Rattle.gi_mir_print.proofs.OperandLemmas.{definitions_renamed}

@@ -1,7 +1,7 @@
 use Rattle.std.proofs.Common.{sym, ap, ap₂, ◌∙◌}
 use Rattle.gi_llt.specs.Tokens.{piece_bytes}
 use Rattle.gi_mir.specs.Numbering.{number_in}
-use Rattle.gi_mir.specs.Printed.{source_forms, sources_pieces, source_pieces}
+use Rattle.gi_spelling.specs.Printed.{source_forms, sources_pieces, source_pieces}
 use Rattle.gi_mir_print.specs.Shown.{kind_at, shown_operands}
 use Rattle.gi_mir_print.proofs.ListSteps.{on_ok_same}
 use Rattle.gi_mir_print.proofs.OperandLemmas.{sources_renamed}

@@ -1,6 +1,6 @@
 use Rattle.std.proofs.Common.{◌++◌, [], codes, drop, sym, ap, ◌∙◌, arith}
 use Rattle.gi_mir.specs.Numbering.{number_in}
-use Rattle.gi_mir.specs.Printed.{definition_pieces}
+use Rattle.gi_spelling.specs.Printed.{definition_pieces}
 use Rattle.gi_mir_print.specs.Shown.{shown_operands}
 use Rattle.gi_mir_print.proofs.ListSteps.{drop_end, text_end, on_ok_joined, on_ok_same}
 use Rattle.gi_mir_print.proofs.OperandLemmas.{equals_some}

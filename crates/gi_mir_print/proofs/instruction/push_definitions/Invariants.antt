@@ -1,5 +1,5 @@
 use Rattle.std.proofs.Common.{◌≡◌, ◌++◌, [], drop}
-use Rattle.gi_mir.specs.Printed.{definition_pieces}
+use Rattle.gi_spelling.specs.Printed.{definition_pieces}
 use Rattle.gi_mir_print.specs.Shown.{shown_operands}
 use Rattle.gi_mir_print.proofs.PieceLemmas.{led}
 use Rattle.gi_mir_print.proofs.instruction.push_definitions.Given as goal

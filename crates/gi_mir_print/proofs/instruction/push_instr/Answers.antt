@@ -1,7 +1,7 @@
 use Rattle.std.proofs.Common.{◌≡◌, ◌++◌, List, OnOk, ap, ◌∙◌, subst}
 use Rattle.gi_llt.specs.Tokens.{piece_bytes}
 use Rattle.gi_mir.specs.Data.{InstrData}
-use Rattle.gi_mir.specs.Printed.{instr_pieces}
+use Rattle.gi_spelling.specs.Printed.{instr_pieces}
 use Rattle.gi_mir.specs.declared.operand.Operand.{Operand}
 use Rattle.gi_mir_print.specs.Shown.{kind_at, shown_instr}
 use Rattle.gi_mir_print.proofs.ListSteps.{on_ok_joined, on_ok_same}

@@ -1,6 +1,6 @@
 use Rattle.std.proofs.Common.{List, ℕ, ◌++◌, ap, ◌∙◌}
 use Rattle.gi_mir.specs.Numbering.{numbered_module}
-use Rattle.gi_mir.specs.Printed.{printed}
+use Rattle.gi_spelling.specs.Printed.{printed}
 use Rattle.gisel.proofs.CompileLaws.{compiled}
 use Rattle.gisel.proofs.compile.compile.Goals as goal
 

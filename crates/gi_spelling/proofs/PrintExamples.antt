@@ -14,9 +14,8 @@ use Rattle.gi_mir.specs.declared.operand.Pred.TheVariants.{Ult}
 use Rattle.gi_mir.specs.declared.operand.SymbolFlag.TheVariants.{Plain, Call, Hi}
 use Rattle.gi_mir.specs.declared.operand.Operand.{Operand}
 use Rattle.gi_mir.specs.declared.operand.Operand.TheVariants.{Def, Use, Phys, ImplicitUse, ImplicitDef, Int, Constant, Block, Predicate, Frame, Global, Routine, SavedMask}
-use Rattle.gi_mir.specs.Data.{InstrData, FunctionData}
-use Rattle.gi_mir.specs.Stated.{reg_of, no_flags}
-use Rattle.gi_mir.specs.Printed.{instr_pieces, printed_lines}
+use Rattle.gi_mir.specs.Data.{InstrData, FunctionData, reg_of, no_flags}
+use Rattle.gi_spelling.specs.Printed.{instr_pieces, printed_lines}
 
 -- %0 and %1 are of 32 bits, %2 is a pointer, %3 of 64 bits, and the others are of class `gpr`
 abbrev kinds : ℕ → Kind

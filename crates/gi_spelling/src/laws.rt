@@ -1,12 +1,12 @@
 //! What is promised of texts and the modules that they spell.
 
 ghost use Rattle.std.specs.Prelude.{List, ℕ};
-ghost use Rattle.gi_mir.specs.AddExample.{generic_module, selected_module, stated_text, selected_text};
+ghost use Rattle.gi_spelling.specs.AddExample.{generic_module, selected_module, stated_text, selected_text};
 ghost use Rattle.gi_mir.specs.Data.{ModuleData};
-ghost use Rattle.gi_mir.specs.Printable.{IsPrintableModule};
-ghost use Rattle.gi_mir.specs.Printed.{printed};
-ghost use Rattle.gi_mir.specs.Spelling.{Spells};
-ghost use Rattle.gi_mir.specs.Stated.{IsStatedText};
+ghost use Rattle.gi_spelling.specs.Printable.{IsPrintableModule};
+ghost use Rattle.gi_spelling.specs.Printed.{printed};
+ghost use Rattle.gi_spelling.specs.Spelling.{Spells};
+ghost use Rattle.gi_spelling.specs.Stated.{IsStatedText};
 
 /// The printed text of a module spells that module.
 pub fn printed_text_spells()

@@ -6,11 +6,10 @@ use Rattle.gi_llt.specs.declared.Llt.TheVariants.{Scalar}
 use Rattle.gi_mir.specs.declared.opcode.Opcode.TheVariants as op
 use Rattle.gi_mir.specs.declared.operand.Kind.TheVariants.{Generic}
 use Rattle.gi_mir.specs.declared.operand.Operand.TheVariants.{Def, Use, Phys, Block, ImplicitUse}
-use Rattle.gi_mir.specs.Data.{FunctionData, ModuleData}
-use Rattle.gi_mir.specs.Printed.{name_at, text_of}
-use Rattle.gi_mir.specs.Stated.{reg_of}
-use Rattle.gi_mir.specs.Spelling.{Section, Spells}
-use Rattle.gi_mir.specs.AddExample.{instr, generic_module}
+use Rattle.gi_mir.specs.Data.{FunctionData, ModuleData, reg_of}
+use Rattle.gi_spelling.specs.Printed.{name_at, text_of}
+use Rattle.gi_spelling.specs.Spelling.{Section, Spells}
+use Rattle.gi_spelling.specs.AddExample.{instr, generic_module}
 
 -- comments, blanks, empty lines, other keys, and keys in another order
 abbrev free_text : List ℕ

@@ -8,9 +8,8 @@ use Rattle.gi_mir.specs.declared.operand.Kind.{Kind}
 use Rattle.gi_mir.specs.declared.operand.Kind.TheVariants.{Banked, Class}
 use Rattle.gi_mir.specs.declared.operand.Operand.{Operand}
 use Rattle.gi_mir.specs.declared.operand.Operand.TheVariants.{Def, Use, Phys, PhysDef, ImplicitUse}
-use Rattle.gi_mir.specs.Data.{InstrData, BlockData, FunctionData, ModuleData}
-use Rattle.gi_mir.specs.Printed.{text_of}
-use Rattle.gi_mir.specs.Stated.{reg_of, no_flags}
+use Rattle.gi_mir.specs.Data.{InstrData, BlockData, FunctionData, ModuleData, reg_of, no_flags}
+use Rattle.gi_spelling.specs.Printed.{text_of}
 
 abbrev pub instr : Opcode → List Operand → InstrData
 instr op operands = record { op = op; flags = no_flags; operands = operands; mem = None; line = 1 }

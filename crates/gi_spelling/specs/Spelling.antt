@@ -12,7 +12,7 @@ use Rattle.gi_llt.specs.Tokens.{LexemeKind, Word, Lexeme, is_word_start, is_word
 use Rattle.gi_mir.specs.declared.operand.Kind.{Kind}
 use Rattle.gi_mir.specs.Data.{InstrData, BlockData, FunctionData, ModuleData}
 use Rattle.gi_mir.specs.Registers.{kind_of}
-use Rattle.gi_mir.specs.Printed.{name_at, instr_pieces, implied_successors, block_head_pieces, successors_pieces, liveins_pieces}
+use Rattle.gi_spelling.specs.Printed.{name_at, instr_pieces, implied_successors, block_head_pieces, successors_pieces, liveins_pieces}
 
 -- the lines of a text: a line feed ends a line, and a last line without one counts if it isn't empty
 abbrev pub onto_first : ℕ → List (List ℕ) → List (List ℕ)

@@ -8,14 +8,12 @@ use Rattle.gi_llt.specs.Bits.{signed}
 use Rattle.gi_llt.specs.Tokens.{is_word_start, is_digit}
 use Rattle.gi_llt.specs.declared.Llt.TheVariants.{Scalar}
 use Rattle.gi_mir.specs.declared.opcode.Opcode.TheVariants.{Copy, GenericConstant, GenericAdd, PseudoReturn}
-use Rattle.gi_mir.specs.declared.operand.Reg.{Reg}
-use Rattle.gi_mir.specs.declared.operand.Flags.{Flags}
 use Rattle.gi_mir.specs.declared.operand.Kind.{Kind}
 use Rattle.gi_mir.specs.declared.operand.Kind.TheVariants.{Banked}
 use Rattle.gi_mir.specs.declared.operand.Operand.TheVariants.{Def, Use, Phys, PhysDef, ImplicitUse, Constant}
-use Rattle.gi_mir.specs.Data.{InstrData, BlockData, FunctionData, ModuleData}
-use Rattle.gi_mir.specs.Printed.{name_at}
-use Rattle.gi_mir.specs.Spelling.{lines_of}
+use Rattle.gi_mir.specs.Data.{InstrData, BlockData, FunctionData, ModuleData, no_flags, reg_of}
+use Rattle.gi_spelling.specs.Printed.{name_at}
+use Rattle.gi_spelling.specs.Spelling.{lines_of}
 
 -- one of the five instructions
 pub data StatedInstr : Type 0 where
@@ -29,12 +27,6 @@ pub data StatedInstr : Type 0 where
   CopyOut : (physical reg : ℕ) → StatedInstr
   -- `PseudoRET implicit $x10`
   Return : StatedInstr
-
-abbrev pub reg_of : ℕ → Reg
-reg_of number = record { 0 = number }
-
-abbrev pub no_flags : Flags
-no_flags = record { nuw = false; nsw = false; exact = false; disjoint = false; nneg = false }
 
 abbrev pub stated_kind : Kind
 stated_kind = Banked (Scalar 32)

@@ -1,13 +1,13 @@
 -- The example's texts spell its two modules.
 use Rattle.std.proofs.Common.{◌≡◌, [], ◌∷◌, true, false, refl}
 use Rattle.std.specs.Fmt.{digits}
-use Rattle.gi_mir.specs.AddExample.{block_of, function_of, generic_module, selected_module, stated_text, selected_text}
+use Rattle.gi_spelling.specs.AddExample.{block_of, function_of, generic_module, selected_module, stated_text, selected_text}
 use Rattle.gi_mir.specs.declared.opcode.Opcode.TheVariants.{GenericAdd, Add}
 use Rattle.gi_mir.specs.declared.operand.Kind.TheVariants.{Banked, Class}
 use Rattle.gi_llt.specs.declared.Llt.TheVariants.{Scalar}
-use Rattle.gi_mir.specs.Printed.{printed}
-use Rattle.gi_mir.specs.Spelling.{Spells}
-use Rattle.gi_mir.specs.Stated.{CopyIn, AddUp, CopyOut, Return, IsStatedText}
+use Rattle.gi_spelling.specs.Printed.{printed}
+use Rattle.gi_spelling.specs.Spelling.{Spells}
+use Rattle.gi_spelling.specs.Stated.{CopyIn, AddUp, CopyOut, Return, IsStatedText}
 
 pub prints_selected : printed selected_module ≡ selected_text
 unfolding digits

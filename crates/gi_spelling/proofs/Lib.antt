@@ -1,0 +1,9 @@
+pub mod AddExample
+pub mod BlockLines
+pub mod Blocks
+pub mod Documents
+pub mod InstrPieces
+pub mod PrintExamples
+pub mod SpellingExamples
+pub mod StatedLines
+pub mod Texts

@@ -1,0 +1,5 @@
+pub mod AddExample
+pub mod Printable
+pub mod Printed
+pub mod Spelling
+pub mod Stated

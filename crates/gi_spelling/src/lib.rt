@@ -1,0 +1,4 @@
+//! What Machine IR in text is: which module a text spells, and the text that a module is printed as.
+#![tactic(auto)]
+
+pub mod laws;
