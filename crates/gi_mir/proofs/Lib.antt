@@ -2,6 +2,7 @@ pub mod Definitions
 pub mod FormedLemmas
 pub mod IdsLemmas
 pub mod KindLemmas
+pub mod LettersLemmas
 pub mod Live
 pub mod NamesLemmas
 pub mod NumberingLaws

@@ -1,7 +1,7 @@
 pub mod Accepted
-pub mod Classes
 pub mod Data
 pub mod Edit
+pub mod Entries
 pub mod Formed
 pub mod Ids
 pub mod Names
@@ -9,3 +9,5 @@ pub mod Numbering
 pub mod Registers
 pub mod Renaming
 pub mod Row
+pub mod Types
+pub mod Typings

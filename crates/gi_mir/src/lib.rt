@@ -3,6 +3,7 @@
 
 pub mod accepted;
 pub mod block;
+pub mod entry;
 pub mod formed;
 pub mod function;
 pub mod instr;
@@ -13,3 +14,5 @@ pub mod operand;
 pub mod row;
 #[cfg(test)]
 mod tests;
+pub mod types;
+pub mod typing;
