@@ -8,6 +8,8 @@ pub mod Names
 pub mod Numbering
 pub mod Registers
 pub mod Renaming
+pub mod Routines
 pub mod Row
+pub mod Stages
 pub mod Types
 pub mod Typings

@@ -11,7 +11,9 @@ pub mod module;
 pub mod names;
 pub mod opcode;
 pub mod operand;
+pub mod routine;
 pub mod row;
+pub mod stage;
 #[cfg(test)]
 mod tests;
 pub mod types;
