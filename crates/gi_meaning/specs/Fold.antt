@@ -2,7 +2,8 @@
 use Rattle.std.specs.Prelude.{ℕ, ◌^◌, List, [], ◌∷◌, Bool, true, false, ◌&&◌, nat_lt, Option, Some, None, if◌then◌else◌}
 use Rattle.gi_llt.specs.Llt.{width_of}
 use Rattle.gi_llt.specs.declared.Llt.{Llt}
-use Rattle.gi_mir.specs.Accepted.{accepts, is_any}
+use Rattle.gi_mir.specs.Accepted.{accepts}
+use Rattle.gi_mir.specs.Types.{is_any}
 use Rattle.gi_mir.specs.declared.opcode.Opcode.{Opcode}
 use Rattle.gi_mir.specs.declared.opcode.Opcode.TheVariants as op
 use Rattle.gi_mir.specs.declared.operand.Flags.{Flags}

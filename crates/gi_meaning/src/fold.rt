@@ -3,12 +3,15 @@
 ghost use Rattle.std.specs.Prelude.{◌≡◌, ◌+◌, ◌*◌, ◌^◌, ◌<◌, ◌≤◌, ◌⊎◌, true, [], ◌∷◌, is_some, IfSome};
 ghost use Rattle.gi_llt.specs.Llt.{width_of};
 ghost use Rattle.gi_mir.specs.Accepted as accepted;
+ghost use Rattle.gi_mir.specs.Types as tests;
+ghost use Rattle.gi_mir.specs.Typings as typings;
 ghost use Rattle.gi_meaning.specs.Fold as folding;
 ghost use Rattle.gi_meaning.specs.Generic as generic;
 ghost use Rattle.gi_meaning.specs.Meaning.{meaning_of};
 ghost use Rattle.gi_meaning.specs.Plain.{given_of, is_plain};
 ghost use Rattle.gi_meaning.specs.Argument.{Test, Value};
 ghost use Rattle.gi_mir.specs.declared.opcode.Opcode as Opcode;
+ghost use Rattle.gi_mir.specs.declared.typing.Class.TheVariants as Class;
 
 use crate::bits::has_bits;
 use crate::choices::{holds, selected};
@@ -18,9 +21,10 @@ use crate::parts::merged_of;
 use crate::shifts::{free, funnel_left, funnel_right};
 use crate::sums::bit_of;
 use gi_llt::{Llt, Target, width};
-use gi_mir::accepted::{accepts, is_any};
+use gi_mir::accepted::accepts;
 use gi_mir::opcode::Opcode;
 use gi_mir::operand::{Flags, Pred};
+use gi_mir::types::is_any;
 
 /// Whether an opcode has one result, and its other operands are registers and at most a predicate.
 pub fn is_computed(op: Opcode) -> bool
@@ -122,7 +126,7 @@ pub fn are_values(target: Target, types: &[Llt], values: &[u128]) -> bool
 /// What a merge gives of its parts.
 pub fn merged(target: Target, outcome: Llt, types: &[Llt], values: &[u128]) -> Gives
     requires xlen { (target.xlen ≡ 32) ⊎ (target.xlen ≡ 64) }
-    requires accepted { accepted.merge target.xlen (outcome ∷ []) types.now ≡ true }
+    requires accepted { accepted.are_typed target.xlen typings.merge (outcome ∷ []) types.now ≡ true }
     requires fit { folding.are_values target.xlen types.now values.now ≡ true }
     ensures { given_of result ≡ generic.merge (width_of target.xlen outcome ∷ []) (folding.registers target.xlen types.now values.now) }
 {
@@ -160,7 +164,7 @@ pub fn high_product(
 /// What a comparison gives.
 pub fn compared(target: Target, pred: Pred, outcome: Llt, types: &[Llt], values: &[u128]) -> Gives
     requires xlen { (target.xlen ≡ 32) ⊎ (target.xlen ≡ 64) }
-    requires accepted { accepted.comparison target.xlen (outcome ∷ []) types.now ≡ true }
+    requires accepted { accepted.are_typed target.xlen typings.comparison (outcome ∷ []) types.now ≡ true }
     requires fit { folding.are_values target.xlen types.now values.now ≡ true }
     ensures { given_of result ≡ generic.comparison (width_of target.xlen outcome ∷ []) (Test pred ∷ folding.registers target.xlen types.now values.now) }
 {
@@ -172,7 +176,7 @@ pub fn compared(target: Target, pred: Pred, outcome: Llt, types: &[Llt], values:
 
 /// What a selection gives.
 pub fn chosen(target: Target, flags: Flags, outcome: Llt, types: &[Llt], values: &[u128]) -> Gives
-    requires accepted { accepted.selection target.xlen (outcome ∷ []) types.now ≡ true }
+    requires accepted { accepted.are_typed target.xlen typings.selection (outcome ∷ []) types.now ≡ true }
     requires fit { folding.are_values target.xlen types.now values.now ≡ true }
     ensures { given_of result ≡ folding.gives_of (meaning_of flags Opcode.GenericSelect) (width_of target.xlen outcome ∷ []) (folding.registers target.xlen types.now values.now) }
 {
@@ -202,7 +206,7 @@ pub fn funnelled(n: u16, op: Opcode, flags: Flags, a: u128, b: u128, k: u128) ->
 pub fn of_one(target: Target, op: Opcode, flags: Flags, outcome: Llt, ty: Llt, a: u128) -> Gives
     requires xlen { (target.xlen ≡ 32) ⊎ (target.xlen ≡ 64) }
     requires few { folding.reads_few op ≡ true }
-    requires any { accepted.is_any target.xlen outcome ≡ true }
+    requires any { tests.is_any target.xlen outcome ≡ true }
     requires value { folding.is_value target.xlen ty a ≡ true }
     ensures { given_of result ≡ folding.gives_of (meaning_of flags op) (width_of target.xlen outcome ∷ []) (Value (width_of target.xlen ty) a ∷ []) }
 {
@@ -234,7 +238,7 @@ pub fn of_few(
     requires xlen { (target.xlen ≡ 32) ⊎ (target.xlen ≡ 64) }
     requires computed { folding.is_computed op ≡ true }
     requires few { folding.reads_few op ≡ true }
-    requires any { accepted.is_any target.xlen outcome ≡ true }
+    requires any { tests.is_any target.xlen outcome ≡ true }
     requires accepted { accepted.accepts target.xlen op (outcome ∷ []) types.now ≡ true }
     requires fit { folding.are_values target.xlen types.now values.now ≡ true }
     ensures { given_of result ≡ folding.gives_of (meaning_of flags op) (width_of target.xlen outcome ∷ []) (folding.registers target.xlen types.now values.now) }
@@ -258,7 +262,7 @@ pub fn of_three(
 ) -> Gives
     requires xlen { (target.xlen ≡ 32) ⊎ (target.xlen ≡ 64) }
     requires funnel { (op ≡ Opcode.GenericFunnelShiftLeft) ⊎ (op ≡ Opcode.GenericFunnelShiftRight) }
-    requires accepted { accepted.three_alike (accepted.is_rotatable target.xlen) (outcome ∷ []) types.now ≡ true }
+    requires accepted { accepted.are_typed target.xlen (typings.three_alike Class.Rotatable) (outcome ∷ []) types.now ≡ true }
     requires fit { folding.are_values target.xlen types.now values.now ≡ true }
     ensures { given_of result ≡ folding.gives_of (meaning_of flags op) (width_of target.xlen outcome ∷ []) (folding.registers target.xlen types.now values.now) }
 {
@@ -291,7 +295,7 @@ pub fn computed(
     requires xlen { (target.xlen ≡ 32) ⊎ (target.xlen ≡ 64) }
     requires computed { folding.is_computed op ≡ true }
     requires test { folding.takes op pred ≡ true }
-    requires any { accepted.is_any target.xlen outcome ≡ true }
+    requires any { tests.is_any target.xlen outcome ≡ true }
     requires accepted { accepted.accepts target.xlen op (outcome ∷ []) types.now ≡ true }
     requires fit { folding.are_values target.xlen types.now values.now ≡ true }
     ensures { given_of result ≡ folding.gives_of (meaning_of flags op) (width_of target.xlen outcome ∷ []) (folding.after_test pred (folding.registers target.xlen types.now values.now)) }
