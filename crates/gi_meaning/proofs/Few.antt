@@ -13,7 +13,7 @@ use Rattle.gi_mir.specs.declared.opcode.Opcode.TheVariants as op
 use Rattle.gi_mir.specs.declared.operand.Flags.{Flags}
 use Rattle.gi_meaning.specs.Given.{free}
 use Rattle.gi_meaning.specs.Meaning.{meaning_of}
-use Rattle.gi_meaning.specs.Fold.{gives_of, is_computed, reads_few, are_values, is_value, registers}
+use Rattle.gi_meaning.specs.Fold.{gives_of, is_computed, has_predicate, reads_few, are_values, is_value, registers}
 use Rattle.gi_meaning.specs.Argument.{Value}
 use Rattle.gi_meaning.specs.Plain.{is_plain}
 use Rattle.gi_meaning.proofs.Folding.{same_width, values_count, value_like, value_bits}
@@ -24,6 +24,11 @@ few_plain op.GenericUnmergeValues h = absurd (false≢true h)
 few_plain op.GenericUnsignedMultiplyHigh h = absurd (false≢true h)
 few_plain op.GenericSignedMultiplyHigh h = absurd (false≢true h)
 few_plain _ h = refl
+
+-- a comparison alone has a predicate
+pub predicate_of_comparison : (o : Opcode) → has_predicate o ≡ true → o ≡ op.GenericCompare
+predicate_of_comparison op.GenericCompare h = refl
+predicate_of_comparison _ h = absurd (false≢true h)
 
 pub few_none : (x n : ℕ) (flags : Flags) (op : Opcode) (whole : Llt) → is_computed op ≡ true → reads_few op ≡ true → accepts x op (whole ∷ []) [] ≡ true → gives_of (meaning_of flags op) (n ∷ []) [] ≡ free n
 few_none x n flags op.GenericImplicitDef whole c f h = refl
