@@ -7,4 +7,5 @@ pub mod Live
 pub mod NamesLemmas
 pub mod NumberingLaws
 pub mod Places
+pub mod TypingLaws
 pub mod Words

@@ -1,6 +1,7 @@
 //! The types that each opcode accepts.
 
-ghost use Rattle.std.specs.Prelude.{◌≡◌, ◌+◌, ◌≤◌, ◌⊎◌, ◌&&◌, slice_get, length};
+ghost use Rattle.std.specs.Prelude.{◌≡◌, ℕ, ◌+◌, ◌≤◌, ◌⊎◌, ◌&&◌, List, Some, true, slice_get, length};
+ghost use Rattle.gi_llt.specs.declared.Llt.{Llt};
 ghost use Rattle.std.specs.List.{list_all, list_any};
 ghost use Rattle.gi_mir.specs.Accepted as accepted;
 ghost use Rattle.gi_mir.specs.Row.{rows_of};
@@ -344,4 +345,12 @@ fn takes_constant(op: Opcode) -> bool
     ensures { result ≡ list_any (λ forms. list_any accepted.is_constant_form forms) (rows_of op) }
 {
     any_constant(op.rows())
+}
+
+/// Types that are accepted together are accepted alone, each at its place.
+pub fn accepted_alone(op: Opcode)
+    ensures results { (x : ℕ) (results sources : List Llt) (place : ℕ) (ty : Llt) → accepted.accepts x op results sources ≡ true → slice_get results place ≡ Some ty → accepted.is_result_type x op place ty ≡ true }
+    ensures sources { (x : ℕ) (results sources : List Llt) (place : ℕ) (ty : Llt) → accepted.accepts x op results sources ≡ true → slice_get sources place ≡ Some ty → accepted.is_source_type x op place ty ≡ true }
+{
+    let _ = op;
 }
