@@ -1,8 +1,9 @@
 //! The types that each opcode accepts.
 
-ghost use Rattle.std.specs.Prelude.{◌≡◌, ℕ, ◌+◌, ◌≤◌, ◌⊎◌, ◌&&◌, List, Some, true, slice_get, length};
+ghost use Rattle.std.specs.Prelude.{◌≡◌, ℕ, ◌+◌, ◌≤◌, ◌⊎◌, ◌&&◌, List, Some, true, false, slice_get, length};
 ghost use Rattle.gi_llt.specs.declared.Llt.{Llt};
 ghost use Rattle.std.specs.List.{list_all, list_any};
+ghost use Rattle.std.specs.Option.{option_map_or};
 ghost use Rattle.gi_mir.specs.Accepted as accepted;
 ghost use Rattle.gi_mir.specs.Row.{rows_of};
 ghost use Rattle.gi_mir.specs.Types as tests;
@@ -240,19 +241,12 @@ pub fn accepts(target: Target, op: Opcode, results: &[Llt], sources: &[Llt]) -> 
     }
 }
 
-/// Whether a type is of the class of the letter at a place.
-fn is_typed_at(
-    x: u16,
-    typing: &Typing,
-    letters: &[Letter],
-    more: Option<Letter>,
-    place: usize,
-    ty: Llt,
-) -> bool
+/// Whether a type is of the class of the letter at its place, where there is one.
+fn is_lettered(x: u16, typing: &Typing, letter: Option<Letter>, ty: Llt) -> bool
     requires { x ≤ 64 }
-    ensures { result ≡ accepted.is_typed_at x typing.now letters.now more place ty }
+    ensures { result ≡ option_map_or (λ l. tests.is_of x (accepted.class_of typing.now l) ty) letter false }
 {
-    match letter_at(letters, more, place) {
+    match letter {
         Some(l) => is_of(x, class_of(typing, l), ty),
         None => false,
     }
@@ -266,15 +260,8 @@ pub fn is_result_type(target: Target, op: Opcode, place: usize, ty: Llt) -> bool
 {
     match op.typing() {
         Some(typing) => {
-            let letters = typing.results;
-            is_typed_at(
-                target.xlen,
-                &typing,
-                letters,
-                typing.more_results,
-                place,
-                ty,
-            )
+            let letter = letter_at(typing.results, typing.more_results, place);
+            is_lettered(target.xlen, &typing, letter, ty)
         }
         None => true,
     }
@@ -287,15 +274,8 @@ pub fn is_source_type(target: Target, op: Opcode, place: usize, ty: Llt) -> bool
 {
     match op.typing() {
         Some(typing) => {
-            let letters = typing.sources;
-            is_typed_at(
-                target.xlen,
-                &typing,
-                letters,
-                typing.more_sources,
-                place,
-                ty,
-            )
+            let letter = letter_at(typing.sources, typing.more_sources, place);
+            is_lettered(target.xlen, &typing, letter, ty)
         }
         None => true,
     }
@@ -316,6 +296,21 @@ fn has_constant(row: &[Form]) -> bool
     row.iter().any(|form| matches!(form, Form::Constant))
 }
 
+/// Whether a constant stands in one of these rows.
+fn any_constant(rows: &[&[Form]]) -> bool
+    ensures { result ≡ list_any (λ row. list_any accepted.is_constant_form row.now) rows.now }
+{
+    rows.iter().any(|row| has_constant(row))
+}
+
+/// Whether an opcode has a row with a constant.
+#[tactic(auto, using(crate::proofs::FormedLemmas::any_mapped))]
+fn takes_constant(op: Opcode) -> bool
+    ensures { result ≡ list_any (λ forms. list_any accepted.is_constant_form forms) (rows_of op) }
+{
+    any_constant(op.rows())
+}
+
 /// Whether a constant of so many bits is among its opcode's.
 pub fn is_constant_type(target: Target, op: Opcode, bits: u16) -> bool
     requires { (target.xlen ≡ 32) ⊎ (target.xlen ≡ 64) }
@@ -330,21 +325,6 @@ pub fn is_in_register(target: Target, bits: u16, k: i128) -> bool
     ensures { result ≡ accepted.is_in_register target.xlen bits k }
 {
     is_scalar(target.xlen, Llt::Scalar(bits)) && 0 < k && k < i128::from(bits)
-}
-
-/// Whether a constant stands in one of these rows.
-fn any_constant(rows: &[&[Form]]) -> bool
-    ensures { result ≡ list_any (λ row. list_any accepted.is_constant_form row.now) rows.now }
-{
-    rows.iter().any(|row| has_constant(row))
-}
-
-/// Whether an opcode has a row with a constant.
-#[tactic(auto, using(crate::proofs::FormedLemmas::any_mapped))]
-fn takes_constant(op: Opcode) -> bool
-    ensures { result ≡ list_any (λ forms. list_any accepted.is_constant_form forms) (rows_of op) }
-{
-    any_constant(op.rows())
 }
 
 /// Types that are accepted together are accepted alone, each at its place.
