@@ -4,13 +4,16 @@ use Rattle.std.proofs.lemmas.Bool.{and_parts, eqb-true, false≢true}
 use Rattle.gi_llt.specs.declared.Llt.{Llt}
 use Rattle.gi_llt.specs.declared.Llt.TheVariants.{Scalar, Pointer}
 use Rattle.gi_llt.specs.Llt.{width_of}
-use Rattle.gi_mir.specs.Accepted.{accepts, three_alike, is_any, is_scalar, is_pointer, is_register, is_rotatable, same_type}
+use Rattle.gi_mir.specs.Accepted.{accepts, are_typed}
+use Rattle.gi_mir.specs.Types.{is_any, is_scalar, is_pointer, is_register, is_rotatable, same_type}
+use Rattle.gi_mir.specs.Typings.{three_alike}
+use Rattle.gi_mir.specs.declared.typing.Class.TheVariants as class
 use Rattle.gi_mir.specs.declared.opcode.Opcode.{Opcode}
 use Rattle.gi_mir.specs.declared.opcode.Opcode.TheVariants as op
 use Rattle.gi_mir.specs.declared.operand.Flags.{Flags}
 use Rattle.gi_meaning.specs.Given.{free}
 use Rattle.gi_meaning.specs.Meaning.{meaning_of}
-use Rattle.gi_meaning.specs.Fold.{gives_of, is_computed, reads_few, are_values, is_value, registers}
+use Rattle.gi_meaning.specs.Fold.{gives_of, is_computed, has_predicate, reads_few, are_values, is_value, registers}
 use Rattle.gi_meaning.specs.Argument.{Value}
 use Rattle.gi_meaning.specs.Plain.{is_plain}
 use Rattle.gi_meaning.proofs.Folding.{same_width, values_count, value_like, value_bits}
@@ -22,6 +25,11 @@ few_plain op.GenericUnsignedMultiplyHigh h = absurd (false≢true h)
 few_plain op.GenericSignedMultiplyHigh h = absurd (false≢true h)
 few_plain _ h = refl
 
+-- a comparison alone has a predicate
+pub predicate_of_comparison : (o : Opcode) → has_predicate o ≡ true → o ≡ op.GenericCompare
+predicate_of_comparison op.GenericCompare h = refl
+predicate_of_comparison _ h = absurd (false≢true h)
+
 pub few_none : (x n : ℕ) (flags : Flags) (op : Opcode) (whole : Llt) → is_computed op ≡ true → reads_few op ≡ true → accepts x op (whole ∷ []) [] ≡ true → gives_of (meaning_of flags op) (n ∷ []) [] ≡ free n
 few_none x n flags op.GenericImplicitDef whole c f h = refl
 few_none x n flags _ whole c f h = cc
@@ -30,11 +38,17 @@ pub few_more : (x : ℕ) (op : Opcode) (whole a b d : Llt) (types : List Llt) �
 few_more x op.Copy whole a b d types c f h = false≢true h
 few_more x _ whole a b d types c f h = let z : false ≡ true = cc in false≢true z
 
-alike_two : (x : ℕ) (t : Bool) (whole a b : Llt) → (t && same_type whole a && same_type whole b) ≡ true → (width_of x a ≡ width_of x whole) × (width_of x b ≡ width_of x whole)
+-- a test without what holds anyhow
+bare : (t : Bool) → ((t && true) && true) ≡ true → t ≡ true
+bare t h = (and_parts t true (and_parts (t && true) true h).0).0
+
+alike_two : (x : ℕ) (t : Bool) (whole a b : Llt) → (((t && (same_type whole a && (same_type whole b && true))) && true) && true) ≡ true → (width_of x a ≡ width_of x whole) × (width_of x b ≡ width_of x whole)
 alike_two x t whole a b h =
-    let p : ((t && same_type whole a) ≡ true) × (same_type whole b ≡ true) = and_parts (t && same_type whole a) (same_type whole b) h in
-    let q : (t ≡ true) × (same_type whole a ≡ true) = and_parts t (same_type whole a) p.0 in
-    (sym (same_width x whole a q.1), sym (same_width x whole b p.1))
+    let p : (t ≡ true) × ((same_type whole a && (same_type whole b && true)) ≡ true) =
+    and_parts t (same_type whole a && (same_type whole b && true)) (bare (t && (same_type whole a && (same_type whole b && true))) h) in
+    let q : (same_type whole a ≡ true) × ((same_type whole b && true) ≡ true) = and_parts (same_type whole a) (same_type whole b && true) p.1 in
+    let r : (same_type whole b ≡ true) × (true ≡ true) = and_parts (same_type whole b) true q.1 in
+    (sym (same_width x whole a q.0), sym (same_width x whole b r.0))
 
 pointer_width : (x : ℕ) (a : Llt) → is_pointer a ≡ true → width_of x a ≡ x
 pointer_width x (Scalar n) h = absurd (false≢true h)
@@ -65,10 +79,13 @@ few_two x op.GenericUnsignedMaximum whole a b c f h = alike_two x (is_scalar x w
 few_two x op.GenericRotateLeft whole a b c f h = alike_two x (is_rotatable x whole) whole a b h
 few_two x op.GenericRotateRight whole a b c f h = alike_two x (is_rotatable x whole) whole a b h
 few_two x op.GenericPointerAdd whole a b c f h =
-    let p : ((is_pointer whole && is_pointer a) ≡ true) × (is_register x b ≡ true) = and_parts (is_pointer whole && is_pointer a) (is_register x b) h in
-    let q : (is_pointer whole ≡ true) × (is_pointer a ≡ true) = and_parts (is_pointer whole) (is_pointer a) p.0 in
+    let pointers = is_pointer whole && (same_type whole a && true) in
+    let offset = is_register x b && true in
+    let p : (pointers ≡ true) × ((offset && true) ≡ true) = and_parts pointers (offset && true) (and_parts (pointers && (offset && true)) true h).0 in
+    let q : (is_pointer whole ≡ true) × ((same_type whole a && true) ≡ true) = and_parts (is_pointer whole) (same_type whole a && true) p.0 in
     let w : width_of x whole ≡ x = pointer_width x whole q.0 in
-    (pointer_width x a q.1 ∙ sym w, register_width x b p.1 ∙ sym w)
+    let s : width_of x whole ≡ width_of x a = same_width x whole a (and_parts (same_type whole a) true q.1).0 in
+    (sym s, register_width x b (bare (is_register x b) p.1) ∙ sym w)
 few_two x _ whole a b c f h = cc
 
 -- as many values as types, and at most two
@@ -111,7 +128,7 @@ pub record ThreeAlike (x : ℕ) (whole : Llt) (types : List Llt) (values : List 
   pub same : registers x types values ≡ Value (width_of x whole) (get_or values 0 0) ∷ Value (width_of x whole) (get_or values 1 0) ∷ Value (width_of x whole) (get_or values 2 0) ∷ []
   pub three : length values ≡ 3
 
-pub three_alike_values : (x : ℕ) (whole : Llt) (types : List Llt) (values : List ℕ) → (x ≡ 32) ⊎ (x ≡ 64) → three_alike (is_rotatable x) (whole ∷ []) types ≡ true → are_values x types values ≡ true → ThreeAlike x whole types values
+pub three_alike_values : (x : ℕ) (whole : Llt) (types : List Llt) (values : List ℕ) → (x ≡ 32) ⊎ (x ≡ 64) → are_typed x (three_alike class.Rotatable) (whole ∷ []) types ≡ true → are_values x types values ≡ true → ThreeAlike x whole types values
 three_alike_values x whole [] values w h e = absurd (false≢true h)
 three_alike_values x whole (a ∷ []) values w h e = absurd (false≢true h)
 three_alike_values x whole (a ∷ b ∷ []) values w h e = absurd (false≢true h)
@@ -123,10 +140,13 @@ three_alike_values x whole (a ∷ b ∷ d ∷ []) (v ∷ u ∷ z ∷ y ∷ value
 three_alike_values x whole (a ∷ b ∷ d ∷ []) (v ∷ u ∷ z ∷ []) w h e =
     let p : (is_value x a v ≡ true) × ((is_value x b u && (is_value x d z && true)) ≡ true) = and_parts (is_value x a v) (is_value x b u && (is_value x d z && true)) e in
     let q : (is_value x b u ≡ true) × ((is_value x d z && true) ≡ true) = and_parts (is_value x b u) (is_value x d z && true) p.1 in
-    let g : ((is_rotatable x whole && same_type whole a && same_type whole b) ≡ true) × (same_type whole d ≡ true) =
-    and_parts (is_rotatable x whole && same_type whole a && same_type whole b) (same_type whole d) h in
-    let s : (width_of x a ≡ width_of x whole) × (width_of x b ≡ width_of x whole) = alike_two x (is_rotatable x whole) whole a b g.0 in
-    let t : width_of x d ≡ width_of x whole = sym (same_width x whole d g.1) in
+    let alike = same_type whole a && (same_type whole b && (same_type whole d && true)) in
+    let g : (is_rotatable x whole ≡ true) × (alike ≡ true) = and_parts (is_rotatable x whole) alike (bare (is_rotatable x whole && alike) h) in
+    let g1 : (same_type whole a ≡ true) × ((same_type whole b && (same_type whole d && true)) ≡ true) = and_parts (same_type whole a) (same_type whole b && (same_type whole d && true)) g.1 in
+    let g2 : (same_type whole b ≡ true) × ((same_type whole d && true) ≡ true) = and_parts (same_type whole b) (same_type whole d && true) g1.1 in
+    let g3 : (same_type whole d ≡ true) × (true ≡ true) = and_parts (same_type whole d) true g2.1 in
+    let s : (width_of x a ≡ width_of x whole) × (width_of x b ≡ width_of x whole) = (sym (same_width x whole a g1.0), sym (same_width x whole b g2.0)) in
+    let t : width_of x d ≡ width_of x whole = sym (same_width x whole d g3.0) in
     let n : (v < 2 ^ width_of x a) × (0 < width_of x a) × (width_of x a ≤ 128) = value_bits x a v w p.0 in
     record {
       a_fits = subst (λ k. v < 2 ^ k) s.0 n.0;

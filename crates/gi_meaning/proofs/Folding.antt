@@ -7,7 +7,9 @@ use Rattle.gi_llt.specs.declared.Llt.{Llt}
 use Rattle.gi_llt.specs.declared.Llt.TheVariants.{Scalar, Pointer}
 use Rattle.gi_llt.specs.Llt.{width_of}
 use Rattle.std.specs.List.{list_all}
-use Rattle.gi_mir.specs.Accepted.{is_any, is_scalar, same_type, scalar_bits, merge}
+use Rattle.gi_mir.specs.Accepted.{are_typed, is_sum}
+use Rattle.gi_mir.specs.Types.{is_any, is_scalar, same_type, scalar_bits}
+use Rattle.gi_mir.specs.Typings.{merge}
 use Rattle.gi_meaning.specs.Fold.{is_value, are_values, registers}
 use Rattle.gi_meaning.specs.Generic.{merged}
 use Rattle.gi_meaning.specs.Plain.{merged_of}
@@ -113,20 +115,23 @@ pub record Merges (x w : ℕ) (types : List Llt) (values : List ℕ) : Type 0 wh
   pub fit : All (λ v. v < 2 ^ w) values
   pub whole : merged (registers x types values) ≡ merged_of w values
 
-pub merge_facts : (x : ℕ) (whole : Llt) (types : List Llt) (values : List ℕ) (d : Llt) → (x ≡ 32) ⊎ (x ≡ 64) → merge x (whole ∷ []) types ≡ true → are_values x types values ≡ true → Merges x (width_of x (get_or types 0 d)) types values
-merge_facts x whole [] values d h m e = absurd (false≢true m)
+pub merge_facts : (x : ℕ) (whole : Llt) (types : List Llt) (values : List ℕ) (d : Llt) → (x ≡ 32) ⊎ (x ≡ 64) → are_typed x merge (whole ∷ []) types ≡ true → are_values x types values ≡ true → Merges x (width_of x (get_or types 0 d)) types values
+merge_facts x whole [] values d h m e = absurd (false≢true (and_parts ((is_scalar x whole && true) && true) false m).1)
 merge_facts x whole (part ∷ parts) values d h m e =
-    let a = is_scalar x whole in let b = is_scalar x part in let f = nat_lt 0 (length parts) in let g = nat_lt (length parts) 16 in
-    let k = list_all (λ other. same_type part other) parts in let t = scalar_bits whole == (length parts + 1) * scalar_bits part in
-    let p5 : ((a && b && f && g && k) ≡ true) × (t ≡ true) = and_parts (a && b && f && g && k) t m in
-    let p4 : ((a && b && f && g) ≡ true) × (k ≡ true) = and_parts (a && b && f && g) k p5.0 in
-    let p3 : ((a && b && f) ≡ true) × (g ≡ true) = and_parts (a && b && f) g p4.0 in
-    let p2 : ((a && b) ≡ true) × (f ≡ true) = and_parts (a && b) f p3.0 in
-    let p1 : (a ≡ true) × (b ≡ true) = and_parts a b p2.0 in
-    let n : scalar_bits whole ≤ 128 = (scalar_width x whole h p1.0).1 in
-    let s : scalar_bits part ≡ width_of x part = (scalar_width x part h p1.1).0 in
-    let z : scalar_bits whole ≡ (length parts + 1) * scalar_bits part = eqb-true (scalar_bits whole) ((length parts + 1) * scalar_bits part) p5.1 in
-    let r : AreParts x (width_of x part) (part ∷ parts) values = parts_alike x part (part ∷ parts) values (and_from (same_type part part) k (same_self part) p4.1) e in
+    let a = is_scalar x whole && true in
+    let k = list_all (λ other. same_type part other) parts in
+    let b = is_scalar x part && k in
+    let n = suc (length parts) in
+    let t = scalar_bits whole == n * scalar_bits part in
+    let p : ((a && (b && true)) ≡ true) × (is_sum whole part n ≡ true) = and_parts (a && (b && true)) (is_sum whole part n) m in
+    let q : (a ≡ true) × ((b && true) ≡ true) = and_parts a (b && true) p.0 in
+    let w : (is_scalar x whole ≡ true) × (true ≡ true) = and_parts (is_scalar x whole) true q.0 in
+    let v : (is_scalar x part ≡ true) × (k ≡ true) = and_parts (is_scalar x part) k (and_parts b true q.1).0 in
+    let u : ((nat_le 2 n && nat_le n 16) ≡ true) × (t ≡ true) = and_parts (nat_le 2 n && nat_le n 16) t p.1 in
+    let l : scalar_bits whole ≤ 128 = (scalar_width x whole h w.0).1 in
+    let s : scalar_bits part ≡ width_of x part = (scalar_width x part h v.0).0 in
+    let z : scalar_bits whole ≡ suc (length parts) * scalar_bits part = eqb-true (scalar_bits whole) (suc (length parts) * scalar_bits part) u.1 in
+    let r : AreParts x (width_of x part) (part ∷ parts) values = parts_alike x part (part ∷ parts) values (and_from (same_type part part) k (same_self part) v.1) e in
     let c : length values ≡ length parts + 1 = r.count ∙ sym (add-one (length parts)) in
     record {
       room = subst (λ j. width_of x part * j ≤ 128) (sym c) (subst (λ j. j * (length parts + 1) ≤ 128) s (omega arith));
@@ -134,7 +139,7 @@ merge_facts x whole (part ∷ parts) values d h m e =
       whole = r.whole;
     }
 
-pub merge_at : (x w : ℕ) (whole : Llt) (types : List Llt) (values : List ℕ) (d : Llt) → w ≡ width_of x (get_or types 0 d) → (x ≡ 32) ⊎ (x ≡ 64) → merge x (whole ∷ []) types ≡ true → are_values x types values ≡ true → Merges x w types values
+pub merge_at : (x w : ℕ) (whole : Llt) (types : List Llt) (values : List ℕ) (d : Llt) → w ≡ width_of x (get_or types 0 d) → (x ≡ 32) ⊎ (x ≡ 64) → are_typed x merge (whole ∷ []) types ≡ true → are_values x types values ≡ true → Merges x w types values
 merge_at x w whole types values d s h m e = subst (λ (j : ℕ). Merges x j types values) (sym s) (merge_facts x whole types values d h m e)
 
 pub value_bits : (x : ℕ) (ty : Llt) (v : ℕ) → (x ≡ 32) ⊎ (x ≡ 64) → is_value x ty v ≡ true → (v < 2 ^ width_of x ty) × (0 < width_of x ty) × (width_of x ty ≤ 128)

@@ -11,7 +11,7 @@ use Rattle.gi_meaning.specs.Fold.{gives_of}
 use Rattle.gi_meaning.specs.Given.{Exactly, LowBits, Undefined, one, free}
 use Rattle.gi_meaning.specs.Meaning.{meaning_of, always, only_64, Anything, Zeros, Signs}
 use Rattle.gi_meaning.specs.Memory.{Memory, stored}
-use Rattle.gi_meaning.specs.Routine.{no_flags}
+use Rattle.gi_mir.specs.Data.{no_flags}
 use Rattle.gi_meaning.specs.State.{Outside}
 use Rattle.gi_meaning.specs.Words.{word_given}
 

@@ -9,7 +9,7 @@ use Rattle.gi_meaning.specs.Given.{Given, LowBits, Undefined, IsGiven, one, in_l
 use Rattle.gi_meaning.specs.Argument.{Argument, Value, Implicit, Defined, Number, Symbol, Called, To}
 use Rattle.gi_meaning.specs.Machine.{is_immediate}
 use Rattle.gi_meaning.specs.Memory.{Memory, loaded, stored, is_aligned}
-use Rattle.gi_meaning.specs.Routine.{computation, first_routine, InTwoWords}
+use Rattle.gi_meaning.specs.Routine.{computation_at, has_routine, InTwoWords}
 use Rattle.gi_meaning.specs.State.{Event, World, Outside, AreWords}
 use Rattle.gi_meaning.specs.Meaning.{Meaning, Copying, Generic, Machine, Loading, Storing, MachineLoading, MachineStoring, Jumping, Branching, MachineBranching, Calling, Returning, Nothing, Joining, Extension, Anything, Zeros, Signs}
 
@@ -194,13 +194,13 @@ are_routine_registers (l ∷ h ∷ m ∷ k ∷ []) (p ∷ q ∷ []) =
 are_routine_registers _ _ = not (0 == 0)
 
 abbrev pub routine_given : (x place : ℕ) → List (ℕ × ℕ) → Given
-routine_given x place (l ∷ h ∷ m ∷ k ∷ []) = computation place (2 * x) (l.1 + 2 ^ x * h.1) (m.1 + 2 ^ x * k.1)
+routine_given x place (l ∷ h ∷ m ∷ k ∷ []) = computation_at place (2 * x) (l.1 + 2 ^ x * h.1) (m.1 + 2 ^ x * k.1)
 routine_given x place _ = Undefined
 
 abbrev pub CallsRoutine : (x routine : ℕ) → List (ℕ × ℕ) → List ℕ → Outside → Answer → Type 0
 CallsRoutine x routine inputs results outside answer =
-    cond (are_routine_registers inputs results && nat_le (first_routine x) routine && nat_lt routine (first_routine x + 5))
-    ((words : List ℕ) × InTwoWords x (routine_given x (routine - first_routine x) inputs) words × LeavesFree x words outside answer)
+    cond (are_routine_registers inputs results && has_routine x routine)
+    ((words : List ℕ) × InTwoWords x (routine_given x routine inputs) words × LeavesFree x words outside answer)
     (answer ≡ Breaks)
 
 abbrev pub Calls : (x : ℕ) → World → List Argument → Outside → Answer → Type 0

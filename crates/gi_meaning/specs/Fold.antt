@@ -1,10 +1,23 @@
 -- The one result of an operation on known values.
-use Rattle.std.specs.Prelude.{ℕ, ◌^◌, List, [], ◌∷◌, Bool, true, false, ◌&&◌, nat_lt, Option, Some, None, if◌then◌else◌}
+use Rattle.std.specs.Prelude.{ℕ, suc, ◌^◌, List, [], ◌∷◌, Bool, true, false, not, ◌&&◌, nat_lt, Option, Some, None, if◌then◌else◌}
+use Rattle.std.specs.List.{list_all, list_any}
+use Rattle.std.specs.Option.{option_map_or}
 use Rattle.gi_llt.specs.Llt.{width_of}
 use Rattle.gi_llt.specs.declared.Llt.{Llt}
-use Rattle.gi_mir.specs.Accepted.{accepts, is_any}
+use Rattle.gi_mir.specs.Accepted.{accepts}
+use Rattle.gi_mir.specs.Types.{is_any}
 use Rattle.gi_mir.specs.declared.opcode.Opcode.{Opcode}
-use Rattle.gi_mir.specs.declared.opcode.Opcode.TheVariants as op
+use Rattle.gi_mir.specs.declared.row.Access.{Access}
+use Rattle.gi_mir.specs.declared.row.Access.TheVariants as access
+use Rattle.gi_mir.specs.declared.row.Form.{Form}
+use Rattle.gi_mir.specs.declared.row.Form.TheVariants as form
+use Rattle.gi_mir.specs.declared.stage.Stage.TheVariants as stage
+use Rattle.gi_mir.specs.declared.typing.Class.{Class}
+use Rattle.gi_mir.specs.declared.typing.Class.TheVariants as class
+use Rattle.gi_mir.specs.declared.typing.Letter.{Letter}
+use Rattle.gi_mir.specs.Row.{rows_of, access_of, typing_of}
+use Rattle.gi_mir.specs.Stages.{is_opcode_of}
+use Rattle.gi_mir.specs.Typings.{TypingData}
 use Rattle.gi_mir.specs.declared.operand.Flags.{Flags}
 use Rattle.gi_mir.specs.declared.operand.Pred.{Pred}
 use Rattle.gi_meaning.specs.Given.{Given, Exactly, Undefined}
@@ -18,75 +31,60 @@ gives_of Copying = copy
 gives_of (Generic gives) = gives
 gives_of _ = λ widths arguments. Undefined
 
--- an opcode that reads two registers of its result's type
-abbrev pub is_of_two : Opcode → Bool
-is_of_two op.GenericAdd = true
-is_of_two op.GenericSubtract = true
-is_of_two op.GenericMultiply = true
-is_of_two op.GenericAnd = true
-is_of_two op.GenericOr = true
-is_of_two op.GenericXor = true
-is_of_two op.GenericUnsignedDivide = true
-is_of_two op.GenericSignedDivide = true
-is_of_two op.GenericUnsignedRemainder = true
-is_of_two op.GenericSignedRemainder = true
-is_of_two op.GenericShiftLeft = true
-is_of_two op.GenericLogicalShiftRight = true
-is_of_two op.GenericArithmeticShiftRight = true
-is_of_two op.GenericSignedMinimum = true
-is_of_two op.GenericSignedMaximum = true
-is_of_two op.GenericUnsignedMinimum = true
-is_of_two op.GenericUnsignedMaximum = true
-is_of_two op.GenericRotateLeft = true
-is_of_two op.GenericRotateRight = true
-is_of_two _ = false
+-- ══ Opcodes ══
 
--- an opcode with one result whose other operands are registers and at most a predicate
+-- what may stand after the result of a computation: registers that are read, and a predicate
+abbrev pub is_read : Form → Bool
+is_read form.Use = true
+is_read form.TypedUse = true
+is_read form.Parts = true
+is_read form.Predicate = true
+is_read _ = false
+
+-- one result, and other operands that are read
+abbrev pub is_computation : List Form → Bool
+is_computation (form.Def ∷ forms) = list_all is_read forms
+is_computation _ = false
+
+abbrev pub has_no_memory : Access → Bool
+has_no_memory access.Neither = true
+has_no_memory _ = false
+
+-- an opcode before selection with one result whose other operands are registers and at most a predicate
 abbrev pub is_computed : Opcode → Bool
-is_computed op.Copy = true
-is_computed op.GenericImplicitDef = true
-is_computed op.GenericFreeze = true
-is_computed op.GenericPointerAdd = true
-is_computed op.GenericPointerToInteger = true
-is_computed op.GenericIntegerToPointer = true
-is_computed op.GenericTruncate = true
-is_computed op.GenericAnyExtend = true
-is_computed op.GenericZeroExtend = true
-is_computed op.GenericSignExtend = true
-is_computed op.GenericMergeValues = true
-is_computed op.GenericUnsignedMultiplyHigh = true
-is_computed op.GenericSignedMultiplyHigh = true
-is_computed op.GenericCompare = true
-is_computed op.GenericSelect = true
-is_computed op.GenericAbsolute = true
-is_computed op.GenericCountLeadingZeros = true
-is_computed op.GenericCountTrailingZeros = true
-is_computed op.GenericPopulationCount = true
-is_computed op.GenericCountLeadingZerosNotOfZero = true
-is_computed op.GenericCountTrailingZerosNotOfZero = true
-is_computed op.GenericByteSwap = true
-is_computed op.GenericFunnelShiftLeft = true
-is_computed op.GenericFunnelShiftRight = true
-is_computed op = is_of_two op
+is_computed op = is_opcode_of stage.Before op && has_no_memory (access_of op) && list_any is_computation (rows_of op)
 
--- of these, an opcode that reads one or two registers, and is no comparison and no high product
-abbrev pub reads_few : Opcode → Bool
-reads_few op.GenericMergeValues = false
-reads_few op.GenericUnmergeValues = false
-reads_few op.GenericUnsignedMultiplyHigh = false
-reads_few op.GenericSignedMultiplyHigh = false
-reads_few op.GenericCompare = false
-reads_few op.GenericSelect = false
-reads_few op.GenericFunnelShiftLeft = false
-reads_few op.GenericFunnelShiftRight = false
-reads_few _ = true
+abbrev pub is_predicate_form : Form → Bool
+is_predicate_form form.Predicate = true
+is_predicate_form _ = false
+
+abbrev pub has_predicate : Opcode → Bool
+has_predicate op = list_any (λ forms. list_any is_predicate_form forms) (rows_of op)
 
 -- a comparison has a predicate, and nothing else has
 abbrev pub takes : Opcode → Option Pred → Bool
-takes op.GenericCompare (Some pred) = true
-takes op.GenericCompare None = false
-takes _ (Some pred) = false
-takes _ None = true
+takes op (Some pred) = has_predicate op
+takes op None = not (has_predicate op)
+
+-- at most so many letters, and no further ones
+abbrev pub are_few : List Letter → Option Letter → (most : ℕ) → Bool
+are_few [] None most = true
+are_few (l ∷ ls) None (suc most) = are_few ls None most
+are_few _ _ _ = false
+
+abbrev pub is_register_class : Class → Bool
+is_register_class class.Register = true
+is_register_class _ = false
+
+-- one result, at most two sources, and not of a register's width alone, as high products are
+abbrev pub is_few : TypingData → Bool
+is_few typing = are_few typing.results typing.more_results 1 && are_few typing.sources typing.more_sources 2 && not (is_register_class typing.a)
+
+-- of those that are computed, an opcode that reads at most two registers, and is no comparison and no high product
+abbrev pub reads_few : Opcode → Bool
+reads_few op = option_map_or is_few (typing_of op) false && not (has_predicate op)
+
+-- ══ Values ══
 
 -- a value of a type: a number of at most its bits
 abbrev pub is_value : ℕ → Llt → ℕ → Bool

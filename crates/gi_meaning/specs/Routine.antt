@@ -1,27 +1,32 @@
 -- The routines of the runtime for products, quotients and remainders of two words each.
 -- (RISC-V ELF psABI, "Procedure Calling Convention"; the names are those of libgcc's "Routines for integer arithmetic".)
-use Rattle.std.specs.Prelude.{◌≡◌, ℕ, List, [], ◌∷◌, length, false, ◌==◌, if◌then◌else◌}
-use Rattle.gi_mir.specs.declared.operand.Flags.{Flags}
+use Rattle.std.specs.Prelude.{◌≡◌, ℕ, Bool, false, List, [], ◌∷◌, Option, length, ◌==◌}
+use Rattle.std.specs.Option.{option_map_or}
+use Rattle.gi_mir.specs.declared.routine.Routine.{Routine}
+use Rattle.gi_mir.specs.Data.{no_flags}
+use Rattle.gi_mir.specs.Routines.{data_of, routine_at}
+use Rattle.gi_meaning.specs.Argument.{Value}
 use Rattle.gi_meaning.specs.Given.{Given, Exactly, Undefined}
-use Rattle.gi_meaning.specs.Generic.{product, unsigned_quotient, unsigned_remainder, signed_quotient, signed_remainder, parts_of}
+use Rattle.gi_meaning.specs.Generic.{parts_of}
+use Rattle.gi_meaning.specs.Meaning.{Meaning, Generic, meaning_of}
 use Rattle.gi_meaning.specs.State.{AreWords}
 
-abbrev pub no_flags : Flags
-no_flags = record { nuw = false; nsw = false; exact = false; disjoint = false; nneg = false }
+-- what a generic operation gives of two numbers of n bits
+abbrev pub of_two_values : Meaning → (n a b : ℕ) → Given
+of_two_values (Generic gives) n a b = gives (n ∷ []) (Value n a ∷ Value n b ∷ [])
+of_two_values _ n a b = Undefined
 
--- what the routine at a place computes on two numbers of n bits: the product, the signed and the unsigned
--- quotient, the signed and the unsigned remainder
-abbrev pub computation : (place n a b : ℕ) → Given
-computation place n a b =
-    if place == 0 then product no_flags n a b else
-    if place == 1 then signed_quotient no_flags n a b else
-    if place == 2 then unsigned_quotient no_flags n a b else
-    if place == 3 then signed_remainder n a b else
-    if place == 4 then unsigned_remainder n a b else Undefined
+-- a routine computes on two numbers of n bits what its opcode gives of them
+abbrev pub computation : Routine → (n a b : ℕ) → Given
+computation routine n a b = of_two_values (meaning_of no_flags (data_of routine).op) n a b
 
--- the places 0 to 4 are the routines of RV32, on 64 bits; 5 to 9 are those of RV64, on 128 bits
-abbrev pub first_routine : (x : ℕ) → ℕ
-first_routine x = if x == 32 then 0 else 5
+-- the same of the routine at a place
+abbrev pub computation_at : (place n a b : ℕ) → Given
+computation_at place n a b = option_map_or (λ routine. computation routine n a b) (routine_at place) Undefined
+
+-- a machine with registers of x bits has the routine at this place
+abbrev pub has_routine : (x place : ℕ) → Bool
+has_routine x place = option_map_or (λ routine. (data_of routine).x == x) (routine_at place) false
 
 -- the result in two words, the low one first; any words where the division has no result
 abbrev pub InTwoWords : (x : ℕ) → Given → List ℕ → Type 0

@@ -1,14 +1,19 @@
 //! The one result of an operation on known values.
 
 ghost use Rattle.std.specs.Prelude.{◌≡◌, ◌+◌, ◌*◌, ◌^◌, ◌<◌, ◌≤◌, ◌⊎◌, true, [], ◌∷◌, is_some, IfSome};
+ghost use Rattle.std.specs.List.{list_all, list_any};
 ghost use Rattle.gi_llt.specs.Llt.{width_of};
 ghost use Rattle.gi_mir.specs.Accepted as accepted;
+ghost use Rattle.gi_mir.specs.Row.{rows_of};
+ghost use Rattle.gi_mir.specs.Types as types_alone;
+ghost use Rattle.gi_mir.specs.Typings as typings;
 ghost use Rattle.gi_meaning.specs.Fold as folding;
 ghost use Rattle.gi_meaning.specs.Generic as generic;
 ghost use Rattle.gi_meaning.specs.Meaning.{meaning_of};
 ghost use Rattle.gi_meaning.specs.Plain.{given_of, is_plain};
 ghost use Rattle.gi_meaning.specs.Argument.{Test, Value};
 ghost use Rattle.gi_mir.specs.declared.opcode.Opcode as Opcode;
+ghost use Rattle.gi_mir.specs.declared.typing.Class.TheVariants as Class;
 
 use crate::bits::has_bits;
 use crate::choices::{holds, selected};
@@ -18,79 +23,89 @@ use crate::parts::merged_of;
 use crate::shifts::{free, funnel_left, funnel_right};
 use crate::sums::bit_of;
 use gi_llt::{Llt, Target, width};
-use gi_mir::accepted::{accepts, is_any};
+use gi_mir::accepted::accepts;
 use gi_mir::opcode::Opcode;
 use gi_mir::operand::{Flags, Pred};
+use gi_mir::row::{Access, Form};
+use gi_mir::stage::Stage;
+use gi_mir::types::is_any;
 
-/// Whether an opcode has one result, and its other operands are registers and at most a predicate.
-pub fn is_computed(op: Opcode) -> bool
-    ensures { result ≡ folding.is_computed op }
+/// Whether an operand of this form is a register that is read, or a predicate.
+fn is_read(form: Form) -> bool
+    ensures { result ≡ folding.is_read form }
 {
-    match op {
-        Opcode::Copy
-        | Opcode::GenericImplicitDef
-        | Opcode::GenericFreeze
-        | Opcode::GenericPointerAdd
-        | Opcode::GenericPointerToInteger
-        | Opcode::GenericIntegerToPointer
-        | Opcode::GenericTruncate
-        | Opcode::GenericAnyExtend
-        | Opcode::GenericZeroExtend
-        | Opcode::GenericSignExtend
-        | Opcode::GenericMergeValues
-        | Opcode::GenericUnsignedMultiplyHigh
-        | Opcode::GenericSignedMultiplyHigh
-        | Opcode::GenericCompare
-        | Opcode::GenericSelect
-        | Opcode::GenericAbsolute
-        | Opcode::GenericCountLeadingZeros
-        | Opcode::GenericCountTrailingZeros
-        | Opcode::GenericPopulationCount
-        | Opcode::GenericCountLeadingZerosNotOfZero
-        | Opcode::GenericCountTrailingZerosNotOfZero
-        | Opcode::GenericByteSwap
-        | Opcode::GenericFunnelShiftLeft
-        | Opcode::GenericFunnelShiftRight => true,
-        _ => is_of_two(op),
+    matches!(
+        form,
+        Form::Use | Form::TypedUse | Form::Parts | Form::Predicate
+    )
+}
+
+/// Whether each operand is read.
+fn are_read(forms: &[Form]) -> bool
+    ensures { result ≡ list_all folding.is_read forms.now }
+{
+    forms.iter().all(|form| is_read(*form))
+}
+
+/// Whether a row has one result, and its other operands are read.
+fn is_computation(row: &[Form]) -> bool
+    ensures { result ≡ folding.is_computation row.now }
+{
+    match row {
+        [Form::Def, forms @ ..] => are_read(forms),
+        _ => false,
     }
 }
 
-/// Whether an opcode reads two registers of its result's type.
-pub fn is_of_two(op: Opcode) -> bool
-    ensures { result ≡ folding.is_of_two op }
+/// Whether one of these rows is a computation's.
+fn any_computation(rows: &[&[Form]]) -> bool
+    ensures { result ≡ list_any (λ row. folding.is_computation row.now) rows.now }
 {
-    match op {
-        Opcode::GenericAdd
-        | Opcode::GenericSubtract
-        | Opcode::GenericMultiply
-        | Opcode::GenericAnd
-        | Opcode::GenericOr
-        | Opcode::GenericXor
-        | Opcode::GenericUnsignedDivide
-        | Opcode::GenericSignedDivide
-        | Opcode::GenericUnsignedRemainder
-        | Opcode::GenericSignedRemainder
-        | Opcode::GenericShiftLeft
-        | Opcode::GenericLogicalShiftRight
-        | Opcode::GenericArithmeticShiftRight
-        | Opcode::GenericSignedMinimum
-        | Opcode::GenericSignedMaximum
-        | Opcode::GenericUnsignedMinimum
-        | Opcode::GenericUnsignedMaximum
-        | Opcode::GenericRotateLeft
-        | Opcode::GenericRotateRight => true,
-        _ => false,
-    }
+    rows.iter().any(|row| is_computation(row))
+}
+
+/// Whether an opcode has a row of a computation.
+#[tactic(auto, using(gi_mir::proofs::FormedLemmas::any_mapped))]
+fn has_computation(op: Opcode) -> bool
+    ensures { result ≡ list_any folding.is_computation (rows_of op) }
+{
+    any_computation(op.rows())
+}
+
+/// Whether an opcode before selection has one result, and its other operands are registers and at most a predicate.
+pub fn is_computed(op: Opcode) -> bool
+    ensures { result ≡ folding.is_computed op }
+{
+    Stage::Before.has_opcode(op) && op.access() == Access::Neither && has_computation(op)
+}
+
+/// Whether a predicate stands in a row.
+fn tests(row: &[Form]) -> bool
+    ensures { result ≡ list_any folding.is_predicate_form row.now }
+{
+    row.iter().any(|form| matches!(form, Form::Predicate))
+}
+
+/// Whether a predicate stands in one of these rows.
+fn any_tests(rows: &[&[Form]]) -> bool
+    ensures { result ≡ list_any (λ row. list_any folding.is_predicate_form row.now) rows.now }
+{
+    rows.iter().any(|row| tests(row))
+}
+
+/// Whether an opcode has a predicate.
+#[tactic(auto, using(gi_mir::proofs::FormedLemmas::any_mapped))]
+pub fn has_predicate(op: Opcode) -> bool
+    ensures { result ≡ folding.has_predicate op }
+{
+    any_tests(op.rows())
 }
 
 /// Whether an opcode takes this predicate, or none: a comparison has one, and nothing else has.
 pub fn takes(op: Opcode, pred: Option<Pred>) -> bool
     ensures { result ≡ folding.takes op pred }
 {
-    match op {
-        Opcode::GenericCompare => pred.is_some(),
-        _ => pred.is_none(),
-    }
+    has_predicate(op) == pred.is_some()
 }
 
 /// Whether a number is a value of a type.
@@ -122,7 +137,7 @@ pub fn are_values(target: Target, types: &[Llt], values: &[u128]) -> bool
 /// What a merge gives of its parts.
 pub fn merged(target: Target, outcome: Llt, types: &[Llt], values: &[u128]) -> Gives
     requires xlen { (target.xlen ≡ 32) ⊎ (target.xlen ≡ 64) }
-    requires accepted { accepted.merge target.xlen (outcome ∷ []) types.now ≡ true }
+    requires accepted { accepted.are_typed target.xlen typings.merge (outcome ∷ []) types.now ≡ true }
     requires fit { folding.are_values target.xlen types.now values.now ≡ true }
     ensures { given_of result ≡ generic.merge (width_of target.xlen outcome ∷ []) (folding.registers target.xlen types.now values.now) }
 {
@@ -160,7 +175,7 @@ pub fn high_product(
 /// What a comparison gives.
 pub fn compared(target: Target, pred: Pred, outcome: Llt, types: &[Llt], values: &[u128]) -> Gives
     requires xlen { (target.xlen ≡ 32) ⊎ (target.xlen ≡ 64) }
-    requires accepted { accepted.comparison target.xlen (outcome ∷ []) types.now ≡ true }
+    requires accepted { accepted.are_typed target.xlen typings.comparison (outcome ∷ []) types.now ≡ true }
     requires fit { folding.are_values target.xlen types.now values.now ≡ true }
     ensures { given_of result ≡ generic.comparison (width_of target.xlen outcome ∷ []) (Test pred ∷ folding.registers target.xlen types.now values.now) }
 {
@@ -172,7 +187,7 @@ pub fn compared(target: Target, pred: Pred, outcome: Llt, types: &[Llt], values:
 
 /// What a selection gives.
 pub fn chosen(target: Target, flags: Flags, outcome: Llt, types: &[Llt], values: &[u128]) -> Gives
-    requires accepted { accepted.selection target.xlen (outcome ∷ []) types.now ≡ true }
+    requires accepted { accepted.are_typed target.xlen typings.selection (outcome ∷ []) types.now ≡ true }
     requires fit { folding.are_values target.xlen types.now values.now ≡ true }
     ensures { given_of result ≡ folding.gives_of (meaning_of flags Opcode.GenericSelect) (width_of target.xlen outcome ∷ []) (folding.registers target.xlen types.now values.now) }
 {
@@ -202,7 +217,7 @@ pub fn funnelled(n: u16, op: Opcode, flags: Flags, a: u128, b: u128, k: u128) ->
 pub fn of_one(target: Target, op: Opcode, flags: Flags, outcome: Llt, ty: Llt, a: u128) -> Gives
     requires xlen { (target.xlen ≡ 32) ⊎ (target.xlen ≡ 64) }
     requires few { folding.reads_few op ≡ true }
-    requires any { accepted.is_any target.xlen outcome ≡ true }
+    requires any { types_alone.is_any target.xlen outcome ≡ true }
     requires value { folding.is_value target.xlen ty a ≡ true }
     ensures { given_of result ≡ folding.gives_of (meaning_of flags op) (width_of target.xlen outcome ∷ []) (Value (width_of target.xlen ty) a ∷ []) }
 {
@@ -234,7 +249,7 @@ pub fn of_few(
     requires xlen { (target.xlen ≡ 32) ⊎ (target.xlen ≡ 64) }
     requires computed { folding.is_computed op ≡ true }
     requires few { folding.reads_few op ≡ true }
-    requires any { accepted.is_any target.xlen outcome ≡ true }
+    requires any { types_alone.is_any target.xlen outcome ≡ true }
     requires accepted { accepted.accepts target.xlen op (outcome ∷ []) types.now ≡ true }
     requires fit { folding.are_values target.xlen types.now values.now ≡ true }
     ensures { given_of result ≡ folding.gives_of (meaning_of flags op) (width_of target.xlen outcome ∷ []) (folding.registers target.xlen types.now values.now) }
@@ -258,7 +273,7 @@ pub fn of_three(
 ) -> Gives
     requires xlen { (target.xlen ≡ 32) ⊎ (target.xlen ≡ 64) }
     requires funnel { (op ≡ Opcode.GenericFunnelShiftLeft) ⊎ (op ≡ Opcode.GenericFunnelShiftRight) }
-    requires accepted { accepted.three_alike (accepted.is_rotatable target.xlen) (outcome ∷ []) types.now ≡ true }
+    requires accepted { accepted.are_typed target.xlen (typings.three_alike Class.Rotatable) (outcome ∷ []) types.now ≡ true }
     requires fit { folding.are_values target.xlen types.now values.now ≡ true }
     ensures { given_of result ≡ folding.gives_of (meaning_of flags op) (width_of target.xlen outcome ∷ []) (folding.registers target.xlen types.now values.now) }
 {
@@ -279,6 +294,7 @@ pub fn only_result(gives: Gives) -> Option<u128>
 }
 
 /// What an operation that can be computed gives.
+#[tactic(auto, using(crate::proofs::Few::predicate_of_comparison))]
 pub fn computed(
     target: Target,
     op: Opcode,
@@ -291,22 +307,24 @@ pub fn computed(
     requires xlen { (target.xlen ≡ 32) ⊎ (target.xlen ≡ 64) }
     requires computed { folding.is_computed op ≡ true }
     requires test { folding.takes op pred ≡ true }
-    requires any { accepted.is_any target.xlen outcome ≡ true }
+    requires any { types_alone.is_any target.xlen outcome ≡ true }
     requires accepted { accepted.accepts target.xlen op (outcome ∷ []) types.now ≡ true }
     requires fit { folding.are_values target.xlen types.now values.now ≡ true }
     ensures { given_of result ≡ folding.gives_of (meaning_of flags op) (width_of target.xlen outcome ∷ []) (folding.after_test pred (folding.registers target.xlen types.now values.now)) }
 {
-    match (op, pred) {
-        (Opcode::GenericCompare, Some(test)) => compared(target, test, outcome, types, values),
-        (Opcode::GenericMergeValues, _) => merged(target, outcome, types, values),
-        (Opcode::GenericSelect, _) => chosen(target, flags, outcome, types, values),
-        (Opcode::GenericUnsignedMultiplyHigh | Opcode::GenericSignedMultiplyHigh, _) => {
+    match op {
+        Opcode::GenericMergeValues => merged(target, outcome, types, values),
+        Opcode::GenericSelect => chosen(target, flags, outcome, types, values),
+        Opcode::GenericUnsignedMultiplyHigh | Opcode::GenericSignedMultiplyHigh => {
             high_product(target, op, flags, outcome, types, values)
         }
-        (Opcode::GenericFunnelShiftLeft | Opcode::GenericFunnelShiftRight, _) => {
+        Opcode::GenericFunnelShiftLeft | Opcode::GenericFunnelShiftRight => {
             of_three(target, op, flags, outcome, types, values)
         }
-        _ => of_few(target, op, flags, outcome, types, values),
+        _ => match pred {
+            Some(test) => compared(target, test, outcome, types, values),
+            None => of_few(target, op, flags, outcome, types, values),
+        },
     }
 }
 

@@ -110,9 +110,9 @@ pub is_formed-with_kind : (i : InstrData) (k : ℕ) (kind : Kind) → is_formed 
 unfolding is_formed
 is_formed-with_kind i k kind = rw (list_any-with_kind kind i.operands k (rows_of i.op), list_all-with_kind kind i.operands k) refl
 
-pub list_any-map : {X Y : Type 0} (p : Y → Bool) (f : X → Y) (xs : List X) → list_any p (map f xs) ≡ list_any (λ x. p (f x)) xs
-list_any-map p f [] = refl
-list_any-map p f (x ∷ xs) = ap (λ b. p (f x) || b) (list_any-map p f xs)
+pub any_mapped : {X Y : Type 0} (p : Y → Bool) (f : X → Y) (xs : List X) → list_any p (map f xs) ≡ list_any (λ x. p (f x)) xs
+any_mapped p f [] = refl
+any_mapped p f (x ∷ xs) = ap (λ b. p (f x) || b) (any_mapped p f xs)
 
 pub div_is_zero : (v d : ℕ) → 0 < d → nat_eq (v / d) 0 ≡ nat_lt v d
 div_is_zero v d h =

@@ -2,8 +2,10 @@ pub mod Definitions
 pub mod FormedLemmas
 pub mod IdsLemmas
 pub mod KindLemmas
+pub mod LettersLemmas
 pub mod Live
 pub mod NamesLemmas
 pub mod NumberingLaws
 pub mod Places
+pub mod TypingLaws
 pub mod Words

@@ -1,207 +1,136 @@
 -- The types that each opcode accepts, where x is the width of a register: those of its results, and those of
 -- the virtual registers that it reads. (Generic Opcodes; Machine IR's target-independent opcodes.)
-use Rattle.std.specs.Prelude.{ℕ, ◌+◌, ◌*◌, Bool, true, false, ◌&&◌, ◌||◌, nat_lt, nat_le, ◌==◌, List, [], ◌∷◌, length}
-use Rattle.std.specs.List.{list_all}
+use Rattle.std.specs.Prelude.{ℕ, ℤ, pos, ◌*◌, Bool, true, false, ◌&&◌, nat_lt, nat_le, int_lt, ◌==◌, List, [], ◌∷◌, ◌++◌, Option, Some, None, length, slice_get, if◌then◌else◌}
+use Rattle.std.specs.List.{list_all, list_any}
+use Rattle.std.specs.Option.{option_or, option_map_or}
 use Rattle.gi_llt.specs.declared.Llt.{Llt}
-use Rattle.gi_llt.specs.declared.Llt.TheVariants.{Scalar, Pointer}
+use Rattle.gi_llt.specs.declared.Llt.TheVariants.{Scalar}
 use Rattle.gi_mir.specs.declared.opcode.Opcode.{Opcode}
-use Rattle.gi_mir.specs.declared.opcode.Opcode.TheVariants as op
+use Rattle.gi_mir.specs.declared.row.Form.{Form}
+use Rattle.gi_mir.specs.declared.row.Form.TheVariants as form
+use Rattle.gi_mir.specs.declared.typing.Letter.{Letter}
+use Rattle.gi_mir.specs.declared.typing.Letter.TheVariants as letter
+use Rattle.gi_mir.specs.declared.typing.Class.{Class}
+use Rattle.gi_mir.specs.declared.typing.Class.TheVariants as class
+use Rattle.gi_mir.specs.declared.typing.Relation.{Relation}
+use Rattle.gi_mir.specs.declared.typing.Relation.TheVariants as relation
+use Rattle.gi_mir.specs.Types.{same_type, scalar_bits, is_scalar, is_of, is_in_memory}
+use Rattle.gi_mir.specs.Typings.{TypingData}
+use Rattle.gi_mir.specs.Row.{rows_of, memory_of, typing_of}
 
--- ══ One type ══
+-- ══ Letters ══
 
-abbrev pub same_type : Llt → Llt → Bool
-same_type (Scalar m) (Scalar n) = m == n
-same_type Pointer Pointer = true
-same_type _ _ = false
+abbrev pub letters : List Letter
+letters = letter.A ∷ letter.B ∷ letter.Pointer ∷ letter.Bit ∷ letter.Register ∷ []
 
-abbrev pub is_pointer : Llt → Bool
-is_pointer Pointer = true
-is_pointer _ = false
+abbrev pub is_letter : Letter → Letter → Bool
+is_letter letter.A letter.A = true
+is_letter letter.B letter.B = true
+is_letter letter.Pointer letter.Pointer = true
+is_letter letter.Bit letter.Bit = true
+is_letter letter.Register letter.Register = true
+is_letter _ _ = false
 
--- the bits of a scalar, and 0 for a pointer
-abbrev pub scalar_bits : Llt → ℕ
-scalar_bits (Scalar n) = n
-scalar_bits Pointer = 0
+-- a place has this letter
+abbrev pub is_there : Letter → Option Letter → Bool
+is_there l None = false
+is_there l (Some m) = is_letter l m
 
--- a scalar of up to twice the width of a register
-abbrev pub is_scalar : ℕ → Llt → Bool
-is_scalar x (Scalar n) = nat_lt 0 n && nat_le n (2 * x)
-is_scalar x Pointer = false
+-- the letter at a place, where there is one
+abbrev pub letter_at : List Letter → (more : Option Letter) → (place : ℕ) → Option Letter
+letter_at ls more place = option_or (slice_get ls place) more
 
-abbrev pub is_any : ℕ → Llt → Bool
-is_any x ty = is_pointer ty || is_scalar x ty
+-- the class of the types at a letter's places
+abbrev pub class_of : TypingData → Letter → Class
+class_of typing letter.A = typing.a
+class_of typing letter.B = typing.b
+class_of typing letter.Pointer = class.Pointer
+class_of typing letter.Bit = class.Bit
+class_of typing letter.Register = class.Register
 
--- a scalar with a bit beside the sign
-abbrev pub is_wide : ℕ → Llt → Bool
-is_wide x ty = is_scalar x ty && nat_lt 1 (scalar_bits ty)
+-- as many types as letters, or more where further ones have a letter
+abbrev pub have_letters : List Letter → (more : Option Letter) → List Llt → Bool
+have_letters [] None [] = true
+have_letters [] (Some l) types = true
+have_letters (l ∷ ls) more (ty ∷ types) = have_letters ls more types
+have_letters _ _ _ = false
 
--- a scalar of a register's width
-abbrev pub is_register : ℕ → Llt → Bool
-is_register x ty = is_scalar x ty && (scalar_bits ty == x)
+-- the types at the places of one letter
+abbrev pub types_at : Letter → List Letter → (more : Option Letter) → List Llt → List Llt
+types_at l [] None types = []
+types_at l [] (Some m) types = if is_letter l m then types else []
+types_at l (m ∷ ms) more [] = []
+types_at l (m ∷ ms) more (ty ∷ types) = if is_letter l m then ty ∷ types_at l ms more types else types_at l ms more types
 
-abbrev pub is_bit : Llt → Bool
-is_bit ty = scalar_bits ty == 1
+abbrev pub types_of : Letter → TypingData → (results sources : List Llt) → List Llt
+types_of l typing results sources =
+    types_at l typing.results typing.more_results results ++ types_at l typing.sources typing.more_sources sources
 
-abbrev pub is_condition : ℕ → Llt → Bool
-is_condition x ty = is_bit ty || is_register x ty
+-- ══ Types together ══
 
--- whole bytes, two or more, whose order can be turned
-abbrev pub is_swappable : ℕ → Llt → Bool
-is_swappable x ty = is_scalar x ty && ((scalar_bits ty == 16) || (scalar_bits ty == 32) || (scalar_bits ty == 64) || (scalar_bits ty == 128))
+-- one type of a class, wherever it stands
+abbrev pub are_one : ℕ → Class → List Llt → Bool
+are_one x class [] = true
+are_one x class (ty ∷ types) = is_of x class ty && list_all (λ other. same_type ty other) types
 
-abbrev pub is_rotatable : ℕ → Llt → Bool
-is_rotatable x ty = is_scalar x ty && (scalar_bits ty == 8) || is_swappable x ty
+-- so many parts, two to sixteen, are together as wide as a whole
+abbrev pub is_sum : (whole part : Llt) → (count : ℕ) → Bool
+is_sum whole part count = nat_le 2 count && nat_le count 16 && (scalar_bits whole == count * scalar_bits part)
 
-abbrev pub is_narrower : ℕ → Llt → Llt → Bool
-is_narrower x a b = is_scalar x a && is_scalar x b && nat_lt (scalar_bits a) (scalar_bits b)
+abbrev pub is_related : Relation → (a b : Llt) → (count : ℕ) → Bool
+is_related relation.Free a b count = true
+is_related relation.Narrower a b count = nat_lt (scalar_bits a) (scalar_bits b)
+is_related relation.Wider a b count = nat_lt (scalar_bits b) (scalar_bits a)
+is_related relation.Sum a b count = is_sum a b count
 
--- ══ The types of a row: a test of each, by how many there are ══
+abbrev pub is_free : Relation → Bool
+is_free relation.Free = true
+is_free _ = false
 
-abbrev pub no_sources : (Llt → Bool) → List Llt → List Llt → Bool
-no_sources test (a ∷ []) [] = test a
-no_sources test _ _ = false
+-- how the types A and the types B are related; where one of them doesn't stand, nothing may be asked
+abbrev pub are_related : Relation → (firsts seconds : List Llt) → Bool
+are_related relation (a ∷ firsts) (b ∷ seconds) = is_related relation a b (length (b ∷ seconds))
+are_related relation firsts seconds = is_free relation
 
-abbrev pub one_source : (Llt → Llt → Bool) → List Llt → List Llt → Bool
-one_source test (a ∷ []) (b ∷ []) = test a b
-one_source test _ _ = false
-
-abbrev pub two_sources : (Llt → Llt → Llt → Bool) → List Llt → List Llt → Bool
-two_sources test (a ∷ []) (b ∷ c ∷ []) = test a b c
-two_sources test _ _ = false
-
-abbrev pub three_sources : (Llt → Llt → Llt → Llt → Bool) → List Llt → List Llt → Bool
-three_sources test (a ∷ []) (b ∷ c ∷ d ∷ []) = test a b c d
-three_sources test _ _ = false
-
--- the sources have the result's type
-abbrev pub one_alike : (Llt → Bool) → List Llt → List Llt → Bool
-one_alike test = one_source (λ a b. test a && same_type a b)
-
-abbrev pub two_alike : (Llt → Bool) → List Llt → List Llt → Bool
-two_alike test = two_sources (λ a b c. test a && same_type a b && same_type a c)
-
-abbrev pub three_alike : (Llt → Bool) → List Llt → List Llt → Bool
-three_alike test = three_sources (λ a b c d. test a && same_type a b && same_type a c && same_type a d)
-
-abbrev pub pointer_sum : ℕ → List Llt → List Llt → Bool
-pointer_sum x = two_sources (λ a b c. is_pointer a && is_pointer b && is_register x c)
-
-abbrev pub comparison : ℕ → List Llt → List Llt → Bool
-comparison x = two_sources (λ a b c. is_condition x a && is_any x b && same_type b c)
-
-abbrev pub selection : ℕ → List Llt → List Llt → Bool
-selection x = three_sources (λ a b c d. is_any x a && is_condition x b && same_type a c && same_type a d)
-
--- with a carry out, and with one in too
-abbrev pub carry_out : ℕ → List Llt → List Llt → Bool
-carry_out x (a ∷ e ∷ []) (b ∷ c ∷ []) = is_wide x a && is_bit e && same_type a b && same_type a c
-carry_out x _ _ = false
-
-abbrev pub carry_through : ℕ → List Llt → List Llt → Bool
-carry_through x (a ∷ e ∷ []) (b ∷ c ∷ d ∷ []) = is_wide x a && is_bit e && same_type a b && same_type a c && is_bit d
-carry_through x _ _ = false
-
--- two to sixteen equal parts of a whole
-abbrev pub are_parts_of : ℕ → Llt → List Llt → Bool
-are_parts_of x whole [] = false
-are_parts_of x whole (part ∷ parts) =
-    is_scalar x whole && is_scalar x part && nat_lt 0 (length parts) && nat_lt (length parts) 16
-    && list_all (λ other. same_type part other) parts && (scalar_bits whole == (length parts + 1) * scalar_bits part)
-
-abbrev pub merge : ℕ → List Llt → List Llt → Bool
-merge x (whole ∷ []) parts = are_parts_of x whole parts
-merge x _ _ = false
-
-abbrev pub unmerge : ℕ → List Llt → List Llt → Bool
-unmerge x parts (whole ∷ []) = are_parts_of x whole parts
-unmerge x _ _ = false
-
-abbrev pub joining : ℕ → List Llt → List Llt → Bool
-joining x (a ∷ []) sources = is_any x a && list_all (λ other. same_type a other) sources
-joining x _ _ = false
-
-abbrev pub store : ℕ → List Llt → List Llt → Bool
-store x [] (a ∷ p ∷ []) = is_any x a && is_pointer p
-store x _ _ = false
-
-abbrev pub one_condition : ℕ → List Llt → List Llt → Bool
-one_condition x [] (c ∷ []) = is_condition x c
-one_condition x _ _ = false
-
-abbrev pub no_types : List Llt → List Llt → Bool
-no_types [] [] = true
-no_types _ _ = false
-
--- ══ The table ══
-
--- the opcodes whose sources have the type of their result, any scalar
-abbrev pub accepts_scalars : (x : ℕ) → Opcode → (results sources : List Llt) → Bool
-accepts_scalars x op.GenericAdd = two_alike (is_scalar x)
-accepts_scalars x op.GenericSubtract = two_alike (is_scalar x)
-accepts_scalars x op.GenericMultiply = two_alike (is_scalar x)
-accepts_scalars x op.GenericAnd = two_alike (is_scalar x)
-accepts_scalars x op.GenericOr = two_alike (is_scalar x)
-accepts_scalars x op.GenericXor = two_alike (is_scalar x)
-accepts_scalars x op.GenericUnsignedDivide = two_alike (is_scalar x)
-accepts_scalars x op.GenericSignedDivide = two_alike (is_scalar x)
-accepts_scalars x op.GenericUnsignedRemainder = two_alike (is_scalar x)
-accepts_scalars x op.GenericSignedRemainder = two_alike (is_scalar x)
-accepts_scalars x op.GenericShiftLeft = two_alike (is_scalar x)
-accepts_scalars x op.GenericLogicalShiftRight = two_alike (is_scalar x)
-accepts_scalars x op.GenericArithmeticShiftRight = two_alike (is_scalar x)
-accepts_scalars x op.GenericSignedMinimum = two_alike (is_scalar x)
-accepts_scalars x op.GenericSignedMaximum = two_alike (is_scalar x)
-accepts_scalars x op.GenericUnsignedMinimum = two_alike (is_scalar x)
-accepts_scalars x op.GenericUnsignedMaximum = two_alike (is_scalar x)
-accepts_scalars x op.GenericAbsolute = one_alike (is_scalar x)
-accepts_scalars x op.GenericCountLeadingZeros = one_alike (is_scalar x)
-accepts_scalars x op.GenericCountTrailingZeros = one_alike (is_scalar x)
-accepts_scalars x op.GenericPopulationCount = one_alike (is_scalar x)
-accepts_scalars x op.GenericCountLeadingZerosNotOfZero = one_alike (is_scalar x)
-accepts_scalars x op.GenericCountTrailingZerosNotOfZero = one_alike (is_scalar x)
-accepts_scalars x _ = λ results sources. false
+-- each place has a type, each letter is one type of its class, and the types A and B are related
+abbrev pub are_typed : ℕ → TypingData → (results sources : List Llt) → Bool
+are_typed x typing results sources =
+    have_letters typing.results typing.more_results results
+    && have_letters typing.sources typing.more_sources sources
+    && list_all (λ l. are_one x (class_of typing l) (types_of l typing results sources)) letters
+    && are_related typing.relation (types_of letter.A typing results sources) (types_of letter.B typing results sources)
 
 abbrev pub accepts : (x : ℕ) → Opcode → (results sources : List Llt) → Bool
-accepts x op.Copy = one_alike (is_any x)
-accepts x op.Phi = joining x
-accepts x op.ImplicitDef = no_sources (is_any x)
-accepts x op.PseudoCall = no_types
-accepts x op.PseudoReturn = no_types
-accepts x op.AdjustCallStackDown = no_types
-accepts x op.AdjustCallStackUp = no_types
-accepts x op.GenericImplicitDef = no_sources (is_any x)
-accepts x op.GenericConstant = no_sources (is_any x)
-accepts x op.GenericFreeze = one_alike (is_any x)
-accepts x op.GenericFrameIndex = no_sources is_pointer
-accepts x op.GenericGlobalValue = no_sources is_pointer
-accepts x op.GenericPointerAdd = pointer_sum x
-accepts x op.GenericPointerToInteger = one_source (λ a b. is_scalar x a && is_pointer b)
-accepts x op.GenericIntegerToPointer = one_source (λ a b. is_pointer a && is_scalar x b)
-accepts x op.GenericTruncate = one_source (λ a b. is_narrower x a b)
-accepts x op.GenericAnyExtend = one_source (λ a b. is_narrower x b a)
-accepts x op.GenericZeroExtend = one_source (λ a b. is_narrower x b a)
-accepts x op.GenericSignExtend = one_source (λ a b. is_narrower x b a)
-accepts x op.GenericSignExtendInRegister = one_alike (is_wide x)
-accepts x op.GenericMergeValues = merge x
-accepts x op.GenericUnmergeValues = unmerge x
-accepts x op.GenericUnsignedAddOverflow = carry_out x
-accepts x op.GenericUnsignedSubtractOverflow = carry_out x
-accepts x op.GenericUnsignedAddCarry = carry_through x
-accepts x op.GenericUnsignedSubtractBorrow = carry_through x
-accepts x op.GenericUnsignedMultiplyHigh = two_alike (is_register x)
-accepts x op.GenericSignedMultiplyHigh = two_alike (is_register x)
-accepts x op.GenericCompare = comparison x
-accepts x op.GenericSelect = selection x
-accepts x op.GenericByteSwap = one_alike (is_swappable x)
-accepts x op.GenericFunnelShiftLeft = three_alike (is_rotatable x)
-accepts x op.GenericFunnelShiftRight = three_alike (is_rotatable x)
-accepts x op.GenericRotateLeft = two_alike (is_rotatable x)
-accepts x op.GenericRotateRight = two_alike (is_rotatable x)
-accepts x op.GenericLoad = one_source (λ a b. is_any x a && is_pointer b)
-accepts x op.GenericZeroExtendLoad = one_source (λ a b. is_scalar x a && is_pointer b)
-accepts x op.GenericSignExtendLoad = one_source (λ a b. is_scalar x a && is_pointer b)
-accepts x op.GenericStore = store x
-accepts x op.GenericPhi = joining x
-accepts x op.GenericBranch = no_types
-accepts x op.GenericBranchConditional = one_condition x
-accepts x op = accepts_scalars x op
+accepts x op results sources = option_map_or (λ typing. are_typed x typing results sources) (typing_of op) false
+
+-- ══ One type alone ══
+
+-- a type is of the class of the letter at a place
+abbrev pub is_typed_at : ℕ → TypingData → List Letter → (more : Option Letter) → (place : ℕ) → Llt → Bool
+is_typed_at x typing ls more place ty =
+    option_map_or (λ l. is_of x (class_of typing l) ty) (letter_at ls more place) false
+
+-- a type is among its opcode's at this place among the results, however it is related to other types; nothing is
+-- demanded in an instruction of the machine
+abbrev pub is_result_type : ℕ → Opcode → (place : ℕ) → Llt → Bool
+is_result_type x op place ty = option_map_or (λ typing. is_typed_at x typing typing.results typing.more_results place ty) (typing_of op) true
+
+-- the same at this place among the virtual registers that are read
+abbrev pub is_source_type : ℕ → Opcode → (place : ℕ) → Llt → Bool
+is_source_type x op place ty = option_map_or (λ typing. is_typed_at x typing typing.sources typing.more_sources place ty) (typing_of op) true
+
+-- the type of a memory operand is among its opcode's
+abbrev pub is_memory_type : ℕ → Opcode → Llt → Bool
+is_memory_type x op ty = is_in_memory x (memory_of op) ty
+
+abbrev pub is_constant_form : Form → Bool
+is_constant_form form.Constant = true
+is_constant_form _ = false
+
+-- a constant of so many bits is among its opcode's
+abbrev pub is_constant_type : ℕ → Opcode → (bits : ℕ) → Bool
+is_constant_type x op bits = list_any (λ forms. list_any is_constant_form forms) (rows_of op) && is_scalar x (Scalar bits)
+
+-- so many low bits of a scalar, with a sign among them, that don't fill it
+abbrev pub is_in_register : (x bits : ℕ) → ℤ → Bool
+is_in_register x bits k = is_scalar x (Scalar bits) && int_lt (pos 0) k && int_lt k (pos bits)

@@ -1,11 +1,15 @@
 pub mod Accepted
-pub mod Classes
 pub mod Data
 pub mod Edit
+pub mod Entries
 pub mod Formed
 pub mod Ids
 pub mod Names
 pub mod Numbering
 pub mod Registers
 pub mod Renaming
+pub mod Routines
 pub mod Row
+pub mod Stages
+pub mod Types
+pub mod Typings

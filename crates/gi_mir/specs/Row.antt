@@ -1,5 +1,6 @@
--- The table of opcodes: of each its word, the rows that its operands may have, its memory operand, and what
--- holds of it alone. A text that shows an instruction and one that reads it both go by this table.
+-- The table of opcodes: of each its word, the rows that its operands may have, its memory operand, what it does
+-- to the course of its block, the stages that it stands in and the types of its registers. All that is asked of an
+-- opcode is read from this table.
 use Rattle.std.specs.Prelude.{ℕ, Bool, true, false, List, [], ◌∷◌, Option, bytes_eq, codes, find, nat_eq}
 use Rattle.std.specs.List.{starts_with}
 use Rattle.gi_mir.specs.declared.opcode.Opcode.{Opcode}
@@ -7,262 +8,136 @@ use Rattle.gi_mir.specs.declared.opcode.Opcode.TheVariants.{Copy, Phi, ImplicitD
 use Rattle.gi_mir.specs.declared.row.Form.{Form}
 use Rattle.gi_mir.specs.declared.row.Form.TheVariants as form
 use Rattle.gi_mir.specs.declared.row.Access.{Access}
-use Rattle.gi_mir.specs.declared.row.Access.TheVariants as access
+use Rattle.gi_mir.specs.declared.entry.InMemory.{InMemory}
+use Rattle.gi_mir.specs.declared.entry.InMemory.TheVariants as memory
+use Rattle.gi_mir.specs.declared.entry.Role.{Role}
+use Rattle.gi_mir.specs.declared.entry.Role.TheVariants as role
+use Rattle.gi_mir.specs.declared.entry.Standing.{Standing}
+use Rattle.gi_mir.specs.declared.typing.Class.TheVariants as class
+use Rattle.gi_mir.specs.Entries.{EntryData, generic, shared, selected, machine, loading, storing, acting, wide}
+use Rattle.gi_mir.specs.Typings.{TypingData, no_types, no_sources, one_alike, two_alike, three_alike, one_pointer, from_pointer, to_pointer, truncation, extension, pointer_sum, comparison, selection, carry_out, carry_through, merge, unmerge, joining, store, one_condition}
 
--- the word of an opcode in a text
-abbrev pub word_of : Opcode → List ℕ
--- in any stage
-word_of Copy = codes "COPY"
-word_of Phi = codes "PHI"
-word_of ImplicitDef = codes "IMPLICIT_DEF"
-word_of PseudoCall = codes "PseudoCALL"
-word_of PseudoReturn = codes "PseudoRET"
-word_of AdjustCallStackDown = codes "ADJCALLSTACKDOWN"
-word_of AdjustCallStackUp = codes "ADJCALLSTACKUP"
--- generic: constants, addresses and casts
-word_of GenericImplicitDef = codes "G_IMPLICIT_DEF"
-word_of GenericConstant = codes "G_CONSTANT"
-word_of GenericFreeze = codes "G_FREEZE"
-word_of GenericFrameIndex = codes "G_FRAME_INDEX"
-word_of GenericGlobalValue = codes "G_GLOBAL_VALUE"
-word_of GenericPointerAdd = codes "G_PTR_ADD"
-word_of GenericPointerToInteger = codes "G_PTRTOINT"
-word_of GenericIntegerToPointer = codes "G_INTTOPTR"
-word_of GenericTruncate = codes "G_TRUNC"
-word_of GenericAnyExtend = codes "G_ANYEXT"
-word_of GenericZeroExtend = codes "G_ZEXT"
-word_of GenericSignExtend = codes "G_SEXT"
-word_of GenericSignExtendInRegister = codes "G_SEXT_INREG"
-word_of GenericMergeValues = codes "G_MERGE_VALUES"
-word_of GenericUnmergeValues = codes "G_UNMERGE_VALUES"
--- generic: arithmetic, logic and shifts
-word_of GenericAdd = codes "G_ADD"
-word_of GenericSubtract = codes "G_SUB"
-word_of GenericMultiply = codes "G_MUL"
-word_of GenericAnd = codes "G_AND"
-word_of GenericOr = codes "G_OR"
-word_of GenericXor = codes "G_XOR"
-word_of GenericUnsignedDivide = codes "G_UDIV"
-word_of GenericSignedDivide = codes "G_SDIV"
-word_of GenericUnsignedRemainder = codes "G_UREM"
-word_of GenericSignedRemainder = codes "G_SREM"
-word_of GenericShiftLeft = codes "G_SHL"
-word_of GenericLogicalShiftRight = codes "G_LSHR"
-word_of GenericArithmeticShiftRight = codes "G_ASHR"
-word_of GenericUnsignedAddOverflow = codes "G_UADDO"
-word_of GenericUnsignedSubtractOverflow = codes "G_USUBO"
-word_of GenericUnsignedAddCarry = codes "G_UADDE"
-word_of GenericUnsignedSubtractBorrow = codes "G_USUBE"
-word_of GenericUnsignedMultiplyHigh = codes "G_UMULH"
-word_of GenericSignedMultiplyHigh = codes "G_SMULH"
-word_of GenericCompare = codes "G_ICMP"
-word_of GenericSelect = codes "G_SELECT"
-word_of GenericSignedMinimum = codes "G_SMIN"
-word_of GenericSignedMaximum = codes "G_SMAX"
-word_of GenericUnsignedMinimum = codes "G_UMIN"
-word_of GenericUnsignedMaximum = codes "G_UMAX"
-word_of GenericAbsolute = codes "G_ABS"
-word_of GenericCountLeadingZeros = codes "G_CTLZ"
-word_of GenericCountTrailingZeros = codes "G_CTTZ"
-word_of GenericPopulationCount = codes "G_CTPOP"
-word_of GenericCountLeadingZerosNotOfZero = codes "G_CTLZ_ZERO_UNDEF"
-word_of GenericCountTrailingZerosNotOfZero = codes "G_CTTZ_ZERO_UNDEF"
-word_of GenericByteSwap = codes "G_BSWAP"
-word_of GenericFunnelShiftLeft = codes "G_FSHL"
-word_of GenericFunnelShiftRight = codes "G_FSHR"
-word_of GenericRotateLeft = codes "G_ROTL"
-word_of GenericRotateRight = codes "G_ROTR"
--- generic: memory, phis and branches
-word_of GenericLoad = codes "G_LOAD"
-word_of GenericZeroExtendLoad = codes "G_ZEXTLOAD"
-word_of GenericSignExtendLoad = codes "G_SEXTLOAD"
-word_of GenericStore = codes "G_STORE"
-word_of GenericPhi = codes "G_PHI"
-word_of GenericBranch = codes "G_BR"
-word_of GenericBranchConditional = codes "G_BRCOND"
--- target: two registers
-word_of Add = codes "ADD"
-word_of Subtract = codes "SUB"
-word_of And = codes "AND"
-word_of Or = codes "OR"
-word_of Xor = codes "XOR"
-word_of SetLess = codes "SLT"
-word_of SetLessUnsigned = codes "SLTU"
-word_of ShiftLeftLogical = codes "SLL"
-word_of ShiftRightLogical = codes "SRL"
-word_of ShiftRightArithmetic = codes "SRA"
-word_of Multiply = codes "MUL"
-word_of MultiplyHigh = codes "MULH"
-word_of MultiplyHighUnsigned = codes "MULHU"
-word_of Divide = codes "DIV"
-word_of DivideUnsigned = codes "DIVU"
-word_of Remainder = codes "REM"
-word_of RemainderUnsigned = codes "REMU"
--- target: a register and an immediate
-word_of AddImmediate = codes "ADDI"
-word_of SetLessImmediate = codes "SLTI"
-word_of SetLessImmediateUnsigned = codes "SLTIU"
-word_of AndImmediate = codes "ANDI"
-word_of OrImmediate = codes "ORI"
-word_of XorImmediate = codes "XORI"
-word_of ShiftLeftLogicalImmediate = codes "SLLI"
-word_of ShiftRightLogicalImmediate = codes "SRLI"
-word_of ShiftRightArithmeticImmediate = codes "SRAI"
-word_of LoadUpperImmediate = codes "LUI"
--- target, 64 bits alone: words of 32 bits
-word_of AddWord = codes "ADDW"
-word_of SubtractWord = codes "SUBW"
-word_of MultiplyWord = codes "MULW"
-word_of ShiftLeftLogicalWord = codes "SLLW"
-word_of ShiftRightLogicalWord = codes "SRLW"
-word_of ShiftRightArithmeticWord = codes "SRAW"
-word_of DivideWord = codes "DIVW"
-word_of DivideUnsignedWord = codes "DIVUW"
-word_of RemainderWord = codes "REMW"
-word_of RemainderUnsignedWord = codes "REMUW"
-word_of AddImmediateWord = codes "ADDIW"
-word_of ShiftLeftLogicalImmediateWord = codes "SLLIW"
-word_of ShiftRightLogicalImmediateWord = codes "SRLIW"
-word_of ShiftRightArithmeticImmediateWord = codes "SRAIW"
--- target: loads, stores and branches
-word_of LoadByte = codes "LB"
-word_of LoadHalf = codes "LH"
-word_of LoadWord = codes "LW"
-word_of LoadByteUnsigned = codes "LBU"
-word_of LoadHalfUnsigned = codes "LHU"
-word_of LoadWordUnsigned = codes "LWU"
-word_of LoadDouble = codes "LD"
-word_of StoreByte = codes "SB"
-word_of StoreHalf = codes "SH"
-word_of StoreWord = codes "SW"
-word_of StoreDouble = codes "SD"
-word_of BranchEqual = codes "BEQ"
-word_of BranchNotEqual = codes "BNE"
-word_of BranchLess = codes "BLT"
-word_of BranchGreaterEqual = codes "BGE"
-word_of BranchLessUnsigned = codes "BLTU"
-word_of BranchGreaterEqualUnsigned = codes "BGEU"
-word_of PseudoBranch = codes "PseudoBR"
+-- ══ Rows ══
 
 -- `%d:A = G_IMPLICIT_DEF`
-abbrev pub defined_row : List Form
-defined_row = form.Def ∷ []
+abbrev pub defined_rows : List (List Form)
+defined_rows = (form.Def ∷ []) ∷ []
 
 -- `%d:A = G_PHI %a(A), %bb.N, ..`
-abbrev pub phi_row : List Form
-phi_row = form.Def ∷ form.Entry ∷ []
+abbrev pub phi_rows : List (List Form)
+phi_rows = (form.Def ∷ form.Entry ∷ []) ∷ []
 
 -- `PseudoCALL target-flags(riscv-call) @g, csr_ilp32_lp64, implicit-def $x1, ..`
-abbrev pub call_row : List Form
-call_row = form.Callee ∷ form.SavedMask ∷ form.ImplicitDef ∷ form.Implicits ∷ []
+abbrev pub call_rows : List (List Form)
+call_rows = (form.Callee ∷ form.SavedMask ∷ form.ImplicitDef ∷ form.Implicits ∷ []) ∷ []
 
 -- `PseudoRET implicit $x10, ..`
-abbrev pub returned_row : List Form
-returned_row = form.ImplicitUses ∷ []
+abbrev pub returned_rows : List (List Form)
+returned_rows = (form.ImplicitUses ∷ []) ∷ []
 
 -- `ADJCALLSTACKDOWN 0, 0, implicit-def $x2, implicit $x2`
-abbrev pub adjusted_row : List Form
-adjusted_row = form.Int ∷ form.Int ∷ form.ImplicitDef ∷ form.ImplicitUse ∷ []
+abbrev pub adjusted_rows : List (List Form)
+adjusted_rows = (form.Int ∷ form.Int ∷ form.ImplicitDef ∷ form.ImplicitUse ∷ []) ∷ []
 
 -- `%d:A = G_CONSTANT iN V`
-abbrev pub constant_row : List Form
-constant_row = form.Def ∷ form.Constant ∷ []
+abbrev pub constant_rows : List (List Form)
+constant_rows = (form.Def ∷ form.Constant ∷ []) ∷ []
 
 -- `%d:A = G_FREEZE %s`
-abbrev pub unary_row : List Form
-unary_row = form.Def ∷ form.Use ∷ []
+abbrev pub unary_rows : List (List Form)
+unary_rows = (form.Def ∷ form.Use ∷ []) ∷ []
 
 -- `%d:p0 = G_FRAME_INDEX %stack.N`
-abbrev pub frame_index_row : List Form
-frame_index_row = form.Def ∷ form.Frame ∷ []
+abbrev pub frame_index_rows : List (List Form)
+frame_index_rows = (form.Def ∷ form.Frame ∷ []) ∷ []
 
 -- `%d:p0 = G_GLOBAL_VALUE @g`
-abbrev pub global_value_row : List Form
-global_value_row = form.Def ∷ form.Global ∷ []
+abbrev pub global_value_rows : List (List Form)
+global_value_rows = (form.Def ∷ form.Global ∷ []) ∷ []
 
 -- `%d:A = G_SHL %a, %n(A)`
-abbrev pub shift_row : List Form
-shift_row = form.Def ∷ form.Use ∷ form.TypedUse ∷ []
+abbrev pub shift_rows : List (List Form)
+shift_rows = (form.Def ∷ form.Use ∷ form.TypedUse ∷ []) ∷ []
 
 -- `%d:A = G_TRUNC %s(B)`
-abbrev pub unary_typed_row : List Form
-unary_typed_row = form.Def ∷ form.TypedUse ∷ []
+abbrev pub unary_typed_rows : List (List Form)
+unary_typed_rows = (form.Def ∷ form.TypedUse ∷ []) ∷ []
 
 -- `%d:A = G_SEXT_INREG %s, K`
-abbrev pub in_register_row : List Form
-in_register_row = form.Def ∷ form.Use ∷ form.Int ∷ []
+abbrev pub in_register_rows : List (List Form)
+in_register_rows = (form.Def ∷ form.Use ∷ form.Int ∷ []) ∷ []
 
 -- `%d:A = G_MERGE_VALUES %a(B), %b(B), ..`
-abbrev pub merge_row : List Form
-merge_row = form.Def ∷ form.Parts ∷ []
+abbrev pub merge_rows : List (List Form)
+merge_rows = (form.Def ∷ form.Parts ∷ []) ∷ []
 
--- `%d:A, %e:A, .. = G_UNMERGE_VALUES %s(B)`
-abbrev pub unmerge_row : List Form
-unmerge_row = form.Results ∷ form.TypedUse ∷ []
+-- `%d:B, %e:B, .. = G_UNMERGE_VALUES %s(A)`
+abbrev pub unmerge_rows : List (List Form)
+unmerge_rows = (form.Results ∷ form.TypedUse ∷ []) ∷ []
 
 -- `%d:A = G_ADD %a, %b`
-abbrev pub binary_row : List Form
-binary_row = form.Def ∷ form.Use ∷ form.Use ∷ []
+abbrev pub binary_rows : List (List Form)
+binary_rows = (form.Def ∷ form.Use ∷ form.Use ∷ []) ∷ []
 
 -- `%d:A, %e:s1 = G_UADDO %a, %b`
-abbrev pub overflow_row : List Form
-overflow_row = form.Def ∷ form.Def ∷ form.Use ∷ form.Use ∷ []
+abbrev pub overflow_rows : List (List Form)
+overflow_rows = (form.Def ∷ form.Def ∷ form.Use ∷ form.Use ∷ []) ∷ []
 
 -- `%d:A, %e:s1 = G_UADDE %a, %b, %c`
-abbrev pub carry_row : List Form
-carry_row = form.Def ∷ form.Def ∷ form.Use ∷ form.Use ∷ form.Use ∷ []
+abbrev pub carry_rows : List (List Form)
+carry_rows = (form.Def ∷ form.Def ∷ form.Use ∷ form.Use ∷ form.Use ∷ []) ∷ []
 
 -- `%d:A = G_ICMP intpred(P), %a(B), %b`
-abbrev pub compare_row : List Form
-compare_row = form.Def ∷ form.Predicate ∷ form.TypedUse ∷ form.Use ∷ []
+abbrev pub compare_rows : List (List Form)
+compare_rows = (form.Def ∷ form.Predicate ∷ form.TypedUse ∷ form.Use ∷ []) ∷ []
 
 -- `%d:A = G_SELECT %c(B), %a, %b`
-abbrev pub select_row : List Form
-select_row = form.Def ∷ form.TypedUse ∷ form.Use ∷ form.Use ∷ []
+abbrev pub select_rows : List (List Form)
+select_rows = (form.Def ∷ form.TypedUse ∷ form.Use ∷ form.Use ∷ []) ∷ []
 
 -- `%d:A = G_FSHL %a, %b, %n(A)`
-abbrev pub funnel_row : List Form
-funnel_row = form.Def ∷ form.Use ∷ form.Use ∷ form.TypedUse ∷ []
+abbrev pub funnel_rows : List (List Form)
+funnel_rows = (form.Def ∷ form.Use ∷ form.Use ∷ form.TypedUse ∷ []) ∷ []
 
 -- `G_STORE %v(A), %p(p0)`
-abbrev pub store_row : List Form
-store_row = form.TypedUse ∷ form.TypedUse ∷ []
+abbrev pub store_rows : List (List Form)
+store_rows = (form.TypedUse ∷ form.TypedUse ∷ []) ∷ []
 
 -- `G_BR %bb.N`
-abbrev pub branch_row : List Form
-branch_row = form.Block ∷ []
+abbrev pub branch_rows : List (List Form)
+branch_rows = (form.Block ∷ []) ∷ []
 
 -- `G_BRCOND %c(B), %bb.N`
-abbrev pub branch_conditional_row : List Form
-branch_conditional_row = form.TypedUse ∷ form.Block ∷ []
+abbrev pub branch_conditional_rows : List (List Form)
+branch_conditional_rows = (form.TypedUse ∷ form.Block ∷ []) ∷ []
 
 -- `%d = ADD a, b`
-abbrev pub registers_row : List Form
-registers_row = form.Def ∷ form.Source ∷ form.Source ∷ []
+abbrev pub registers_rows : List (List Form)
+registers_rows = (form.Def ∷ form.Source ∷ form.Source ∷ []) ∷ []
 
 -- `%d = ADDI a, i`
-abbrev pub add_immediate_row : List Form
-add_immediate_row = form.Def ∷ form.Address ∷ form.Low ∷ []
+abbrev pub add_immediate_rows : List (List Form)
+add_immediate_rows = (form.Def ∷ form.Address ∷ form.Low ∷ []) ∷ []
 
 -- `%d = SLTI a, i`
-abbrev pub immediate_row : List Form
-immediate_row = form.Def ∷ form.Source ∷ form.Int ∷ []
+abbrev pub immediate_rows : List (List Form)
+immediate_rows = (form.Def ∷ form.Source ∷ form.Int ∷ []) ∷ []
 
 -- `%d = LUI i`
-abbrev pub upper_row : List Form
-upper_row = form.Def ∷ form.High ∷ []
+abbrev pub upper_rows : List (List Form)
+upper_rows = (form.Def ∷ form.High ∷ []) ∷ []
 
 -- `%d = LB a, i`
-abbrev pub machine_load_row : List Form
-machine_load_row = form.Def ∷ form.Address ∷ form.Int ∷ []
+abbrev pub machine_load_rows : List (List Form)
+machine_load_rows = (form.Def ∷ form.Address ∷ form.Int ∷ []) ∷ []
 
 -- `SB v, a, i`
-abbrev pub machine_store_row : List Form
-machine_store_row = form.Source ∷ form.Address ∷ form.Int ∷ []
+abbrev pub machine_store_rows : List (List Form)
+machine_store_rows = (form.Source ∷ form.Address ∷ form.Int ∷ []) ∷ []
 
 -- `BEQ a, b, %bb.N`
-abbrev pub machine_branch_row : List Form
-machine_branch_row = form.Source ∷ form.Source ∷ form.Block ∷ []
+abbrev pub machine_branch_rows : List (List Form)
+machine_branch_rows = (form.Source ∷ form.Source ∷ form.Block ∷ []) ∷ []
 
 -- `%d:A = COPY %s(A)`, `%d:A = COPY $xN` and `$xN = COPY %s(A)`
 abbrev pub copy_rows : List (List Form)
@@ -272,214 +147,218 @@ copy_rows =
     ∷ (form.PhysicalDef ∷ form.TypedUse ∷ [])
     ∷ []
 
+-- ══ The table ══
+
+abbrev pub entry_of : Opcode → EntryData
+-- in every stage, and two of them after selection
+entry_of Copy = shared (codes "COPY") copy_rows (one_alike class.Any)
+entry_of Phi = acting role.Phi (selected (codes "PHI") phi_rows joining)
+entry_of ImplicitDef = selected (codes "IMPLICIT_DEF") defined_rows (no_sources class.Any)
+entry_of PseudoCall = acting role.Call (shared (codes "PseudoCALL") call_rows no_types)
+entry_of PseudoReturn = acting role.Return (shared (codes "PseudoRET") returned_rows no_types)
+entry_of AdjustCallStackDown = shared (codes "ADJCALLSTACKDOWN") adjusted_rows no_types
+entry_of AdjustCallStackUp = shared (codes "ADJCALLSTACKUP") adjusted_rows no_types
+-- generic: constants, addresses and casts
+entry_of GenericImplicitDef = generic (codes "G_IMPLICIT_DEF") defined_rows (no_sources class.Any)
+entry_of GenericConstant = generic (codes "G_CONSTANT") constant_rows (no_sources class.Any)
+entry_of GenericFreeze = generic (codes "G_FREEZE") unary_rows (one_alike class.Any)
+entry_of GenericFrameIndex = generic (codes "G_FRAME_INDEX") frame_index_rows one_pointer
+entry_of GenericGlobalValue = generic (codes "G_GLOBAL_VALUE") global_value_rows one_pointer
+entry_of GenericPointerAdd = generic (codes "G_PTR_ADD") shift_rows pointer_sum
+entry_of GenericPointerToInteger = generic (codes "G_PTRTOINT") unary_typed_rows (from_pointer class.Scalar)
+entry_of GenericIntegerToPointer = generic (codes "G_INTTOPTR") unary_typed_rows (to_pointer class.Scalar)
+entry_of GenericTruncate = generic (codes "G_TRUNC") unary_typed_rows truncation
+entry_of GenericAnyExtend = generic (codes "G_ANYEXT") unary_typed_rows extension
+entry_of GenericZeroExtend = generic (codes "G_ZEXT") unary_typed_rows extension
+entry_of GenericSignExtend = generic (codes "G_SEXT") unary_typed_rows extension
+entry_of GenericSignExtendInRegister = generic (codes "G_SEXT_INREG") in_register_rows (one_alike class.Wide)
+entry_of GenericMergeValues = generic (codes "G_MERGE_VALUES") merge_rows merge
+entry_of GenericUnmergeValues = generic (codes "G_UNMERGE_VALUES") unmerge_rows unmerge
+-- generic: arithmetic, logic and shifts
+entry_of GenericAdd = generic (codes "G_ADD") binary_rows (two_alike class.Scalar)
+entry_of GenericSubtract = generic (codes "G_SUB") binary_rows (two_alike class.Scalar)
+entry_of GenericMultiply = generic (codes "G_MUL") binary_rows (two_alike class.Scalar)
+entry_of GenericAnd = generic (codes "G_AND") binary_rows (two_alike class.Scalar)
+entry_of GenericOr = generic (codes "G_OR") binary_rows (two_alike class.Scalar)
+entry_of GenericXor = generic (codes "G_XOR") binary_rows (two_alike class.Scalar)
+entry_of GenericUnsignedDivide = generic (codes "G_UDIV") binary_rows (two_alike class.Scalar)
+entry_of GenericSignedDivide = generic (codes "G_SDIV") binary_rows (two_alike class.Scalar)
+entry_of GenericUnsignedRemainder = generic (codes "G_UREM") binary_rows (two_alike class.Scalar)
+entry_of GenericSignedRemainder = generic (codes "G_SREM") binary_rows (two_alike class.Scalar)
+entry_of GenericShiftLeft = generic (codes "G_SHL") shift_rows (two_alike class.Scalar)
+entry_of GenericLogicalShiftRight = generic (codes "G_LSHR") shift_rows (two_alike class.Scalar)
+entry_of GenericArithmeticShiftRight = generic (codes "G_ASHR") shift_rows (two_alike class.Scalar)
+entry_of GenericUnsignedAddOverflow = generic (codes "G_UADDO") overflow_rows carry_out
+entry_of GenericUnsignedSubtractOverflow = generic (codes "G_USUBO") overflow_rows carry_out
+entry_of GenericUnsignedAddCarry = generic (codes "G_UADDE") carry_rows carry_through
+entry_of GenericUnsignedSubtractBorrow = generic (codes "G_USUBE") carry_rows carry_through
+entry_of GenericUnsignedMultiplyHigh = generic (codes "G_UMULH") binary_rows (two_alike class.Register)
+entry_of GenericSignedMultiplyHigh = generic (codes "G_SMULH") binary_rows (two_alike class.Register)
+entry_of GenericCompare = generic (codes "G_ICMP") compare_rows comparison
+entry_of GenericSelect = generic (codes "G_SELECT") select_rows selection
+entry_of GenericSignedMinimum = generic (codes "G_SMIN") binary_rows (two_alike class.Scalar)
+entry_of GenericSignedMaximum = generic (codes "G_SMAX") binary_rows (two_alike class.Scalar)
+entry_of GenericUnsignedMinimum = generic (codes "G_UMIN") binary_rows (two_alike class.Scalar)
+entry_of GenericUnsignedMaximum = generic (codes "G_UMAX") binary_rows (two_alike class.Scalar)
+entry_of GenericAbsolute = generic (codes "G_ABS") unary_rows (one_alike class.Scalar)
+entry_of GenericCountLeadingZeros = generic (codes "G_CTLZ") unary_typed_rows (one_alike class.Scalar)
+entry_of GenericCountTrailingZeros = generic (codes "G_CTTZ") unary_typed_rows (one_alike class.Scalar)
+entry_of GenericPopulationCount = generic (codes "G_CTPOP") unary_typed_rows (one_alike class.Scalar)
+entry_of GenericCountLeadingZerosNotOfZero = generic (codes "G_CTLZ_ZERO_UNDEF") unary_typed_rows (one_alike class.Scalar)
+entry_of GenericCountTrailingZerosNotOfZero = generic (codes "G_CTTZ_ZERO_UNDEF") unary_typed_rows (one_alike class.Scalar)
+entry_of GenericByteSwap = generic (codes "G_BSWAP") unary_rows (one_alike class.Swappable)
+entry_of GenericFunnelShiftLeft = generic (codes "G_FSHL") funnel_rows (three_alike class.Rotatable)
+entry_of GenericFunnelShiftRight = generic (codes "G_FSHR") funnel_rows (three_alike class.Rotatable)
+entry_of GenericRotateLeft = generic (codes "G_ROTL") shift_rows (two_alike class.Rotatable)
+entry_of GenericRotateRight = generic (codes "G_ROTR") shift_rows (two_alike class.Rotatable)
+-- generic: memory, phis and branches
+entry_of GenericLoad = loading memory.Value (generic (codes "G_LOAD") unary_typed_rows (from_pointer class.Any))
+entry_of GenericZeroExtendLoad = loading memory.Extended (generic (codes "G_ZEXTLOAD") unary_typed_rows (from_pointer class.Scalar))
+entry_of GenericSignExtendLoad = loading memory.Extended (generic (codes "G_SEXTLOAD") unary_typed_rows (from_pointer class.Scalar))
+entry_of GenericStore = storing memory.Value (generic (codes "G_STORE") store_rows store)
+entry_of GenericPhi = acting role.Phi (generic (codes "G_PHI") phi_rows joining)
+entry_of GenericBranch = acting role.Jump (generic (codes "G_BR") branch_rows no_types)
+entry_of GenericBranchConditional = acting role.Branch (generic (codes "G_BRCOND") branch_conditional_rows one_condition)
+-- target: two registers
+entry_of Add = machine (codes "ADD") registers_rows
+entry_of Subtract = machine (codes "SUB") registers_rows
+entry_of And = machine (codes "AND") registers_rows
+entry_of Or = machine (codes "OR") registers_rows
+entry_of Xor = machine (codes "XOR") registers_rows
+entry_of SetLess = machine (codes "SLT") registers_rows
+entry_of SetLessUnsigned = machine (codes "SLTU") registers_rows
+entry_of ShiftLeftLogical = machine (codes "SLL") registers_rows
+entry_of ShiftRightLogical = machine (codes "SRL") registers_rows
+entry_of ShiftRightArithmetic = machine (codes "SRA") registers_rows
+entry_of Multiply = machine (codes "MUL") registers_rows
+entry_of MultiplyHigh = machine (codes "MULH") registers_rows
+entry_of MultiplyHighUnsigned = machine (codes "MULHU") registers_rows
+entry_of Divide = machine (codes "DIV") registers_rows
+entry_of DivideUnsigned = machine (codes "DIVU") registers_rows
+entry_of Remainder = machine (codes "REM") registers_rows
+entry_of RemainderUnsigned = machine (codes "REMU") registers_rows
+-- target: a register and an immediate
+entry_of AddImmediate = machine (codes "ADDI") add_immediate_rows
+entry_of SetLessImmediate = machine (codes "SLTI") immediate_rows
+entry_of SetLessImmediateUnsigned = machine (codes "SLTIU") immediate_rows
+entry_of AndImmediate = machine (codes "ANDI") immediate_rows
+entry_of OrImmediate = machine (codes "ORI") immediate_rows
+entry_of XorImmediate = machine (codes "XORI") immediate_rows
+entry_of ShiftLeftLogicalImmediate = machine (codes "SLLI") immediate_rows
+entry_of ShiftRightLogicalImmediate = machine (codes "SRLI") immediate_rows
+entry_of ShiftRightArithmeticImmediate = machine (codes "SRAI") immediate_rows
+entry_of LoadUpperImmediate = machine (codes "LUI") upper_rows
+-- target, 64 bits alone: words of 32 bits
+entry_of AddWord = wide (machine (codes "ADDW") registers_rows)
+entry_of SubtractWord = wide (machine (codes "SUBW") registers_rows)
+entry_of MultiplyWord = wide (machine (codes "MULW") registers_rows)
+entry_of ShiftLeftLogicalWord = wide (machine (codes "SLLW") registers_rows)
+entry_of ShiftRightLogicalWord = wide (machine (codes "SRLW") registers_rows)
+entry_of ShiftRightArithmeticWord = wide (machine (codes "SRAW") registers_rows)
+entry_of DivideWord = wide (machine (codes "DIVW") registers_rows)
+entry_of DivideUnsignedWord = wide (machine (codes "DIVUW") registers_rows)
+entry_of RemainderWord = wide (machine (codes "REMW") registers_rows)
+entry_of RemainderUnsignedWord = wide (machine (codes "REMUW") registers_rows)
+entry_of AddImmediateWord = wide (machine (codes "ADDIW") immediate_rows)
+entry_of ShiftLeftLogicalImmediateWord = wide (machine (codes "SLLIW") immediate_rows)
+entry_of ShiftRightLogicalImmediateWord = wide (machine (codes "SRLIW") immediate_rows)
+entry_of ShiftRightArithmeticImmediateWord = wide (machine (codes "SRAIW") immediate_rows)
+-- target: loads, stores and branches
+entry_of LoadByte = loading (memory.Bits 8) (machine (codes "LB") machine_load_rows)
+entry_of LoadHalf = loading (memory.Bits 16) (machine (codes "LH") machine_load_rows)
+entry_of LoadWord = loading (memory.Bits 32) (machine (codes "LW") machine_load_rows)
+entry_of LoadByteUnsigned = loading (memory.Bits 8) (machine (codes "LBU") machine_load_rows)
+entry_of LoadHalfUnsigned = loading (memory.Bits 16) (machine (codes "LHU") machine_load_rows)
+entry_of LoadWordUnsigned = wide (loading (memory.Bits 32) (machine (codes "LWU") machine_load_rows))
+entry_of LoadDouble = wide (loading (memory.Bits 64) (machine (codes "LD") machine_load_rows))
+entry_of StoreByte = storing (memory.Bits 8) (machine (codes "SB") machine_store_rows)
+entry_of StoreHalf = storing (memory.Bits 16) (machine (codes "SH") machine_store_rows)
+entry_of StoreWord = storing (memory.Bits 32) (machine (codes "SW") machine_store_rows)
+entry_of StoreDouble = wide (storing (memory.Bits 64) (machine (codes "SD") machine_store_rows))
+entry_of BranchEqual = acting role.Branch (machine (codes "BEQ") machine_branch_rows)
+entry_of BranchNotEqual = acting role.Branch (machine (codes "BNE") machine_branch_rows)
+entry_of BranchLess = acting role.Branch (machine (codes "BLT") machine_branch_rows)
+entry_of BranchGreaterEqual = acting role.Branch (machine (codes "BGE") machine_branch_rows)
+entry_of BranchLessUnsigned = acting role.Branch (machine (codes "BLTU") machine_branch_rows)
+entry_of BranchGreaterEqualUnsigned = acting role.Branch (machine (codes "BGEU") machine_branch_rows)
+entry_of PseudoBranch = acting role.Jump (machine (codes "PseudoBR") branch_rows)
+
+-- ══ What is read from it ══
+
+-- the word of an opcode in a text
+abbrev pub word_of : Opcode → List ℕ
+word_of op = (entry_of op).word
+
 -- the rows of an opcode, of which its operands have one
 abbrev pub rows_of : Opcode → List (List Form)
--- in any stage
-rows_of Copy = copy_rows
-rows_of Phi = phi_row ∷ []
-rows_of ImplicitDef = defined_row ∷ []
-rows_of PseudoCall = call_row ∷ []
-rows_of PseudoReturn = returned_row ∷ []
-rows_of AdjustCallStackDown = adjusted_row ∷ []
-rows_of AdjustCallStackUp = adjusted_row ∷ []
--- generic: constants, addresses and casts
-rows_of GenericImplicitDef = defined_row ∷ []
-rows_of GenericConstant = constant_row ∷ []
-rows_of GenericFreeze = unary_row ∷ []
-rows_of GenericFrameIndex = frame_index_row ∷ []
-rows_of GenericGlobalValue = global_value_row ∷ []
-rows_of GenericPointerAdd = shift_row ∷ []
-rows_of GenericPointerToInteger = unary_typed_row ∷ []
-rows_of GenericIntegerToPointer = unary_typed_row ∷ []
-rows_of GenericTruncate = unary_typed_row ∷ []
-rows_of GenericAnyExtend = unary_typed_row ∷ []
-rows_of GenericZeroExtend = unary_typed_row ∷ []
-rows_of GenericSignExtend = unary_typed_row ∷ []
-rows_of GenericSignExtendInRegister = in_register_row ∷ []
-rows_of GenericMergeValues = merge_row ∷ []
-rows_of GenericUnmergeValues = unmerge_row ∷ []
--- generic: arithmetic, logic, shifts and comparisons
-rows_of GenericAdd = binary_row ∷ []
-rows_of GenericSubtract = binary_row ∷ []
-rows_of GenericMultiply = binary_row ∷ []
-rows_of GenericAnd = binary_row ∷ []
-rows_of GenericOr = binary_row ∷ []
-rows_of GenericXor = binary_row ∷ []
-rows_of GenericUnsignedDivide = binary_row ∷ []
-rows_of GenericSignedDivide = binary_row ∷ []
-rows_of GenericUnsignedRemainder = binary_row ∷ []
-rows_of GenericSignedRemainder = binary_row ∷ []
-rows_of GenericShiftLeft = shift_row ∷ []
-rows_of GenericLogicalShiftRight = shift_row ∷ []
-rows_of GenericArithmeticShiftRight = shift_row ∷ []
-rows_of GenericUnsignedAddOverflow = overflow_row ∷ []
-rows_of GenericUnsignedSubtractOverflow = overflow_row ∷ []
-rows_of GenericUnsignedAddCarry = carry_row ∷ []
-rows_of GenericUnsignedSubtractBorrow = carry_row ∷ []
-rows_of GenericUnsignedMultiplyHigh = binary_row ∷ []
-rows_of GenericSignedMultiplyHigh = binary_row ∷ []
-rows_of GenericCompare = compare_row ∷ []
-rows_of GenericSelect = select_row ∷ []
-rows_of GenericSignedMinimum = binary_row ∷ []
-rows_of GenericSignedMaximum = binary_row ∷ []
-rows_of GenericUnsignedMinimum = binary_row ∷ []
-rows_of GenericUnsignedMaximum = binary_row ∷ []
-rows_of GenericAbsolute = unary_row ∷ []
-rows_of GenericCountLeadingZeros = unary_typed_row ∷ []
-rows_of GenericCountTrailingZeros = unary_typed_row ∷ []
-rows_of GenericPopulationCount = unary_typed_row ∷ []
-rows_of GenericCountLeadingZerosNotOfZero = unary_typed_row ∷ []
-rows_of GenericCountTrailingZerosNotOfZero = unary_typed_row ∷ []
-rows_of GenericByteSwap = unary_row ∷ []
-rows_of GenericFunnelShiftLeft = funnel_row ∷ []
-rows_of GenericFunnelShiftRight = funnel_row ∷ []
-rows_of GenericRotateLeft = shift_row ∷ []
-rows_of GenericRotateRight = shift_row ∷ []
--- generic: memory, phis and branches
-rows_of GenericLoad = unary_typed_row ∷ []
-rows_of GenericZeroExtendLoad = unary_typed_row ∷ []
-rows_of GenericSignExtendLoad = unary_typed_row ∷ []
-rows_of GenericStore = store_row ∷ []
-rows_of GenericPhi = phi_row ∷ []
-rows_of GenericBranch = branch_row ∷ []
-rows_of GenericBranchConditional = branch_conditional_row ∷ []
--- target: two registers
-rows_of Add = registers_row ∷ []
-rows_of Subtract = registers_row ∷ []
-rows_of And = registers_row ∷ []
-rows_of Or = registers_row ∷ []
-rows_of Xor = registers_row ∷ []
-rows_of SetLess = registers_row ∷ []
-rows_of SetLessUnsigned = registers_row ∷ []
-rows_of ShiftLeftLogical = registers_row ∷ []
-rows_of ShiftRightLogical = registers_row ∷ []
-rows_of ShiftRightArithmetic = registers_row ∷ []
-rows_of Multiply = registers_row ∷ []
-rows_of MultiplyHigh = registers_row ∷ []
-rows_of MultiplyHighUnsigned = registers_row ∷ []
-rows_of Divide = registers_row ∷ []
-rows_of DivideUnsigned = registers_row ∷ []
-rows_of Remainder = registers_row ∷ []
-rows_of RemainderUnsigned = registers_row ∷ []
--- target: a register and an immediate
-rows_of AddImmediate = add_immediate_row ∷ []
-rows_of SetLessImmediate = immediate_row ∷ []
-rows_of SetLessImmediateUnsigned = immediate_row ∷ []
-rows_of AndImmediate = immediate_row ∷ []
-rows_of OrImmediate = immediate_row ∷ []
-rows_of XorImmediate = immediate_row ∷ []
-rows_of ShiftLeftLogicalImmediate = immediate_row ∷ []
-rows_of ShiftRightLogicalImmediate = immediate_row ∷ []
-rows_of ShiftRightArithmeticImmediate = immediate_row ∷ []
-rows_of LoadUpperImmediate = upper_row ∷ []
--- target, 64 bits alone: words of 32 bits
-rows_of AddWord = registers_row ∷ []
-rows_of SubtractWord = registers_row ∷ []
-rows_of MultiplyWord = registers_row ∷ []
-rows_of ShiftLeftLogicalWord = registers_row ∷ []
-rows_of ShiftRightLogicalWord = registers_row ∷ []
-rows_of ShiftRightArithmeticWord = registers_row ∷ []
-rows_of DivideWord = registers_row ∷ []
-rows_of DivideUnsignedWord = registers_row ∷ []
-rows_of RemainderWord = registers_row ∷ []
-rows_of RemainderUnsignedWord = registers_row ∷ []
-rows_of AddImmediateWord = immediate_row ∷ []
-rows_of ShiftLeftLogicalImmediateWord = immediate_row ∷ []
-rows_of ShiftRightLogicalImmediateWord = immediate_row ∷ []
-rows_of ShiftRightArithmeticImmediateWord = immediate_row ∷ []
--- target: loads, stores and branches
-rows_of LoadByte = machine_load_row ∷ []
-rows_of LoadHalf = machine_load_row ∷ []
-rows_of LoadWord = machine_load_row ∷ []
-rows_of LoadByteUnsigned = machine_load_row ∷ []
-rows_of LoadHalfUnsigned = machine_load_row ∷ []
-rows_of LoadWordUnsigned = machine_load_row ∷ []
-rows_of LoadDouble = machine_load_row ∷ []
-rows_of StoreByte = machine_store_row ∷ []
-rows_of StoreHalf = machine_store_row ∷ []
-rows_of StoreWord = machine_store_row ∷ []
-rows_of StoreDouble = machine_store_row ∷ []
-rows_of BranchEqual = machine_branch_row ∷ []
-rows_of BranchNotEqual = machine_branch_row ∷ []
-rows_of BranchLess = machine_branch_row ∷ []
-rows_of BranchGreaterEqual = machine_branch_row ∷ []
-rows_of BranchLessUnsigned = machine_branch_row ∷ []
-rows_of BranchGreaterEqualUnsigned = machine_branch_row ∷ []
-rows_of PseudoBranch = branch_row ∷ []
+rows_of op = (entry_of op).rows
 
 -- what an opcode does with memory
 abbrev pub access_of : Opcode → Access
-access_of GenericLoad = access.Load
-access_of GenericZeroExtendLoad = access.Load
-access_of GenericSignExtendLoad = access.Load
-access_of LoadByte = access.Load
-access_of LoadHalf = access.Load
-access_of LoadWord = access.Load
-access_of LoadByteUnsigned = access.Load
-access_of LoadHalfUnsigned = access.Load
-access_of LoadWordUnsigned = access.Load
-access_of LoadDouble = access.Load
-access_of GenericStore = access.Store
-access_of StoreByte = access.Store
-access_of StoreHalf = access.Store
-access_of StoreWord = access.Store
-access_of StoreDouble = access.Store
-access_of _ = access.Neither
+access_of op = (entry_of op).access
+
+-- the types that a value has in memory
+abbrev pub memory_of : Opcode → InMemory
+memory_of op = (entry_of op).memory
+
+abbrev pub role_of : Opcode → Role
+role_of op = (entry_of op).role
+
+abbrev pub standing_of : Opcode → Standing
+standing_of op = (entry_of op).standing
+
+abbrev pub typing_of : Opcode → Option TypingData
+typing_of op = (entry_of op).typing
+
+-- the instructions that a machine of 64 bits alone has
+abbrev pub is_wide_op : Opcode → Bool
+is_wide_op op = (entry_of op).is_wide
 
 -- the generic opcodes are those whose word begins with `G_`
 abbrev pub is_generic_op : Opcode → Bool
 is_generic_op op = starts_with nat_eq (word_of op) (codes "G_")
 
 -- what stands last in a block
+abbrev pub is_terminator : Role → Bool
+is_terminator role.Return = true
+is_terminator role.Jump = true
+is_terminator role.Branch = true
+is_terminator _ = false
+
 abbrev pub is_terminator_op : Opcode → Bool
-is_terminator_op PseudoReturn = true
-is_terminator_op GenericBranch = true
-is_terminator_op GenericBranchConditional = true
-is_terminator_op BranchEqual = true
-is_terminator_op BranchNotEqual = true
-is_terminator_op BranchLess = true
-is_terminator_op BranchGreaterEqual = true
-is_terminator_op BranchLessUnsigned = true
-is_terminator_op BranchGreaterEqualUnsigned = true
-is_terminator_op PseudoBranch = true
-is_terminator_op _ = false
+is_terminator_op op = is_terminator (role_of op)
 
 -- the branches and returns after which nothing follows
+abbrev pub is_unconditional : Role → Bool
+is_unconditional role.Return = true
+is_unconditional role.Jump = true
+is_unconditional _ = false
+
 abbrev pub is_unconditional_op : Opcode → Bool
-is_unconditional_op GenericBranch = true
-is_unconditional_op PseudoBranch = true
-is_unconditional_op PseudoReturn = true
-is_unconditional_op _ = false
+is_unconditional_op op = is_unconditional (role_of op)
+
+-- the opcodes that go to the blocks among their operands
+abbrev pub is_branch : Role → Bool
+is_branch role.Jump = true
+is_branch role.Branch = true
+is_branch _ = false
+
+abbrev pub is_branch_op : Opcode → Bool
+is_branch_op op = is_branch (role_of op)
+
+abbrev pub is_call : Role → Bool
+is_call role.Call = true
+is_call _ = false
 
 abbrev pub is_call_op : Opcode → Bool
-is_call_op PseudoCall = true
-is_call_op _ = false
+is_call_op op = is_call (role_of op)
+
+abbrev pub is_phi : Role → Bool
+is_phi role.Phi = true
+is_phi _ = false
 
 abbrev pub is_phi_op : Opcode → Bool
-is_phi_op GenericPhi = true
-is_phi_op Phi = true
-is_phi_op _ = false
-
--- the instructions that a machine of 64 bits alone has
-abbrev pub is_wide_op : Opcode → Bool
-is_wide_op AddWord = true
-is_wide_op SubtractWord = true
-is_wide_op MultiplyWord = true
-is_wide_op ShiftLeftLogicalWord = true
-is_wide_op ShiftRightLogicalWord = true
-is_wide_op ShiftRightArithmeticWord = true
-is_wide_op DivideWord = true
-is_wide_op DivideUnsignedWord = true
-is_wide_op RemainderWord = true
-is_wide_op RemainderUnsignedWord = true
-is_wide_op AddImmediateWord = true
-is_wide_op ShiftLeftLogicalImmediateWord = true
-is_wide_op ShiftRightLogicalImmediateWord = true
-is_wide_op ShiftRightArithmeticImmediateWord = true
-is_wide_op LoadWordUnsigned = true
-is_wide_op LoadDouble = true
-is_wide_op StoreDouble = true
-is_wide_op _ = false
+is_phi_op op = is_phi (role_of op)
 
 -- each opcode, in the order of this table
 abbrev pub opcodes : List Opcode

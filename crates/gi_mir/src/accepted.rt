@@ -1,371 +1,233 @@
 //! The types that each opcode accepts.
 
-ghost use Rattle.std.specs.Prelude.{◌≡◌, ◌+◌, ◌*◌, ◌<◌, ◌≤◌, ◌⊎◌, ◌&&◌};
-ghost use Rattle.std.specs.List.{list_all};
+ghost use Rattle.std.specs.Prelude.{◌≡◌, ℕ, ◌+◌, ◌≤◌, ◌⊎◌, ◌&&◌, List, Some, true, false, slice_get, length};
+ghost use Rattle.gi_llt.specs.declared.Llt.{Llt};
+ghost use Rattle.std.specs.List.{list_all, list_any};
+ghost use Rattle.std.specs.Option.{option_map_or};
 ghost use Rattle.gi_mir.specs.Accepted as accepted;
-ghost use Rattle.gi_mir.specs.Classes.{test_of};
+ghost use Rattle.gi_mir.specs.Row.{rows_of};
+ghost use Rattle.gi_mir.specs.Types as tests;
+ghost use Rattle.gi_mir.specs.declared.typing.Letter.TheVariants as Letter;
 
 use crate::opcode::Opcode;
+use crate::row::Form;
+use crate::types::{is_in_memory, is_of, is_scalar, same_type, scalar_bits};
+use crate::typing::{Class, Letter, Relation, Typing};
 use gi_llt::{Llt, Target};
 
-/// Whether two types are the same.
-pub fn same_type(a: Llt, b: Llt) -> bool
-    ensures { result ≡ accepted.same_type a b }
+/// Each letter once.
+static LETTERS: [Letter; 5] = [
+    Letter::A,
+    Letter::B,
+    Letter::Pointer,
+    Letter::Bit,
+    Letter::Register,
+];
+
+/// The letter at a place, where there is one.
+fn letter_at(letters: &[Letter], more: Option<Letter>, place: usize) -> Option<Letter>
+    ensures { result ≡ accepted.letter_at letters.now more place }
 {
+    letters.get(place).copied().or(more)
+}
+
+/// Whether there are as many types as letters, or more where further ones have a letter.
+#[tactic(auto, using(crate::proofs::LettersLemmas::exact_letters, crate::proofs::LettersLemmas::further_letters))]
+fn have_letters(letters: &[Letter], more: Option<Letter>, types: &[Llt]) -> bool
+    ensures { result ≡ accepted.have_letters letters.now more types.now }
+{
+    if more.is_some() {
+        letters.len() <= types.len()
+    } else {
+        letters.len() == types.len()
+    }
+}
+
+/// Whether two letters are the same.
+fn is_letter(l: Letter, m: Letter) -> bool
+    ensures { result ≡ accepted.is_letter l m }
+{
+    l == m
+}
+
+/// Whether a place has this letter.
+fn is_there(l: Letter, there: Option<Letter>) -> bool
+    ensures { result ≡ accepted.is_there l there }
+{
+    match there {
+        Some(m) => is_letter(l, m),
+        None => false,
+    }
+}
+
+/// The first type at the places of a letter.
+#[tactic(auto, using(crate::proofs::LettersLemmas::types_here, crate::proofs::LettersLemmas::types_elsewhere, crate::proofs::LettersLemmas::types_past))]
+fn first_at(l: Letter, letters: &[Letter], more: Option<Letter>, types: &[Llt]) -> Option<Llt>
+    ensures { result ≡ slice_get (accepted.types_at l letters.now more types.now) 0 }
+{
+    for place in 0..types.len() {
+        if is_there(l, letter_at(letters, more, place)) {
+            return Some(types[place]);
+        }
+    }
+    None
+}
+
+/// Whether each type at the places of a letter is this one.
+#[tactic(auto, using(crate::proofs::LettersLemmas::types_here, crate::proofs::LettersLemmas::types_elsewhere, crate::proofs::LettersLemmas::types_past))]
+fn are_at(ty: Llt, l: Letter, letters: &[Letter], more: Option<Letter>, types: &[Llt]) -> bool
+    ensures { result ≡ list_all (λ other. tests.same_type ty other) (accepted.types_at l letters.now more types.now) }
+{
+    for place in 0..types.len() {
+        if is_there(l, letter_at(letters, more, place)) && !same_type(ty, types[place]) {
+            return false;
+        }
+    }
+    true
+}
+
+/// The first type at the places of a letter, those of the results first.
+fn first_of(l: Letter, typing: &Typing, results: &[Llt], sources: &[Llt]) -> Option<Llt>
+    ensures { result ≡ slice_get (accepted.types_of l typing.now results.now sources.now) 0 }
+{
+    match first_at(l, typing.results, typing.more_results, results) {
+        Some(ty) => Some(ty),
+        None => first_at(l, typing.sources, typing.more_sources, sources),
+    }
+}
+
+/// Whether each type at the places of a letter is this one.
+#[tactic(auto, using(crate::proofs::LettersLemmas::in_both))]
+fn are_of(ty: Llt, l: Letter, typing: &Typing, results: &[Llt], sources: &[Llt]) -> bool
+    ensures { result ≡ list_all (λ other. tests.same_type ty other) (accepted.types_of l typing.now results.now sources.now) }
+{
+    are_at(ty, l, typing.results, typing.more_results, results)
+        && are_at(ty, l, typing.sources, typing.more_sources, sources)
+}
+
+/// Whether the types at the places of a letter are one type of its class.
+#[tactic(auto, using(crate::proofs::LettersLemmas::one_by_first, crate::proofs::LettersLemmas::one_in_none))]
+fn are_one(x: u16, l: Letter, typing: &Typing, results: &[Llt], sources: &[Llt]) -> bool
+    requires { x ≤ 64 }
+    ensures { result ≡ accepted.are_one x (accepted.class_of typing.now l) (accepted.types_of l typing.now results.now sources.now) }
+{
+    match first_of(l, typing, results, sources) {
+        Some(ty) => is_of(x, class_of(typing, l), ty) && are_of(ty, l, typing, results, sources),
+        None => true,
+    }
+}
+
+/// The class of the types at a letter's places.
+fn class_of(typing: &Typing, l: Letter) -> Class
+    ensures { result ≡ accepted.class_of typing.now l }
+{
+    match l {
+        Letter::A => typing.a,
+        Letter::B => typing.b,
+        Letter::Pointer => Class::Pointer,
+        Letter::Bit => Class::Bit,
+        Letter::Register => Class::Register,
+    }
+}
+
+/// Whether the types at the places of each letter are one type of its class.
+fn are_each_one(x: u16, typing: &Typing, results: &[Llt], sources: &[Llt]) -> bool
+    requires { x ≤ 64 }
+    ensures { result ≡ list_all (λ l. accepted.are_one x (accepted.class_of typing.now l) (accepted.types_of l typing.now results.now sources.now)) accepted.letters }
+{
+    LETTERS
+        .iter()
+        .all(|l| are_one(x, *l, typing, results, sources))
+}
+
+/// How many types stand at the places of a letter.
+#[tactic(auto, using(crate::proofs::LettersLemmas::types_here, crate::proofs::LettersLemmas::types_elsewhere, crate::proofs::LettersLemmas::types_past))]
+fn count_at(l: Letter, letters: &[Letter], more: Option<Letter>, types: &[Llt]) -> usize
+    ensures { result ≡ length (accepted.types_at l letters.now more types.now) }
+{
+    let mut count = 0;
+    for place in 0..types.len() {
+        if is_there(l, letter_at(letters, more, place)) {
+            count += 1;
+        }
+    }
+    count
+}
+
+/// Whether so many parts, two to sixteen, are together as wide as a whole.
+fn is_sum(whole: Llt, part: Llt, count: usize) -> bool
+    ensures { result ≡ accepted.is_sum whole part count }
+{
+    2 <= count
+        && count <= 16
+        && usize::from(scalar_bits(whole)) == count * usize::from(scalar_bits(part))
+}
+
+/// Whether the parts of a whole, so many among the results and so many among the sources, are as wide as it.
+fn are_parts(whole: Llt, part: Llt, results: usize, sources: usize) -> bool
+    ensures { result ≡ accepted.is_sum whole part (results + sources) }
+{
+    results <= 16 && sources <= 16 && is_sum(whole, part, results + sources)
+}
+
+/// Whether the parts of a whole are two to sixteen and together as wide as it.
+#[tactic(auto, using(crate::proofs::LettersLemmas::length_in_both))]
+fn is_sum_of(whole: Llt, part: Llt, typing: &Typing, results: &[Llt], sources: &[Llt]) -> bool
+    ensures { result ≡ accepted.is_sum whole part (length (accepted.types_of Letter.B typing.now results.now sources.now)) }
+{
+    let among_results = count_at(Letter::B, typing.results, typing.more_results, results);
+    let among_sources = count_at(Letter::B, typing.sources, typing.more_sources, sources);
+    are_parts(whole, part, among_results, among_sources)
+}
+
+/// Whether A and B are related as the typing says.
+fn is_related(a: Llt, b: Llt, typing: &Typing, results: &[Llt], sources: &[Llt]) -> bool
+    ensures { result ≡ accepted.is_related typing.now.relation a b (length (accepted.types_of Letter.B typing.now results.now sources.now)) }
+{
+    match typing.relation {
+        Relation::Free => true,
+        Relation::Narrower => scalar_bits(a) < scalar_bits(b),
+        Relation::Wider => scalar_bits(b) < scalar_bits(a),
+        Relation::Sum => is_sum_of(a, b, typing, results, sources),
+    }
+}
+
+/// Whether nothing is asked of A and B together.
+fn is_free(typing: &Typing) -> bool
+    ensures { result ≡ accepted.is_free typing.now.relation }
+{
+    typing.relation == Relation::Free
+}
+
+/// Whether the types A and the types B are related as the typing says.
+#[tactic(auto, using(crate::proofs::LettersLemmas::related_firsts, crate::proofs::LettersLemmas::related_none))]
+fn are_related(typing: &Typing, results: &[Llt], sources: &[Llt]) -> bool
+    ensures { result ≡ accepted.are_related typing.now.relation (accepted.types_of Letter.A typing.now results.now sources.now) (accepted.types_of Letter.B typing.now results.now sources.now) }
+{
+    let a = first_of(Letter::A, typing, results, sources);
+    let b = first_of(Letter::B, typing, results, sources);
     match (a, b) {
-        (Llt::Scalar(m), Llt::Scalar(n)) => m == n,
-        (Llt::Pointer, Llt::Pointer) => true,
-        _ => false,
+        (Some(a), Some(b)) => is_related(a, b, typing, results, sources),
+        _ => is_free(typing),
     }
 }
 
-/// Whether a type is a pointer.
-pub fn is_pointer(ty: Llt) -> bool
-    ensures { result ≡ accepted.is_pointer ty }
+/// Whether each place has a type.
+fn are_placed(typing: &Typing, results: &[Llt], sources: &[Llt]) -> bool
+    ensures { result ≡ (accepted.have_letters typing.now.results typing.now.more_results results.now && accepted.have_letters typing.now.sources typing.now.more_sources sources.now) }
 {
-    match ty {
-        Llt::Scalar(_) => false,
-        Llt::Pointer => true,
-    }
+    have_letters(typing.results, typing.more_results, results)
+        && have_letters(typing.sources, typing.more_sources, sources)
 }
 
-/// The bits of a scalar, and 0 for a pointer.
-pub fn scalar_bits(ty: Llt) -> u16
-    ensures { result ≡ accepted.scalar_bits ty }
-{
-    match ty {
-        Llt::Scalar(n) => n,
-        Llt::Pointer => 0,
-    }
-}
-
-/// Whether a type is a scalar of up to twice the width of a register.
-pub fn is_scalar(x: u16, ty: Llt) -> bool
+/// Whether these are types of the results and of the sources of an opcode with this typing.
+fn are_typed(x: u16, typing: &Typing, results: &[Llt], sources: &[Llt]) -> bool
     requires { x ≤ 64 }
-    ensures { result ≡ accepted.is_scalar x ty }
+    ensures { result ≡ accepted.are_typed x typing.now results.now sources.now }
 {
-    match ty {
-        Llt::Scalar(n) => 0 < n && n <= 2 * x,
-        Llt::Pointer => false,
-    }
-}
-
-/// Whether a type is a scalar or a pointer.
-pub fn is_any(x: u16, ty: Llt) -> bool
-    requires { x ≤ 64 }
-    ensures { result ≡ accepted.is_any x ty }
-{
-    is_pointer(ty) || is_scalar(x, ty)
-}
-
-/// Whether a type is a scalar with a bit beside the sign.
-pub fn is_wide(x: u16, ty: Llt) -> bool
-    requires { x ≤ 64 }
-    ensures { result ≡ accepted.is_wide x ty }
-{
-    is_scalar(x, ty) && 1 < scalar_bits(ty)
-}
-
-/// Whether a type is a scalar of a register's width.
-pub fn is_register(x: u16, ty: Llt) -> bool
-    requires { x ≤ 64 }
-    ensures { result ≡ accepted.is_register x ty }
-{
-    is_scalar(x, ty) && scalar_bits(ty) == x
-}
-
-/// Whether a type is a scalar of one bit.
-pub fn is_bit(ty: Llt) -> bool
-    ensures { result ≡ accepted.is_bit ty }
-{
-    scalar_bits(ty) == 1
-}
-
-/// Whether a type is one of a condition.
-pub fn is_condition(x: u16, ty: Llt) -> bool
-    requires { x ≤ 64 }
-    ensures { result ≡ accepted.is_condition x ty }
-{
-    is_bit(ty) || is_register(x, ty)
-}
-
-/// Whether a type is of whole bytes, two or more, whose order can be turned.
-pub fn is_swappable(x: u16, ty: Llt) -> bool
-    requires { x ≤ 64 }
-    ensures { result ≡ accepted.is_swappable x ty }
-{
-    let bits = scalar_bits(ty);
-    is_scalar(x, ty) && (bits == 16 || bits == 32 || bits == 64 || bits == 128)
-}
-
-/// Whether values of a type can be rotated.
-pub fn is_rotatable(x: u16, ty: Llt) -> bool
-    requires { x ≤ 64 }
-    ensures { result ≡ accepted.is_rotatable x ty }
-{
-    is_scalar(x, ty) && scalar_bits(ty) == 8 || is_swappable(x, ty)
-}
-
-/// Whether both types are scalars, the first with fewer bits.
-pub fn is_narrower(x: u16, a: Llt, b: Llt) -> bool
-    requires { x ≤ 64 }
-    ensures { result ≡ accepted.is_narrower x a b }
-{
-    is_scalar(x, a) && is_scalar(x, b) && scalar_bits(a) < scalar_bits(b)
-}
-
-/// A test of one type.
-#[derive(Clone, Copy, Debug, PartialEq, Eq)]
-pub enum Class {
-    Any,
-    Pointer,
-    Scalar,
-    Wide,
-    Register,
-    Swappable,
-    Rotatable,
-}
-
-/// Whether a type is of a class.
-pub fn is_of(x: u16, class: Class, ty: Llt) -> bool
-    requires { x ≤ 64 }
-    ensures { result ≡ test_of x class ty }
-{
-    match class {
-        Class::Any => is_any(x, ty),
-        Class::Pointer => is_pointer(ty),
-        Class::Scalar => is_scalar(x, ty),
-        Class::Wide => is_wide(x, ty),
-        Class::Register => is_register(x, ty),
-        Class::Swappable => is_swappable(x, ty),
-        Class::Rotatable => is_rotatable(x, ty),
-    }
-}
-
-/// Whether each type of a list is this one.
-pub fn are_all(ty: Llt, types: &[Llt]) -> bool
-    ensures { result ≡ list_all (λ other. accepted.same_type ty other) types.now }
-{
-    types.iter().all(|other| same_type(ty, *other))
-}
-
-/// One result, which is of a class, and no source.
-pub fn no_sources(x: u16, class: Class, results: &[Llt], sources: &[Llt]) -> bool
-    requires { x ≤ 64 }
-    ensures { result ≡ accepted.no_sources (test_of x class) results.now sources.now }
-{
-    match (results, sources) {
-        ([a], []) => is_of(x, class, *a),
-        _ => false,
-    }
-}
-
-/// One result, which is of a class, and one source of its type.
-pub fn one_alike(x: u16, class: Class, results: &[Llt], sources: &[Llt]) -> bool
-    requires { x ≤ 64 }
-    ensures { result ≡ accepted.one_alike (test_of x class) results.now sources.now }
-{
-    match (results, sources) {
-        ([a], [b]) => is_of(x, class, *a) && same_type(*a, *b),
-        _ => false,
-    }
-}
-
-/// One result, which is of a class, and two sources of its type.
-pub fn two_alike(x: u16, class: Class, results: &[Llt], sources: &[Llt]) -> bool
-    requires { x ≤ 64 }
-    ensures { result ≡ accepted.two_alike (test_of x class) results.now sources.now }
-{
-    match (results, sources) {
-        ([a], [b, c]) => is_of(x, class, *a) && same_type(*a, *b) && same_type(*a, *c),
-        _ => false,
-    }
-}
-
-/// One result, which is of a class, and three sources of its type.
-pub fn three_alike(x: u16, class: Class, results: &[Llt], sources: &[Llt]) -> bool
-    requires { x ≤ 64 }
-    ensures { result ≡ accepted.three_alike (test_of x class) results.now sources.now }
-{
-    match (results, sources) {
-        ([a], [b, c, d]) => {
-            is_of(x, class, *a) && same_type(*a, *b) && same_type(*a, *c) && same_type(*a, *d)
-        }
-        _ => false,
-    }
-}
-
-/// One result and one source, each of a class.
-pub fn conversion(x: u16, to: Class, from: Class, results: &[Llt], sources: &[Llt]) -> bool
-    requires { x ≤ 64 }
-    ensures { result ≡ accepted.one_source (λ a b. test_of x to a && test_of x from b) results.now sources.now }
-{
-    match (results, sources) {
-        ([a], [b]) => is_of(x, to, *a) && is_of(x, from, *b),
-        _ => false,
-    }
-}
-
-/// One result with fewer bits than its source.
-pub fn truncation(x: u16, results: &[Llt], sources: &[Llt]) -> bool
-    requires { x ≤ 64 }
-    ensures { result ≡ accepted.one_source (λ a b. accepted.is_narrower x a b) results.now sources.now }
-{
-    match (results, sources) {
-        ([a], [b]) => is_narrower(x, *a, *b),
-        _ => false,
-    }
-}
-
-/// One result with more bits than its source.
-pub fn extension(x: u16, results: &[Llt], sources: &[Llt]) -> bool
-    requires { x ≤ 64 }
-    ensures { result ≡ accepted.one_source (λ a b. accepted.is_narrower x b a) results.now sources.now }
-{
-    match (results, sources) {
-        ([a], [b]) => is_narrower(x, *b, *a),
-        _ => false,
-    }
-}
-
-/// A pointer from a pointer and an offset of a register's width.
-pub fn pointer_sum(x: u16, results: &[Llt], sources: &[Llt]) -> bool
-    requires { x ≤ 64 }
-    ensures { result ≡ accepted.pointer_sum x results.now sources.now }
-{
-    match (results, sources) {
-        ([a], [b, c]) => is_pointer(*a) && is_pointer(*b) && is_register(x, *c),
-        _ => false,
-    }
-}
-
-/// A condition from two sources of one type.
-pub fn comparison(x: u16, results: &[Llt], sources: &[Llt]) -> bool
-    requires { x ≤ 64 }
-    ensures { result ≡ accepted.comparison x results.now sources.now }
-{
-    match (results, sources) {
-        ([a], [b, c]) => is_condition(x, *a) && is_any(x, *b) && same_type(*b, *c),
-        _ => false,
-    }
-}
-
-/// One result from a condition and two sources of its type.
-pub fn selection(x: u16, results: &[Llt], sources: &[Llt]) -> bool
-    requires { x ≤ 64 }
-    ensures { result ≡ accepted.selection x results.now sources.now }
-{
-    match (results, sources) {
-        ([a], [b, c, d]) => {
-            is_any(x, *a) && is_condition(x, *b) && same_type(*a, *c) && same_type(*a, *d)
-        }
-        _ => false,
-    }
-}
-
-/// A result and a carry out of it from two sources of the result's type.
-pub fn carry_out(x: u16, results: &[Llt], sources: &[Llt]) -> bool
-    requires { x ≤ 64 }
-    ensures { result ≡ accepted.carry_out x results.now sources.now }
-{
-    match (results, sources) {
-        ([a, e], [b, c]) => is_wide(x, *a) && is_bit(*e) && same_type(*a, *b) && same_type(*a, *c),
-        _ => false,
-    }
-}
-
-/// A result and a carry out of it from two sources of the result's type and a carry.
-pub fn carry_through(x: u16, results: &[Llt], sources: &[Llt]) -> bool
-    requires { x ≤ 64 }
-    ensures { result ≡ accepted.carry_through x results.now sources.now }
-{
-    match (results, sources) {
-        ([a, e], [b, c, d]) => {
-            is_wide(x, *a) && is_bit(*e) && same_type(*a, *b) && same_type(*a, *c) && is_bit(*d)
-        }
-        _ => false,
-    }
-}
-
-/// Two to sixteen equal parts of a whole.
-pub fn are_parts_of(x: u16, whole: Llt, parts: &[Llt]) -> bool
-    requires { x ≤ 64 }
-    ensures { result ≡ accepted.are_parts_of x whole parts.now }
-{
-    match parts {
-        [] => false,
-        [part, rest @ ..] => {
-            is_scalar(x, whole)
-                && is_scalar(x, *part)
-                && 0 < rest.len()
-                && rest.len() < 16
-                && are_all(*part, rest)
-                && usize::from(scalar_bits(whole))
-                    == (rest.len() + 1) * usize::from(scalar_bits(*part))
-        }
-    }
-}
-
-/// One whole from its parts.
-pub fn merge(x: u16, results: &[Llt], sources: &[Llt]) -> bool
-    requires { x ≤ 64 }
-    ensures { result ≡ accepted.merge x results.now sources.now }
-{
-    match results {
-        [whole] => are_parts_of(x, *whole, sources),
-        _ => false,
-    }
-}
-
-/// The parts of one whole.
-pub fn unmerge(x: u16, results: &[Llt], sources: &[Llt]) -> bool
-    requires { x ≤ 64 }
-    ensures { result ≡ accepted.unmerge x results.now sources.now }
-{
-    match sources {
-        [whole] => are_parts_of(x, *whole, results),
-        _ => false,
-    }
-}
-
-/// One result from any number of sources of its type.
-pub fn joining(x: u16, results: &[Llt], sources: &[Llt]) -> bool
-    requires { x ≤ 64 }
-    ensures { result ≡ accepted.joining x results.now sources.now }
-{
-    match results {
-        [a] => is_any(x, *a) && are_all(*a, sources),
-        _ => false,
-    }
-}
-
-/// No result from a value and a pointer.
-pub fn store(x: u16, results: &[Llt], sources: &[Llt]) -> bool
-    requires { x ≤ 64 }
-    ensures { result ≡ accepted.store x results.now sources.now }
-{
-    match (results, sources) {
-        ([], [a, p]) => is_any(x, *a) && is_pointer(*p),
-        _ => false,
-    }
-}
-
-/// No result from a condition.
-pub fn one_condition(x: u16, results: &[Llt], sources: &[Llt]) -> bool
-    requires { x ≤ 64 }
-    ensures { result ≡ accepted.one_condition x results.now sources.now }
-{
-    match (results, sources) {
-        ([], [c]) => is_condition(x, *c),
-        _ => false,
-    }
-}
-
-/// No result and no source.
-pub fn no_types(results: &[Llt], sources: &[Llt]) -> bool
-    ensures { result ≡ accepted.no_types results.now sources.now }
-{
-    results.is_empty() && sources.is_empty()
+    are_placed(typing, results, sources)
+        && are_each_one(x, typing, results, sources)
+        && are_related(typing, results, sources)
 }
 
 /// Whether an opcode accepts these types of its results and of the virtual registers that it reads.
@@ -373,93 +235,102 @@ pub fn accepts(target: Target, op: Opcode, results: &[Llt], sources: &[Llt]) -> 
     requires { (target.xlen ≡ 32) ⊎ (target.xlen ≡ 64) }
     ensures { result ≡ accepted.accepts target.xlen op results.now sources.now }
 {
-    let x = target.xlen;
-    match op {
-        Opcode::Copy | Opcode::GenericFreeze => one_alike(x, Class::Any, results, sources),
-        Opcode::Phi | Opcode::GenericPhi => joining(x, results, sources),
-        Opcode::ImplicitDef | Opcode::GenericImplicitDef | Opcode::GenericConstant => {
-            no_sources(x, Class::Any, results, sources)
-        }
-        Opcode::PseudoCall
-        | Opcode::PseudoReturn
-        | Opcode::AdjustCallStackDown
-        | Opcode::AdjustCallStackUp
-        | Opcode::GenericBranch => no_types(results, sources),
-        Opcode::GenericFrameIndex | Opcode::GenericGlobalValue => {
-            no_sources(x, Class::Pointer, results, sources)
-        }
-        Opcode::GenericPointerAdd => pointer_sum(x, results, sources),
-        Opcode::GenericPointerToInteger
-        | Opcode::GenericZeroExtendLoad
-        | Opcode::GenericSignExtendLoad => {
-            conversion(x, Class::Scalar, Class::Pointer, results, sources)
-        }
-        Opcode::GenericIntegerToPointer => {
-            conversion(x, Class::Pointer, Class::Scalar, results, sources)
-        }
-        Opcode::GenericLoad => conversion(x, Class::Any, Class::Pointer, results, sources),
-        Opcode::GenericTruncate => truncation(x, results, sources),
-        Opcode::GenericAnyExtend | Opcode::GenericZeroExtend | Opcode::GenericSignExtend => {
-            extension(x, results, sources)
-        }
-        Opcode::GenericSignExtendInRegister => one_alike(x, Class::Wide, results, sources),
-        Opcode::GenericMergeValues => merge(x, results, sources),
-        Opcode::GenericUnmergeValues => unmerge(x, results, sources),
-        Opcode::GenericUnsignedAddOverflow | Opcode::GenericUnsignedSubtractOverflow => {
-            carry_out(x, results, sources)
-        }
-        Opcode::GenericUnsignedAddCarry | Opcode::GenericUnsignedSubtractBorrow => {
-            carry_through(x, results, sources)
-        }
-        Opcode::GenericCompare => comparison(x, results, sources),
-        Opcode::GenericSelect => selection(x, results, sources),
-        Opcode::GenericByteSwap => one_alike(x, Class::Swappable, results, sources),
-        Opcode::GenericFunnelShiftLeft | Opcode::GenericFunnelShiftRight => {
-            three_alike(x, Class::Rotatable, results, sources)
-        }
-        Opcode::GenericRotateLeft | Opcode::GenericRotateRight => {
-            two_alike(x, Class::Rotatable, results, sources)
-        }
-        Opcode::GenericUnsignedMultiplyHigh | Opcode::GenericSignedMultiplyHigh => {
-            two_alike(x, Class::Register, results, sources)
-        }
-        Opcode::GenericStore => store(x, results, sources),
-        Opcode::GenericBranchConditional => one_condition(x, results, sources),
-        _ => accepts_scalars(x, op, results, sources),
+    match op.typing() {
+        Some(typing) => are_typed(target.xlen, &typing, results, sources),
+        None => false,
     }
 }
 
-/// Whether an opcode accepts scalars of one type, these ones among them.
-pub fn accepts_scalars(x: u16, op: Opcode, results: &[Llt], sources: &[Llt]) -> bool
+/// Whether a type is of the class of the letter at its place, where there is one.
+fn is_lettered(x: u16, typing: &Typing, letter: Option<Letter>, ty: Llt) -> bool
     requires { x ≤ 64 }
-    ensures { result ≡ accepted.accepts_scalars x op results.now sources.now }
+    ensures { result ≡ option_map_or (λ l. tests.is_of x (accepted.class_of typing.now l) ty) letter false }
 {
-    match op {
-        Opcode::GenericAdd
-        | Opcode::GenericSubtract
-        | Opcode::GenericMultiply
-        | Opcode::GenericAnd
-        | Opcode::GenericOr
-        | Opcode::GenericXor
-        | Opcode::GenericUnsignedDivide
-        | Opcode::GenericSignedDivide
-        | Opcode::GenericUnsignedRemainder
-        | Opcode::GenericSignedRemainder
-        | Opcode::GenericShiftLeft
-        | Opcode::GenericLogicalShiftRight
-        | Opcode::GenericArithmeticShiftRight
-        | Opcode::GenericSignedMinimum
-        | Opcode::GenericSignedMaximum
-        | Opcode::GenericUnsignedMinimum
-        | Opcode::GenericUnsignedMaximum => two_alike(x, Class::Scalar, results, sources),
-        Opcode::GenericAbsolute
-        | Opcode::GenericCountLeadingZeros
-        | Opcode::GenericCountTrailingZeros
-        | Opcode::GenericPopulationCount
-        | Opcode::GenericCountLeadingZerosNotOfZero
-        | Opcode::GenericCountTrailingZerosNotOfZero => {
-            one_alike(x, Class::Scalar, results, sources)
-        }
-        _ => false,
+    match letter {
+        Some(l) => is_of(x, class_of(typing, l), ty),
+        None => false,
     }
+}
+
+/// Whether a type is among its opcode's at this place among the results, however it is related to other types.
+/// Nothing is demanded in an instruction of the machine.
+pub fn is_result_type(target: Target, op: Opcode, place: usize, ty: Llt) -> bool
+    requires { (target.xlen ≡ 32) ⊎ (target.xlen ≡ 64) }
+    ensures { result ≡ accepted.is_result_type target.xlen op place ty }
+{
+    match op.typing() {
+        Some(typing) => {
+            let letter = letter_at(typing.results, typing.more_results, place);
+            is_lettered(target.xlen, &typing, letter, ty)
+        }
+        None => true,
+    }
+}
+
+/// The same at this place among the virtual registers that are read.
+pub fn is_source_type(target: Target, op: Opcode, place: usize, ty: Llt) -> bool
+    requires { (target.xlen ≡ 32) ⊎ (target.xlen ≡ 64) }
+    ensures { result ≡ accepted.is_source_type target.xlen op place ty }
+{
+    match op.typing() {
+        Some(typing) => {
+            let letter = letter_at(typing.sources, typing.more_sources, place);
+            is_lettered(target.xlen, &typing, letter, ty)
+        }
+        None => true,
+    }
+}
+
+/// Whether the type of a memory operand is among its opcode's.
+pub fn is_memory_type(target: Target, op: Opcode, ty: Llt) -> bool
+    requires { (target.xlen ≡ 32) ⊎ (target.xlen ≡ 64) }
+    ensures { result ≡ accepted.is_memory_type target.xlen op ty }
+{
+    is_in_memory(target.xlen, op.memory(), ty)
+}
+
+/// Whether a constant stands in a row.
+fn has_constant(row: &[Form]) -> bool
+    ensures { result ≡ list_any accepted.is_constant_form row.now }
+{
+    row.iter().any(|form| matches!(form, Form::Constant))
+}
+
+/// Whether a constant stands in one of these rows.
+fn any_constant(rows: &[&[Form]]) -> bool
+    ensures { result ≡ list_any (λ row. list_any accepted.is_constant_form row.now) rows.now }
+{
+    rows.iter().any(|row| has_constant(row))
+}
+
+/// Whether an opcode has a row with a constant.
+#[tactic(auto, using(crate::proofs::FormedLemmas::any_mapped))]
+fn takes_constant(op: Opcode) -> bool
+    ensures { result ≡ list_any (λ forms. list_any accepted.is_constant_form forms) (rows_of op) }
+{
+    any_constant(op.rows())
+}
+
+/// Whether a constant of so many bits is among its opcode's.
+pub fn is_constant_type(target: Target, op: Opcode, bits: u16) -> bool
+    requires { (target.xlen ≡ 32) ⊎ (target.xlen ≡ 64) }
+    ensures { result ≡ accepted.is_constant_type target.xlen op bits }
+{
+    takes_constant(op) && is_scalar(target.xlen, Llt::Scalar(bits))
+}
+
+/// Whether so many low bits of a scalar, with a sign among them, don't fill it.
+pub fn is_in_register(target: Target, bits: u16, k: i128) -> bool
+    requires { (target.xlen ≡ 32) ⊎ (target.xlen ≡ 64) }
+    ensures { result ≡ accepted.is_in_register target.xlen bits k }
+{
+    is_scalar(target.xlen, Llt::Scalar(bits)) && 0 < k && k < i128::from(bits)
+}
+
+/// Types that are accepted together are accepted alone, each at its place.
+pub fn accepted_alone(op: Opcode)
+    ensures results { (x : ℕ) (results sources : List Llt) (place : ℕ) (ty : Llt) → accepted.accepts x op results sources ≡ true → slice_get results place ≡ Some ty → accepted.is_result_type x op place ty ≡ true }
+    ensures sources { (x : ℕ) (results sources : List Llt) (place : ℕ) (ty : Llt) → accepted.accepts x op results sources ≡ true → slice_get sources place ≡ Some ty → accepted.is_source_type x op place ty ≡ true }
+{
+    let _ = op;
 }

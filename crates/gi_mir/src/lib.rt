@@ -3,6 +3,7 @@
 
 pub mod accepted;
 pub mod block;
+pub mod entry;
 pub mod formed;
 pub mod function;
 pub mod instr;
@@ -10,6 +11,12 @@ pub mod module;
 pub mod names;
 pub mod opcode;
 pub mod operand;
+pub mod routine;
 pub mod row;
+pub mod stage;
+#[cfg(test)]
+mod table_tests;
 #[cfg(test)]
 mod tests;
+pub mod types;
+pub mod typing;

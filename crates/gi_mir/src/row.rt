@@ -1,11 +1,16 @@
-//! The table of opcodes: the word of each, the rows that its operands may have, its memory operand, and what
-//! holds of it alone.
+//! The table of opcodes. All that is asked of an opcode is read from it.
 
 ghost use Rattle.std.specs.Prelude.{◌≡◌, ◌≢◌, map, IfSome, IfNone};
-ghost use Rattle.gi_mir.specs.Row.{word_of, rows_of, access_of, is_generic_op, is_terminator_op, is_unconditional_op, is_call_op, is_phi_op, is_wide_op, opcode_of};
+ghost use Rattle.gi_mir.specs.Row.{entry_of, word_of, rows_of, access_of, memory_of, role_of, standing_of, typing_of, is_generic_op, is_terminator_op, is_unconditional_op, is_branch_op, is_call_op, is_phi_op, is_wide_op, opcode_of};
 ghost use Rattle.gi_mir.specs.declared.opcode.Opcode.{Opcode};
 
+use crate::entry::{Entry, InMemory, Role, Standing, generic, machine, selected, shared};
 use crate::opcode::Opcode;
+use crate::typing::{
+    Class, Typing, carry_out, carry_through, comparison, extension, from_pointer, joining, merge,
+    no_sources, no_types, one_alike, one_condition, one_pointer, pointer_sum, selection, store,
+    three_alike, to_pointer, truncation, two_alike, unmerge,
+};
 
 /// What may stand in a place of an instruction.
 #[derive(Clone, Copy, Debug, PartialEq, Eq)]
@@ -71,70 +76,76 @@ pub enum Access {
 }
 
 /// `%d:A = G_IMPLICIT_DEF`
-const DEFINED: &[Form] = &[Form::Def];
+const DEFINED: &[&[Form]] = &[&[Form::Def]];
 /// `%d:A = G_PHI %a(A), %bb.N, ..`
-const PHI: &[Form] = &[Form::Def, Form::Entry];
+const PHI: &[&[Form]] = &[&[Form::Def, Form::Entry]];
 /// `PseudoCALL target-flags(riscv-call) @g, csr_ilp32_lp64, implicit-def $x1, ..`
-const CALL: &[Form] = &[
+const CALL: &[&[Form]] = &[&[
     Form::Callee,
     Form::SavedMask,
     Form::ImplicitDef,
     Form::Implicits,
-];
+]];
 /// `PseudoRET implicit $x10, ..`
-const RETURNED: &[Form] = &[Form::ImplicitUses];
+const RETURNED: &[&[Form]] = &[&[Form::ImplicitUses]];
 /// `ADJCALLSTACKDOWN 0, 0, implicit-def $x2, implicit $x2`
-const ADJUSTED: &[Form] = &[Form::Int, Form::Int, Form::ImplicitDef, Form::ImplicitUse];
+const ADJUSTED: &[&[Form]] = &[&[Form::Int, Form::Int, Form::ImplicitDef, Form::ImplicitUse]];
 /// `%d:A = G_CONSTANT iN V`
-const CONSTANT: &[Form] = &[Form::Def, Form::Constant];
+const CONSTANT: &[&[Form]] = &[&[Form::Def, Form::Constant]];
 /// `%d:A = G_FREEZE %s`
-const UNARY: &[Form] = &[Form::Def, Form::Use];
+const UNARY: &[&[Form]] = &[&[Form::Def, Form::Use]];
 /// `%d:p0 = G_FRAME_INDEX %stack.N`
-const FRAME_INDEX: &[Form] = &[Form::Def, Form::Frame];
+const FRAME_INDEX: &[&[Form]] = &[&[Form::Def, Form::Frame]];
 /// `%d:p0 = G_GLOBAL_VALUE @g`
-const GLOBAL_VALUE: &[Form] = &[Form::Def, Form::Global];
+const GLOBAL_VALUE: &[&[Form]] = &[&[Form::Def, Form::Global]];
 /// `%d:A = G_SHL %a, %n(A)`
-const SHIFT: &[Form] = &[Form::Def, Form::Use, Form::TypedUse];
+const SHIFT: &[&[Form]] = &[&[Form::Def, Form::Use, Form::TypedUse]];
 /// `%d:A = G_TRUNC %s(B)`
-const UNARY_TYPED: &[Form] = &[Form::Def, Form::TypedUse];
+const UNARY_TYPED: &[&[Form]] = &[&[Form::Def, Form::TypedUse]];
 /// `%d:A = G_SEXT_INREG %s, K`
-const IN_REGISTER: &[Form] = &[Form::Def, Form::Use, Form::Int];
+const IN_REGISTER: &[&[Form]] = &[&[Form::Def, Form::Use, Form::Int]];
 /// `%d:A = G_MERGE_VALUES %a(B), %b(B), ..`
-const MERGE: &[Form] = &[Form::Def, Form::Parts];
-/// `%d:A, %e:A, .. = G_UNMERGE_VALUES %s(B)`
-const UNMERGE: &[Form] = &[Form::Results, Form::TypedUse];
+const MERGE: &[&[Form]] = &[&[Form::Def, Form::Parts]];
+/// `%d:B, %e:B, .. = G_UNMERGE_VALUES %s(A)`
+const UNMERGE: &[&[Form]] = &[&[Form::Results, Form::TypedUse]];
 /// `%d:A = G_ADD %a, %b`
-const BINARY: &[Form] = &[Form::Def, Form::Use, Form::Use];
+const BINARY: &[&[Form]] = &[&[Form::Def, Form::Use, Form::Use]];
 /// `%d:A, %e:s1 = G_UADDO %a, %b`
-const OVERFLOW: &[Form] = &[Form::Def, Form::Def, Form::Use, Form::Use];
+const OVERFLOW: &[&[Form]] = &[&[Form::Def, Form::Def, Form::Use, Form::Use]];
 /// `%d:A, %e:s1 = G_UADDE %a, %b, %c`
-const CARRY: &[Form] = &[Form::Def, Form::Def, Form::Use, Form::Use, Form::Use];
+const CARRY: &[&[Form]] = &[&[Form::Def, Form::Def, Form::Use, Form::Use, Form::Use]];
 /// `%d:A = G_ICMP intpred(P), %a(B), %b`
-const COMPARE: &[Form] = &[Form::Def, Form::Predicate, Form::TypedUse, Form::Use];
+const COMPARE: &[&[Form]] = &[&[Form::Def, Form::Predicate, Form::TypedUse, Form::Use]];
 /// `%d:A = G_SELECT %c(B), %a, %b`
-const SELECT: &[Form] = &[Form::Def, Form::TypedUse, Form::Use, Form::Use];
+const SELECT: &[&[Form]] = &[&[Form::Def, Form::TypedUse, Form::Use, Form::Use]];
 /// `%d:A = G_FSHL %a, %b, %n(A)`
-const FUNNEL: &[Form] = &[Form::Def, Form::Use, Form::Use, Form::TypedUse];
+const FUNNEL: &[&[Form]] = &[&[Form::Def, Form::Use, Form::Use, Form::TypedUse]];
 /// `G_STORE %v(A), %p(p0)`
-const STORE: &[Form] = &[Form::TypedUse, Form::TypedUse];
+const STORE: &[&[Form]] = &[&[Form::TypedUse, Form::TypedUse]];
 /// `G_BR %bb.N`
-const BRANCH: &[Form] = &[Form::Block];
+const BRANCH: &[&[Form]] = &[&[Form::Block]];
 /// `G_BRCOND %c(B), %bb.N`
-const BRANCH_CONDITIONAL: &[Form] = &[Form::TypedUse, Form::Block];
+const BRANCH_CONDITIONAL: &[&[Form]] = &[&[Form::TypedUse, Form::Block]];
 /// `%d = ADD a, b`
-const REGISTERS: &[Form] = &[Form::Def, Form::Source, Form::Source];
+const REGISTERS: &[&[Form]] = &[&[Form::Def, Form::Source, Form::Source]];
 /// `%d = ADDI a, i`
-const ADD_IMMEDIATE: &[Form] = &[Form::Def, Form::Address, Form::Low];
+const ADD_IMMEDIATE: &[&[Form]] = &[&[Form::Def, Form::Address, Form::Low]];
 /// `%d = SLTI a, i`
-const IMMEDIATE: &[Form] = &[Form::Def, Form::Source, Form::Int];
+const IMMEDIATE: &[&[Form]] = &[&[Form::Def, Form::Source, Form::Int]];
 /// `%d = LUI i`
-const UPPER: &[Form] = &[Form::Def, Form::High];
+const UPPER: &[&[Form]] = &[&[Form::Def, Form::High]];
 /// `%d = LB a, i`
-const MACHINE_LOAD: &[Form] = &[Form::Def, Form::Address, Form::Int];
+const MACHINE_LOAD: &[&[Form]] = &[&[Form::Def, Form::Address, Form::Int]];
 /// `SB v, a, i`
-const MACHINE_STORE: &[Form] = &[Form::Source, Form::Address, Form::Int];
+const MACHINE_STORE: &[&[Form]] = &[&[Form::Source, Form::Address, Form::Int]];
 /// `BEQ a, b, %bb.N`
-const MACHINE_BRANCH: &[Form] = &[Form::Source, Form::Source, Form::Block];
+const MACHINE_BRANCH: &[&[Form]] = &[&[Form::Source, Form::Source, Form::Block]];
+/// `%d:A = COPY %s(A)`, `%d:A = COPY $xN` and `$xN = COPY %s(A)`
+const COPY: &[&[Form]] = &[
+    &[Form::Def, Form::TypedUse],
+    &[Form::Def, Form::Physical],
+    &[Form::PhysicalDef, Form::TypedUse],
+];
 
 /// Each opcode once.
 static OPCODES: [Opcode; 124] = [
@@ -265,136 +276,229 @@ static OPCODES: [Opcode; 124] = [
 ];
 
 impl Opcode {
+    /// What is known of this opcode: the table.
+    pub fn entry(self) -> Entry
+        ensures { result ≡ entry_of self }
+    {
+        match self {
+            // in every stage, and two of them after selection
+            Opcode::Copy => shared("COPY", COPY, one_alike(Class::Any)),
+            Opcode::Phi => selected("PHI", PHI, joining()).acting(Role::Phi),
+            Opcode::ImplicitDef => selected("IMPLICIT_DEF", DEFINED, no_sources(Class::Any)),
+            Opcode::PseudoCall => shared("PseudoCALL", CALL, no_types()).acting(Role::Call),
+            Opcode::PseudoReturn => shared("PseudoRET", RETURNED, no_types()).acting(Role::Return),
+            Opcode::AdjustCallStackDown => shared("ADJCALLSTACKDOWN", ADJUSTED, no_types()),
+            Opcode::AdjustCallStackUp => shared("ADJCALLSTACKUP", ADJUSTED, no_types()),
+            // generic: constants, addresses and casts
+            Opcode::GenericImplicitDef => generic(
+                "G_IMPLICIT_DEF",
+                DEFINED,
+                no_sources(Class::Any),
+            ),
+            Opcode::GenericConstant => generic("G_CONSTANT", CONSTANT, no_sources(Class::Any)),
+            Opcode::GenericFreeze => generic("G_FREEZE", UNARY, one_alike(Class::Any)),
+            Opcode::GenericFrameIndex => generic("G_FRAME_INDEX", FRAME_INDEX, one_pointer()),
+            Opcode::GenericGlobalValue => generic("G_GLOBAL_VALUE", GLOBAL_VALUE, one_pointer()),
+            Opcode::GenericPointerAdd => generic("G_PTR_ADD", SHIFT, pointer_sum()),
+            Opcode::GenericPointerToInteger => generic(
+                "G_PTRTOINT",
+                UNARY_TYPED,
+                from_pointer(Class::Scalar),
+            ),
+            Opcode::GenericIntegerToPointer => generic(
+                "G_INTTOPTR",
+                UNARY_TYPED,
+                to_pointer(Class::Scalar),
+            ),
+            Opcode::GenericTruncate => generic("G_TRUNC", UNARY_TYPED, truncation()),
+            Opcode::GenericAnyExtend => generic("G_ANYEXT", UNARY_TYPED, extension()),
+            Opcode::GenericZeroExtend => generic("G_ZEXT", UNARY_TYPED, extension()),
+            Opcode::GenericSignExtend => generic("G_SEXT", UNARY_TYPED, extension()),
+            Opcode::GenericSignExtendInRegister => generic(
+                "G_SEXT_INREG",
+                IN_REGISTER,
+                one_alike(Class::Wide),
+            ),
+            Opcode::GenericMergeValues => generic("G_MERGE_VALUES", MERGE, merge()),
+            Opcode::GenericUnmergeValues => generic("G_UNMERGE_VALUES", UNMERGE, unmerge()),
+            // generic: arithmetic, logic and shifts
+            Opcode::GenericAdd => generic("G_ADD", BINARY, two_alike(Class::Scalar)),
+            Opcode::GenericSubtract => generic("G_SUB", BINARY, two_alike(Class::Scalar)),
+            Opcode::GenericMultiply => generic("G_MUL", BINARY, two_alike(Class::Scalar)),
+            Opcode::GenericAnd => generic("G_AND", BINARY, two_alike(Class::Scalar)),
+            Opcode::GenericOr => generic("G_OR", BINARY, two_alike(Class::Scalar)),
+            Opcode::GenericXor => generic("G_XOR", BINARY, two_alike(Class::Scalar)),
+            Opcode::GenericUnsignedDivide => generic("G_UDIV", BINARY, two_alike(Class::Scalar)),
+            Opcode::GenericSignedDivide => generic("G_SDIV", BINARY, two_alike(Class::Scalar)),
+            Opcode::GenericUnsignedRemainder => generic("G_UREM", BINARY, two_alike(Class::Scalar)),
+            Opcode::GenericSignedRemainder => generic("G_SREM", BINARY, two_alike(Class::Scalar)),
+            Opcode::GenericShiftLeft => generic("G_SHL", SHIFT, two_alike(Class::Scalar)),
+            Opcode::GenericLogicalShiftRight => generic("G_LSHR", SHIFT, two_alike(Class::Scalar)),
+            Opcode::GenericArithmeticShiftRight => generic(
+                "G_ASHR",
+                SHIFT,
+                two_alike(Class::Scalar),
+            ),
+            Opcode::GenericUnsignedAddOverflow => generic("G_UADDO", OVERFLOW, carry_out()),
+            Opcode::GenericUnsignedSubtractOverflow => generic("G_USUBO", OVERFLOW, carry_out()),
+            Opcode::GenericUnsignedAddCarry => generic("G_UADDE", CARRY, carry_through()),
+            Opcode::GenericUnsignedSubtractBorrow => generic("G_USUBE", CARRY, carry_through()),
+            Opcode::GenericUnsignedMultiplyHigh => generic(
+                "G_UMULH",
+                BINARY,
+                two_alike(Class::Register),
+            ),
+            Opcode::GenericSignedMultiplyHigh => generic(
+                "G_SMULH",
+                BINARY,
+                two_alike(Class::Register),
+            ),
+            Opcode::GenericCompare => generic("G_ICMP", COMPARE, comparison()),
+            Opcode::GenericSelect => generic("G_SELECT", SELECT, selection()),
+            Opcode::GenericSignedMinimum => generic("G_SMIN", BINARY, two_alike(Class::Scalar)),
+            Opcode::GenericSignedMaximum => generic("G_SMAX", BINARY, two_alike(Class::Scalar)),
+            Opcode::GenericUnsignedMinimum => generic("G_UMIN", BINARY, two_alike(Class::Scalar)),
+            Opcode::GenericUnsignedMaximum => generic("G_UMAX", BINARY, two_alike(Class::Scalar)),
+            Opcode::GenericAbsolute => generic("G_ABS", UNARY, one_alike(Class::Scalar)),
+            Opcode::GenericCountLeadingZeros => generic(
+                "G_CTLZ",
+                UNARY_TYPED,
+                one_alike(Class::Scalar),
+            ),
+            Opcode::GenericCountTrailingZeros => generic(
+                "G_CTTZ",
+                UNARY_TYPED,
+                one_alike(Class::Scalar),
+            ),
+            Opcode::GenericPopulationCount => generic(
+                "G_CTPOP",
+                UNARY_TYPED,
+                one_alike(Class::Scalar),
+            ),
+            Opcode::GenericCountLeadingZerosNotOfZero => generic(
+                "G_CTLZ_ZERO_UNDEF",
+                UNARY_TYPED,
+                one_alike(Class::Scalar),
+            ),
+            Opcode::GenericCountTrailingZerosNotOfZero => generic(
+                "G_CTTZ_ZERO_UNDEF",
+                UNARY_TYPED,
+                one_alike(Class::Scalar),
+            ),
+            Opcode::GenericByteSwap => generic("G_BSWAP", UNARY, one_alike(Class::Swappable)),
+            Opcode::GenericFunnelShiftLeft => generic(
+                "G_FSHL",
+                FUNNEL,
+                three_alike(Class::Rotatable),
+            ),
+            Opcode::GenericFunnelShiftRight => generic(
+                "G_FSHR",
+                FUNNEL,
+                three_alike(Class::Rotatable),
+            ),
+            Opcode::GenericRotateLeft => generic("G_ROTL", SHIFT, two_alike(Class::Rotatable)),
+            Opcode::GenericRotateRight => generic("G_ROTR", SHIFT, two_alike(Class::Rotatable)),
+            // generic: memory, phis and branches
+            Opcode::GenericLoad => generic("G_LOAD", UNARY_TYPED, from_pointer(Class::Any)).loading(
+                InMemory::Value,
+            ),
+            Opcode::GenericZeroExtendLoad => generic(
+                "G_ZEXTLOAD",
+                UNARY_TYPED,
+                from_pointer(Class::Scalar),
+            ).loading(InMemory::Extended),
+            Opcode::GenericSignExtendLoad => generic(
+                "G_SEXTLOAD",
+                UNARY_TYPED,
+                from_pointer(Class::Scalar),
+            ).loading(InMemory::Extended),
+            Opcode::GenericStore => generic("G_STORE", STORE, store()).storing(InMemory::Value),
+            Opcode::GenericPhi => generic("G_PHI", PHI, joining()).acting(Role::Phi),
+            Opcode::GenericBranch => generic("G_BR", BRANCH, no_types()).acting(Role::Jump),
+            Opcode::GenericBranchConditional => generic(
+                "G_BRCOND",
+                BRANCH_CONDITIONAL,
+                one_condition(),
+            ).acting(Role::Branch),
+            // target: two registers
+            Opcode::Add => machine("ADD", REGISTERS),
+            Opcode::Subtract => machine("SUB", REGISTERS),
+            Opcode::And => machine("AND", REGISTERS),
+            Opcode::Or => machine("OR", REGISTERS),
+            Opcode::Xor => machine("XOR", REGISTERS),
+            Opcode::SetLess => machine("SLT", REGISTERS),
+            Opcode::SetLessUnsigned => machine("SLTU", REGISTERS),
+            Opcode::ShiftLeftLogical => machine("SLL", REGISTERS),
+            Opcode::ShiftRightLogical => machine("SRL", REGISTERS),
+            Opcode::ShiftRightArithmetic => machine("SRA", REGISTERS),
+            Opcode::Multiply => machine("MUL", REGISTERS),
+            Opcode::MultiplyHigh => machine("MULH", REGISTERS),
+            Opcode::MultiplyHighUnsigned => machine("MULHU", REGISTERS),
+            Opcode::Divide => machine("DIV", REGISTERS),
+            Opcode::DivideUnsigned => machine("DIVU", REGISTERS),
+            Opcode::Remainder => machine("REM", REGISTERS),
+            Opcode::RemainderUnsigned => machine("REMU", REGISTERS),
+            // target: a register and an immediate
+            Opcode::AddImmediate => machine("ADDI", ADD_IMMEDIATE),
+            Opcode::SetLessImmediate => machine("SLTI", IMMEDIATE),
+            Opcode::SetLessImmediateUnsigned => machine("SLTIU", IMMEDIATE),
+            Opcode::AndImmediate => machine("ANDI", IMMEDIATE),
+            Opcode::OrImmediate => machine("ORI", IMMEDIATE),
+            Opcode::XorImmediate => machine("XORI", IMMEDIATE),
+            Opcode::ShiftLeftLogicalImmediate => machine("SLLI", IMMEDIATE),
+            Opcode::ShiftRightLogicalImmediate => machine("SRLI", IMMEDIATE),
+            Opcode::ShiftRightArithmeticImmediate => machine("SRAI", IMMEDIATE),
+            Opcode::LoadUpperImmediate => machine("LUI", UPPER),
+            // target, 64 bits alone: words of 32 bits
+            Opcode::AddWord => machine("ADDW", REGISTERS).wide(),
+            Opcode::SubtractWord => machine("SUBW", REGISTERS).wide(),
+            Opcode::MultiplyWord => machine("MULW", REGISTERS).wide(),
+            Opcode::ShiftLeftLogicalWord => machine("SLLW", REGISTERS).wide(),
+            Opcode::ShiftRightLogicalWord => machine("SRLW", REGISTERS).wide(),
+            Opcode::ShiftRightArithmeticWord => machine("SRAW", REGISTERS).wide(),
+            Opcode::DivideWord => machine("DIVW", REGISTERS).wide(),
+            Opcode::DivideUnsignedWord => machine("DIVUW", REGISTERS).wide(),
+            Opcode::RemainderWord => machine("REMW", REGISTERS).wide(),
+            Opcode::RemainderUnsignedWord => machine("REMUW", REGISTERS).wide(),
+            Opcode::AddImmediateWord => machine("ADDIW", IMMEDIATE).wide(),
+            Opcode::ShiftLeftLogicalImmediateWord => machine("SLLIW", IMMEDIATE).wide(),
+            Opcode::ShiftRightLogicalImmediateWord => machine("SRLIW", IMMEDIATE).wide(),
+            Opcode::ShiftRightArithmeticImmediateWord => machine("SRAIW", IMMEDIATE).wide(),
+            // target: loads, stores and branches
+            Opcode::LoadByte => machine("LB", MACHINE_LOAD).loading(InMemory::Bits(8)),
+            Opcode::LoadHalf => machine("LH", MACHINE_LOAD).loading(InMemory::Bits(16)),
+            Opcode::LoadWord => machine("LW", MACHINE_LOAD).loading(InMemory::Bits(32)),
+            Opcode::LoadByteUnsigned => machine("LBU", MACHINE_LOAD).loading(InMemory::Bits(8)),
+            Opcode::LoadHalfUnsigned => machine("LHU", MACHINE_LOAD).loading(InMemory::Bits(16)),
+            Opcode::LoadWordUnsigned => machine("LWU", MACHINE_LOAD)
+                .loading(InMemory::Bits(32))
+                .wide(),
+            Opcode::LoadDouble => machine("LD", MACHINE_LOAD)
+                .loading(InMemory::Bits(64))
+                .wide(),
+            Opcode::StoreByte => machine("SB", MACHINE_STORE).storing(InMemory::Bits(8)),
+            Opcode::StoreHalf => machine("SH", MACHINE_STORE).storing(InMemory::Bits(16)),
+            Opcode::StoreWord => machine("SW", MACHINE_STORE).storing(InMemory::Bits(32)),
+            Opcode::StoreDouble => machine("SD", MACHINE_STORE)
+                .storing(InMemory::Bits(64))
+                .wide(),
+            Opcode::BranchEqual => machine("BEQ", MACHINE_BRANCH).acting(Role::Branch),
+            Opcode::BranchNotEqual => machine("BNE", MACHINE_BRANCH).acting(Role::Branch),
+            Opcode::BranchLess => machine("BLT", MACHINE_BRANCH).acting(Role::Branch),
+            Opcode::BranchGreaterEqual => machine("BGE", MACHINE_BRANCH).acting(Role::Branch),
+            Opcode::BranchLessUnsigned => machine("BLTU", MACHINE_BRANCH).acting(Role::Branch),
+            Opcode::BranchGreaterEqualUnsigned => machine("BGEU", MACHINE_BRANCH).acting(
+                Role::Branch,
+            ),
+            Opcode::PseudoBranch => machine("PseudoBR", BRANCH).acting(Role::Jump),
+        }
+    }
+
     /// The word of this opcode in a text.
     pub fn word(self) -> &'static str
         ensures { result.now ≡ word_of self }
     {
-        match self {
-            Opcode::Copy => "COPY",
-            Opcode::Phi => "PHI",
-            Opcode::ImplicitDef => "IMPLICIT_DEF",
-            Opcode::PseudoCall => "PseudoCALL",
-            Opcode::PseudoReturn => "PseudoRET",
-            Opcode::AdjustCallStackDown => "ADJCALLSTACKDOWN",
-            Opcode::AdjustCallStackUp => "ADJCALLSTACKUP",
-            Opcode::GenericImplicitDef => "G_IMPLICIT_DEF",
-            Opcode::GenericConstant => "G_CONSTANT",
-            Opcode::GenericFreeze => "G_FREEZE",
-            Opcode::GenericFrameIndex => "G_FRAME_INDEX",
-            Opcode::GenericGlobalValue => "G_GLOBAL_VALUE",
-            Opcode::GenericPointerAdd => "G_PTR_ADD",
-            Opcode::GenericPointerToInteger => "G_PTRTOINT",
-            Opcode::GenericIntegerToPointer => "G_INTTOPTR",
-            Opcode::GenericTruncate => "G_TRUNC",
-            Opcode::GenericAnyExtend => "G_ANYEXT",
-            Opcode::GenericZeroExtend => "G_ZEXT",
-            Opcode::GenericSignExtend => "G_SEXT",
-            Opcode::GenericSignExtendInRegister => "G_SEXT_INREG",
-            Opcode::GenericMergeValues => "G_MERGE_VALUES",
-            Opcode::GenericUnmergeValues => "G_UNMERGE_VALUES",
-            Opcode::GenericAdd => "G_ADD",
-            Opcode::GenericSubtract => "G_SUB",
-            Opcode::GenericMultiply => "G_MUL",
-            Opcode::GenericAnd => "G_AND",
-            Opcode::GenericOr => "G_OR",
-            Opcode::GenericXor => "G_XOR",
-            Opcode::GenericUnsignedDivide => "G_UDIV",
-            Opcode::GenericSignedDivide => "G_SDIV",
-            Opcode::GenericUnsignedRemainder => "G_UREM",
-            Opcode::GenericSignedRemainder => "G_SREM",
-            Opcode::GenericShiftLeft => "G_SHL",
-            Opcode::GenericLogicalShiftRight => "G_LSHR",
-            Opcode::GenericArithmeticShiftRight => "G_ASHR",
-            Opcode::GenericUnsignedAddOverflow => "G_UADDO",
-            Opcode::GenericUnsignedSubtractOverflow => "G_USUBO",
-            Opcode::GenericUnsignedAddCarry => "G_UADDE",
-            Opcode::GenericUnsignedSubtractBorrow => "G_USUBE",
-            Opcode::GenericUnsignedMultiplyHigh => "G_UMULH",
-            Opcode::GenericSignedMultiplyHigh => "G_SMULH",
-            Opcode::GenericCompare => "G_ICMP",
-            Opcode::GenericSelect => "G_SELECT",
-            Opcode::GenericSignedMinimum => "G_SMIN",
-            Opcode::GenericSignedMaximum => "G_SMAX",
-            Opcode::GenericUnsignedMinimum => "G_UMIN",
-            Opcode::GenericUnsignedMaximum => "G_UMAX",
-            Opcode::GenericAbsolute => "G_ABS",
-            Opcode::GenericCountLeadingZeros => "G_CTLZ",
-            Opcode::GenericCountTrailingZeros => "G_CTTZ",
-            Opcode::GenericPopulationCount => "G_CTPOP",
-            Opcode::GenericCountLeadingZerosNotOfZero => "G_CTLZ_ZERO_UNDEF",
-            Opcode::GenericCountTrailingZerosNotOfZero => "G_CTTZ_ZERO_UNDEF",
-            Opcode::GenericByteSwap => "G_BSWAP",
-            Opcode::GenericFunnelShiftLeft => "G_FSHL",
-            Opcode::GenericFunnelShiftRight => "G_FSHR",
-            Opcode::GenericRotateLeft => "G_ROTL",
-            Opcode::GenericRotateRight => "G_ROTR",
-            Opcode::GenericLoad => "G_LOAD",
-            Opcode::GenericZeroExtendLoad => "G_ZEXTLOAD",
-            Opcode::GenericSignExtendLoad => "G_SEXTLOAD",
-            Opcode::GenericStore => "G_STORE",
-            Opcode::GenericPhi => "G_PHI",
-            Opcode::GenericBranch => "G_BR",
-            Opcode::GenericBranchConditional => "G_BRCOND",
-            Opcode::Add => "ADD",
-            Opcode::Subtract => "SUB",
-            Opcode::And => "AND",
-            Opcode::Or => "OR",
-            Opcode::Xor => "XOR",
-            Opcode::SetLess => "SLT",
-            Opcode::SetLessUnsigned => "SLTU",
-            Opcode::ShiftLeftLogical => "SLL",
-            Opcode::ShiftRightLogical => "SRL",
-            Opcode::ShiftRightArithmetic => "SRA",
-            Opcode::Multiply => "MUL",
-            Opcode::MultiplyHigh => "MULH",
-            Opcode::MultiplyHighUnsigned => "MULHU",
-            Opcode::Divide => "DIV",
-            Opcode::DivideUnsigned => "DIVU",
-            Opcode::Remainder => "REM",
-            Opcode::RemainderUnsigned => "REMU",
-            Opcode::AddImmediate => "ADDI",
-            Opcode::SetLessImmediate => "SLTI",
-            Opcode::SetLessImmediateUnsigned => "SLTIU",
-            Opcode::AndImmediate => "ANDI",
-            Opcode::OrImmediate => "ORI",
-            Opcode::XorImmediate => "XORI",
-            Opcode::ShiftLeftLogicalImmediate => "SLLI",
-            Opcode::ShiftRightLogicalImmediate => "SRLI",
-            Opcode::ShiftRightArithmeticImmediate => "SRAI",
-            Opcode::LoadUpperImmediate => "LUI",
-            Opcode::AddWord => "ADDW",
-            Opcode::SubtractWord => "SUBW",
-            Opcode::MultiplyWord => "MULW",
-            Opcode::ShiftLeftLogicalWord => "SLLW",
-            Opcode::ShiftRightLogicalWord => "SRLW",
-            Opcode::ShiftRightArithmeticWord => "SRAW",
-            Opcode::DivideWord => "DIVW",
-            Opcode::DivideUnsignedWord => "DIVUW",
-            Opcode::RemainderWord => "REMW",
-            Opcode::RemainderUnsignedWord => "REMUW",
-            Opcode::AddImmediateWord => "ADDIW",
-            Opcode::ShiftLeftLogicalImmediateWord => "SLLIW",
-            Opcode::ShiftRightLogicalImmediateWord => "SRLIW",
-            Opcode::ShiftRightArithmeticImmediateWord => "SRAIW",
-            Opcode::LoadByte => "LB",
-            Opcode::LoadHalf => "LH",
-            Opcode::LoadWord => "LW",
-            Opcode::LoadByteUnsigned => "LBU",
-            Opcode::LoadHalfUnsigned => "LHU",
-            Opcode::LoadWordUnsigned => "LWU",
-            Opcode::LoadDouble => "LD",
-            Opcode::StoreByte => "SB",
-            Opcode::StoreHalf => "SH",
-            Opcode::StoreWord => "SW",
-            Opcode::StoreDouble => "SD",
-            Opcode::BranchEqual => "BEQ",
-            Opcode::BranchNotEqual => "BNE",
-            Opcode::BranchLess => "BLT",
-            Opcode::BranchGreaterEqual => "BGE",
-            Opcode::BranchLessUnsigned => "BLTU",
-            Opcode::BranchGreaterEqualUnsigned => "BGEU",
-            Opcode::PseudoBranch => "PseudoBR",
-        }
+        self.entry().word
     }
 
     /// The opcode that has this word.
@@ -410,160 +514,49 @@ impl Opcode {
     pub fn rows(self) -> &'static [&'static [Form]]
         ensures { map (λ row. row.now) result.now ≡ rows_of self }
     {
-        match self {
-            Opcode::Copy => &[
-                &[Form::Def, Form::TypedUse],
-                &[Form::Def, Form::Physical],
-                &[Form::PhysicalDef, Form::TypedUse],
-            ],
-            Opcode::Phi => &[PHI],
-            Opcode::ImplicitDef => &[DEFINED],
-            Opcode::PseudoCall => &[CALL],
-            Opcode::PseudoReturn => &[RETURNED],
-            Opcode::AdjustCallStackDown => &[ADJUSTED],
-            Opcode::AdjustCallStackUp => &[ADJUSTED],
-            Opcode::GenericImplicitDef => &[DEFINED],
-            Opcode::GenericConstant => &[CONSTANT],
-            Opcode::GenericFreeze => &[UNARY],
-            Opcode::GenericFrameIndex => &[FRAME_INDEX],
-            Opcode::GenericGlobalValue => &[GLOBAL_VALUE],
-            Opcode::GenericPointerAdd => &[SHIFT],
-            Opcode::GenericPointerToInteger => &[UNARY_TYPED],
-            Opcode::GenericIntegerToPointer => &[UNARY_TYPED],
-            Opcode::GenericTruncate => &[UNARY_TYPED],
-            Opcode::GenericAnyExtend => &[UNARY_TYPED],
-            Opcode::GenericZeroExtend => &[UNARY_TYPED],
-            Opcode::GenericSignExtend => &[UNARY_TYPED],
-            Opcode::GenericSignExtendInRegister => &[IN_REGISTER],
-            Opcode::GenericMergeValues => &[MERGE],
-            Opcode::GenericUnmergeValues => &[UNMERGE],
-            Opcode::GenericAdd => &[BINARY],
-            Opcode::GenericSubtract => &[BINARY],
-            Opcode::GenericMultiply => &[BINARY],
-            Opcode::GenericAnd => &[BINARY],
-            Opcode::GenericOr => &[BINARY],
-            Opcode::GenericXor => &[BINARY],
-            Opcode::GenericUnsignedDivide => &[BINARY],
-            Opcode::GenericSignedDivide => &[BINARY],
-            Opcode::GenericUnsignedRemainder => &[BINARY],
-            Opcode::GenericSignedRemainder => &[BINARY],
-            Opcode::GenericShiftLeft => &[SHIFT],
-            Opcode::GenericLogicalShiftRight => &[SHIFT],
-            Opcode::GenericArithmeticShiftRight => &[SHIFT],
-            Opcode::GenericUnsignedAddOverflow => &[OVERFLOW],
-            Opcode::GenericUnsignedSubtractOverflow => &[OVERFLOW],
-            Opcode::GenericUnsignedAddCarry => &[CARRY],
-            Opcode::GenericUnsignedSubtractBorrow => &[CARRY],
-            Opcode::GenericUnsignedMultiplyHigh => &[BINARY],
-            Opcode::GenericSignedMultiplyHigh => &[BINARY],
-            Opcode::GenericCompare => &[COMPARE],
-            Opcode::GenericSelect => &[SELECT],
-            Opcode::GenericSignedMinimum => &[BINARY],
-            Opcode::GenericSignedMaximum => &[BINARY],
-            Opcode::GenericUnsignedMinimum => &[BINARY],
-            Opcode::GenericUnsignedMaximum => &[BINARY],
-            Opcode::GenericAbsolute => &[UNARY],
-            Opcode::GenericCountLeadingZeros => &[UNARY_TYPED],
-            Opcode::GenericCountTrailingZeros => &[UNARY_TYPED],
-            Opcode::GenericPopulationCount => &[UNARY_TYPED],
-            Opcode::GenericCountLeadingZerosNotOfZero => &[UNARY_TYPED],
-            Opcode::GenericCountTrailingZerosNotOfZero => &[UNARY_TYPED],
-            Opcode::GenericByteSwap => &[UNARY],
-            Opcode::GenericFunnelShiftLeft => &[FUNNEL],
-            Opcode::GenericFunnelShiftRight => &[FUNNEL],
-            Opcode::GenericRotateLeft => &[SHIFT],
-            Opcode::GenericRotateRight => &[SHIFT],
-            Opcode::GenericLoad => &[UNARY_TYPED],
-            Opcode::GenericZeroExtendLoad => &[UNARY_TYPED],
-            Opcode::GenericSignExtendLoad => &[UNARY_TYPED],
-            Opcode::GenericStore => &[STORE],
-            Opcode::GenericPhi => &[PHI],
-            Opcode::GenericBranch => &[BRANCH],
-            Opcode::GenericBranchConditional => &[BRANCH_CONDITIONAL],
-            Opcode::Add => &[REGISTERS],
-            Opcode::Subtract => &[REGISTERS],
-            Opcode::And => &[REGISTERS],
-            Opcode::Or => &[REGISTERS],
-            Opcode::Xor => &[REGISTERS],
-            Opcode::SetLess => &[REGISTERS],
-            Opcode::SetLessUnsigned => &[REGISTERS],
-            Opcode::ShiftLeftLogical => &[REGISTERS],
-            Opcode::ShiftRightLogical => &[REGISTERS],
-            Opcode::ShiftRightArithmetic => &[REGISTERS],
-            Opcode::Multiply => &[REGISTERS],
-            Opcode::MultiplyHigh => &[REGISTERS],
-            Opcode::MultiplyHighUnsigned => &[REGISTERS],
-            Opcode::Divide => &[REGISTERS],
-            Opcode::DivideUnsigned => &[REGISTERS],
-            Opcode::Remainder => &[REGISTERS],
-            Opcode::RemainderUnsigned => &[REGISTERS],
-            Opcode::AddImmediate => &[ADD_IMMEDIATE],
-            Opcode::SetLessImmediate => &[IMMEDIATE],
-            Opcode::SetLessImmediateUnsigned => &[IMMEDIATE],
-            Opcode::AndImmediate => &[IMMEDIATE],
-            Opcode::OrImmediate => &[IMMEDIATE],
-            Opcode::XorImmediate => &[IMMEDIATE],
-            Opcode::ShiftLeftLogicalImmediate => &[IMMEDIATE],
-            Opcode::ShiftRightLogicalImmediate => &[IMMEDIATE],
-            Opcode::ShiftRightArithmeticImmediate => &[IMMEDIATE],
-            Opcode::LoadUpperImmediate => &[UPPER],
-            Opcode::AddWord => &[REGISTERS],
-            Opcode::SubtractWord => &[REGISTERS],
-            Opcode::MultiplyWord => &[REGISTERS],
-            Opcode::ShiftLeftLogicalWord => &[REGISTERS],
-            Opcode::ShiftRightLogicalWord => &[REGISTERS],
-            Opcode::ShiftRightArithmeticWord => &[REGISTERS],
-            Opcode::DivideWord => &[REGISTERS],
-            Opcode::DivideUnsignedWord => &[REGISTERS],
-            Opcode::RemainderWord => &[REGISTERS],
-            Opcode::RemainderUnsignedWord => &[REGISTERS],
-            Opcode::AddImmediateWord => &[IMMEDIATE],
-            Opcode::ShiftLeftLogicalImmediateWord => &[IMMEDIATE],
-            Opcode::ShiftRightLogicalImmediateWord => &[IMMEDIATE],
-            Opcode::ShiftRightArithmeticImmediateWord => &[IMMEDIATE],
-            Opcode::LoadByte => &[MACHINE_LOAD],
-            Opcode::LoadHalf => &[MACHINE_LOAD],
-            Opcode::LoadWord => &[MACHINE_LOAD],
-            Opcode::LoadByteUnsigned => &[MACHINE_LOAD],
-            Opcode::LoadHalfUnsigned => &[MACHINE_LOAD],
-            Opcode::LoadWordUnsigned => &[MACHINE_LOAD],
-            Opcode::LoadDouble => &[MACHINE_LOAD],
-            Opcode::StoreByte => &[MACHINE_STORE],
-            Opcode::StoreHalf => &[MACHINE_STORE],
-            Opcode::StoreWord => &[MACHINE_STORE],
-            Opcode::StoreDouble => &[MACHINE_STORE],
-            Opcode::BranchEqual => &[MACHINE_BRANCH],
-            Opcode::BranchNotEqual => &[MACHINE_BRANCH],
-            Opcode::BranchLess => &[MACHINE_BRANCH],
-            Opcode::BranchGreaterEqual => &[MACHINE_BRANCH],
-            Opcode::BranchLessUnsigned => &[MACHINE_BRANCH],
-            Opcode::BranchGreaterEqualUnsigned => &[MACHINE_BRANCH],
-            Opcode::PseudoBranch => &[BRANCH],
-        }
+        self.entry().rows
     }
 
     /// What this opcode does with memory.
     pub fn access(self) -> Access
         ensures { result ≡ access_of self }
     {
-        match self {
-            Opcode::GenericLoad
-            | Opcode::GenericZeroExtendLoad
-            | Opcode::GenericSignExtendLoad
-            | Opcode::LoadByte
-            | Opcode::LoadHalf
-            | Opcode::LoadWord
-            | Opcode::LoadByteUnsigned
-            | Opcode::LoadHalfUnsigned
-            | Opcode::LoadWordUnsigned
-            | Opcode::LoadDouble => Access::Load,
-            Opcode::GenericStore
-            | Opcode::StoreByte
-            | Opcode::StoreHalf
-            | Opcode::StoreWord
-            | Opcode::StoreDouble => Access::Store,
-            _ => Access::Neither,
-        }
+        self.entry().access
+    }
+
+    /// The types that a value has in memory.
+    pub fn memory(self) -> InMemory
+        ensures { result ≡ memory_of self }
+    {
+        self.entry().memory
+    }
+
+    /// What this opcode does to the course of its block.
+    pub fn role(self) -> Role
+        ensures { result ≡ role_of self }
+    {
+        self.entry().role
+    }
+
+    /// Where this opcode stands.
+    pub fn standing(self) -> Standing
+        ensures { result ≡ standing_of self }
+    {
+        self.entry().standing
+    }
+
+    /// The types of this opcode's registers.
+    pub fn typing(self) -> Option<Typing>
+        ensures { result ≡ typing_of self }
+    {
+        self.entry().typing
+    }
+
+    /// Whether only a machine of 64 bits has this instruction.
+    pub fn is_wide(self) -> bool
+        ensures { result ≡ is_wide_op self }
+    {
+        self.entry().is_wide
     }
 
     /// Whether this opcode's word begins with `G_`.
@@ -577,69 +570,35 @@ impl Opcode {
     pub fn is_terminator(self) -> bool
         ensures { result ≡ is_terminator_op self }
     {
-        matches!(
-            self,
-            Opcode::PseudoReturn
-                | Opcode::GenericBranch
-                | Opcode::GenericBranchConditional
-                | Opcode::BranchEqual
-                | Opcode::BranchNotEqual
-                | Opcode::BranchLess
-                | Opcode::BranchGreaterEqual
-                | Opcode::BranchLessUnsigned
-                | Opcode::BranchGreaterEqualUnsigned
-                | Opcode::PseudoBranch
-        )
+        matches!(self.role(), Role::Return | Role::Jump | Role::Branch)
     }
 
     /// Whether nothing follows this branch or return.
     pub fn is_unconditional(self) -> bool
         ensures { result ≡ is_unconditional_op self }
     {
-        matches!(
-            self,
-            Opcode::GenericBranch | Opcode::PseudoBranch | Opcode::PseudoReturn
-        )
+        matches!(self.role(), Role::Return | Role::Jump)
+    }
+
+    /// Whether this opcode goes to the blocks among its operands.
+    pub fn is_branch(self) -> bool
+        ensures { result ≡ is_branch_op self }
+    {
+        matches!(self.role(), Role::Jump | Role::Branch)
     }
 
     /// Whether this opcode is a call.
     pub fn is_call(self) -> bool
         ensures { result ≡ is_call_op self }
     {
-        matches!(self, Opcode::PseudoCall)
+        matches!(self.role(), Role::Call)
     }
 
     /// Whether this opcode is a phi.
     pub fn is_phi(self) -> bool
         ensures { result ≡ is_phi_op self }
     {
-        matches!(self, Opcode::GenericPhi | Opcode::Phi)
-    }
-
-    /// Whether only a machine of 64 bits has this instruction.
-    pub fn is_wide(self) -> bool
-        ensures { result ≡ is_wide_op self }
-    {
-        matches!(
-            self,
-            Opcode::AddWord
-                | Opcode::SubtractWord
-                | Opcode::MultiplyWord
-                | Opcode::ShiftLeftLogicalWord
-                | Opcode::ShiftRightLogicalWord
-                | Opcode::ShiftRightArithmeticWord
-                | Opcode::DivideWord
-                | Opcode::DivideUnsignedWord
-                | Opcode::RemainderWord
-                | Opcode::RemainderUnsignedWord
-                | Opcode::AddImmediateWord
-                | Opcode::ShiftLeftLogicalImmediateWord
-                | Opcode::ShiftRightLogicalImmediateWord
-                | Opcode::ShiftRightArithmeticImmediateWord
-                | Opcode::LoadWordUnsigned
-                | Opcode::LoadDouble
-                | Opcode::StoreDouble
-        )
+        matches!(self.role(), Role::Phi)
     }
 }
 

@@ -5,8 +5,8 @@ use Rattle.std.specs.List.{list_any}
 use Rattle.gi_llt.specs.Tokens.{Spaces, piece_bytes}
 use Rattle.gi_mir.specs.Data.{InstrData, BlockData}
 use Rattle.gi_mir.specs.Renaming.{renamed_operand, renamed_pair}
-use Rattle.gi_spelling.specs.Printed.{sources_pieces, physical_pieces, is_branch_op, with_place, with_targets, with_branches, falls_through, implied_successors, states_successors, set_off, text_of, instr_lines, liveins_lines, block_head_pieces, block_lines}
-use Rattle.gi_mir.specs.Row.{is_unconditional_op}
+use Rattle.gi_spelling.specs.Printed.{sources_pieces, physical_pieces, with_place, with_targets, with_branches, falls_through, implied_successors, states_successors, set_off, text_of, instr_lines, liveins_lines, block_head_pieces, block_lines}
+use Rattle.gi_mir.specs.Row.{is_unconditional_op, is_branch_op}
 use Rattle.gi_mir.specs.declared.operand.Kind.{Kind}
 use Rattle.gi_mir.specs.declared.operand.Operand.{Operand}
 use Rattle.gi_mir.specs.declared.operand.Operand.TheVariants as operand

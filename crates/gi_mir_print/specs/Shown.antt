@@ -9,7 +9,8 @@ use Rattle.gi_mir.specs.declared.operand.Kind.{Kind}
 use Rattle.gi_mir.specs.declared.operand.Kind.TheVariants.{Class}
 use Rattle.gi_mir.specs.declared.operand.Operand.{Operand}
 use Rattle.gi_mir.specs.declared.operand.Operand.TheVariants as operand
-use Rattle.gi_spelling.specs.Printed.{is_branch_op, successors_pieces, name_at, key_lines, stack_lines, blocks_lines, text_of}
+use Rattle.gi_mir.specs.Row.{is_branch_op}
+use Rattle.gi_spelling.specs.Printed.{successors_pieces, name_at, key_lines, stack_lines, blocks_lines, text_of}
 use Rattle.gi_llt.specs.Tokens.{Spaces, piece_bytes}
 use Rattle.std.specs.List.{list_any}
 use Rattle.gi_mir.specs.declared.row.Form.{Form}

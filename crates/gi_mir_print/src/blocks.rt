@@ -3,8 +3,8 @@
 ghost use Rattle.std.specs.Prelude.{◌≡◌, ◌++◌, ◌∷◌, ◌<◌, ◌+◌, ◌==◌, ◌&&◌, ◌||◌, [], not, OnOk};
 ghost use Rattle.std.specs.List.{list_any};
 ghost use Rattle.gi_llt.specs.Tokens.{Spaces, piece_bytes};
-ghost use Rattle.gi_spelling.specs.Printed.{sources_pieces, instr_line, instr_lines, is_branch_op, falls_through, implied_successors, block_pieces, physical_pieces, block_head_pieces, states_successors, liveins_lines, set_off, block_lines, text_of};
-ghost use Rattle.gi_mir.specs.Row.{is_unconditional_op};
+ghost use Rattle.gi_spelling.specs.Printed.{sources_pieces, instr_line, instr_lines, falls_through, implied_successors, block_pieces, physical_pieces, block_head_pieces, states_successors, liveins_lines, set_off, block_lines, text_of};
+ghost use Rattle.gi_mir.specs.Row.{is_unconditional_op, is_branch_op};
 ghost use Rattle.gi_mir_print.specs.Shown.{kind_at, shown_instr, shown_instrs, is_target, has_target, gap_after, successors_stated};
 
 use crate::instruction::push_instr;
@@ -13,7 +13,6 @@ use crate::registers::Registers;
 use gi_llt::Memory;
 use gi_mir::block::{Block, Numbered};
 use gi_mir::names::Names;
-use gi_mir::opcode::Opcode;
 use gi_mir::operand::Operand;
 
 /// An instruction on a line of its own.
@@ -137,24 +136,6 @@ fn push_notes(
     push_gap(is_stated, successors, liveins, out)
 }
 
-/// Whether an opcode goes to the blocks among its operands.
-fn is_branch(op: Opcode) -> bool
-    ensures { result ≡ is_branch_op op }
-{
-    matches!(
-        op,
-        Opcode::GenericBranch
-            | Opcode::GenericBranchConditional
-            | Opcode::BranchEqual
-            | Opcode::BranchNotEqual
-            | Opcode::BranchLess
-            | Opcode::BranchGreaterEqual
-            | Opcode::BranchLessUnsigned
-            | Opcode::BranchGreaterEqualUnsigned
-            | Opcode::PseudoBranch
-    )
-}
-
 /// Whether an operand is a block.
 fn is_target(operand: Operand) -> bool
     ensures { result ≡ is_target operand }
@@ -173,7 +154,7 @@ fn any_target(operands: &[Operand]) -> bool
 fn has_target(numbered: &Numbered) -> bool
     ensures { result ≡ has_target numbered.now }
 {
-    is_branch(numbered.instr.op) && any_target(numbered.instr.operands.as_slice())
+    numbered.instr.op.is_branch() && any_target(numbered.instr.operands.as_slice())
 }
 
 /// Whether an instruction branches to a block.

@@ -5,11 +5,13 @@ ghost use Rattle.std.specs.Prelude.{◌≡◌, ◌<◌, ◌≤◌, ◌-◌, ◌^
 ghost use Rattle.std.specs.Fmt.{signed_decimal};
 ghost use Rattle.gi_llt.specs.Bits.{signed};
 ghost use Rattle.gi_llt.specs.Tokens.{Number, Global, Routine, Spaces, token, piece_bytes};
-ghost use Rattle.gi_spelling.specs.Printed.{word, bracketed, type_piece, kind_pieces, shown_type, block_piece, frame_piece, physical_piece, symbol_flag_pieces, constant_pieces, predicate_word, routine_names, name_at, flag_pieces, flags_pieces, usual_align, align_pieces, memory_pieces};
+ghost use Rattle.gi_mir.specs.Routines.{routine_names};
+ghost use Rattle.gi_spelling.specs.Printed.{word, bracketed, type_piece, kind_pieces, shown_type, block_piece, frame_piece, physical_piece, symbol_flag_pieces, constant_pieces, predicate_word, name_at, flag_pieces, flags_pieces, usual_align, align_pieces, memory_pieces};
 
 use gi_llt::{Llt, Memory};
 use gi_mir::names::Names;
 use gi_mir::operand::{Flags, Kind, MemOp, Pred, SymbolFlag};
+use gi_mir::routine;
 use itoa::Buffer;
 
 /// Writes bytes.
@@ -211,18 +213,9 @@ pub(crate) fn push_global(
 fn routine_name(place: u8) -> &'static str
     ensures { result.now ≡ name_at routine_names place }
 {
-    match place {
-        0 => "__muldi3",
-        1 => "__divdi3",
-        2 => "__udivdi3",
-        3 => "__moddi3",
-        4 => "__umoddi3",
-        5 => "__multi3",
-        6 => "__divti3",
-        7 => "__udivti3",
-        8 => "__modti3",
-        9 => "__umodti3",
-        _ => "",
+    match routine::Routine::at(place) {
+        Some(routine) => routine.name(),
+        None => "",
     }
 }
 

@@ -15,7 +15,7 @@ use Rattle.gi_meaning.specs.Generic.{nullary, parts_of}
 use Rattle.gi_meaning.specs.Machine.{is_immediate}
 use Rattle.gi_meaning.specs.Meaning.{Meaning, Copying, Generic, Machine, Loading, Storing, MachineLoading, MachineStoring, Jumping, Branching, MachineBranching, Calling, Returning, Nothing, Joining, Extension, Anything, Zeros, Signs, meaning_of}
 use Rattle.gi_meaning.specs.Memory.{Memory, above, with_byte, loaded, stored, with_byte_at, is_aligned}
-use Rattle.gi_meaning.specs.Routine.{first_routine, InTwoWords}
+use Rattle.gi_meaning.specs.Routine.{has_routine, InTwoWords}
 use Rattle.gi_meaning.specs.Act.{Answer, Results, Leaves, Answers, AnswersWords, all_fitted, copied, copy, extended, from_loaded, load, machine_load, StoresThere, Stores, MachineStores, jump, machine_branch, LeavesFree, CallsGlobal, Calls, Act, AllReadAs, are_routine_registers, result_registers, passed, words_of}
 use Rattle.gi_refine.proofs.Basics.{value_holds}
 use Rattle.gi_refine.proofs.Targets.{or_breaks}
@@ -199,7 +199,7 @@ calls_sized : (x : ℕ) (w : World) → IsWorld x w → (arguments : List Argume
 calls_sized x w is_world (Symbol Call callee address ∷ rest) outside a are_bytes h =
     calls_global_sized x w is_world callee (words_of (passed rest)) (length (result_registers rest)) outside a h
 calls_sized x w is_world (Called Call routine ∷ rest) outside a are_bytes h =
-    or_breaks (IsAnswerSized x) tt (are_routine_registers (passed rest) (result_registers rest) && nat_le (first_routine x) routine && nat_lt routine (first_routine x + 5)) _ a
+    or_breaks (IsAnswerSized x) tt (are_routine_registers (passed rest) (result_registers rest) && has_routine x routine) _ a
     (λ answered. leaves_free_sized x answered.0 outside a (two_words_small x _ answered.0 answered.1) are_bytes answered.2) h
 calls_sized x w is_world (Symbol Plain callee address ∷ rest) outside a are_bytes h = subst (IsAnswerSized x) (sym h) tt
 calls_sized x w is_world (Symbol Hi callee address ∷ rest) outside a are_bytes h = subst (IsAnswerSized x) (sym h) tt

@@ -10,7 +10,8 @@ use Rattle.gi_mir.specs.declared.operand.Kind.{Kind}
 use Rattle.gi_mir.specs.declared.operand.Kind.TheVariants.{Class}
 use Rattle.gi_mir.specs.Data.{InstrData, BlockData, FunctionData}
 use Rattle.gi_mir.specs.Registers.{first_there, kind_in_operands, kind_in_instrs, kind_in_blocks, kind_of}
-use Rattle.gi_spelling.specs.Printed.{listed, physical_pieces, liveins_pieces, instr_line, instr_lines, is_branch_op, with_branches, falls_through, implied_successors, block_head_pieces, successors_lines, liveins_lines, set_off, blocks_lines}
+use Rattle.gi_mir.specs.Row.{is_branch_op}
+use Rattle.gi_spelling.specs.Printed.{listed, physical_pieces, liveins_pieces, instr_line, instr_lines, with_branches, falls_through, implied_successors, block_head_pieces, successors_lines, liveins_lines, set_off, blocks_lines}
 use Rattle.gi_spelling.specs.Stated.{StatedInstr, CopyIn, MakeConstant, AddUp, CopyOut, Return, stated_kind, stated_instr, stated_line, instrs_lines, physical_list, is_among, is_argument, is_stated_after, defined_after, live_after, is_return, are_stated, are_arguments, IsStatedInstr, IsStated}
 
 decimal_10 : decimal 10 ≡ codes "10"

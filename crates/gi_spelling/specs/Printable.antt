@@ -5,7 +5,8 @@ use Rattle.std.specs.List.{list_all}
 use Rattle.gi_mir.specs.declared.operand.Operand.{Operand}
 use Rattle.gi_mir.specs.declared.operand.Operand.TheVariants.{Global, Routine}
 use Rattle.gi_mir.specs.Data.{InstrData, BlockData, FunctionData, ModuleData}
-use Rattle.gi_spelling.specs.Printed.{name_at, routine_names}
+use Rattle.gi_mir.specs.Routines.{routine_names}
+use Rattle.gi_spelling.specs.Printed.{name_at}
 use Rattle.gi_spelling.specs.Plain.{is_name}
 
 abbrev pub is_named_operand : (names : List (List ℕ)) → Operand → Bool

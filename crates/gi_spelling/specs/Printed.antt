@@ -9,8 +9,6 @@ use Rattle.gi_llt.specs.Bits.{signed}
 use Rattle.gi_llt.specs.Tokens.{Word, Number, Register, Physical, Global as GlobalName, Routine as RoutineName, Mark, Piece, Spaces, token, piece_bytes}
 use Rattle.gi_llt.specs.declared.Llt.{Llt}
 use Rattle.gi_llt.specs.declared.Llt.TheVariants.{Scalar, Pointer}
-use Rattle.gi_mir.specs.declared.opcode.Opcode.{Opcode}
-use Rattle.gi_mir.specs.declared.opcode.Opcode.TheVariants.{GenericBranch, GenericBranchConditional, BranchEqual, BranchNotEqual, BranchLess, BranchGreaterEqual, BranchLessUnsigned, BranchGreaterEqualUnsigned, PseudoBranch}
 use Rattle.gi_mir.specs.declared.operand.Kind.{Kind}
 use Rattle.gi_mir.specs.declared.operand.Kind.TheVariants.{Generic, Banked, Class}
 use Rattle.gi_mir.specs.declared.operand.Pred.{Pred}
@@ -26,7 +24,8 @@ use Rattle.gi_mir.specs.declared.row.Form.{Form}
 use Rattle.gi_mir.specs.declared.row.Form.TheVariants as form
 use Rattle.gi_mir.specs.Data.{InstrData, BlockData, FunctionData, ModuleData}
 use Rattle.gi_mir.specs.Registers.{type_of_kind, kind_of}
-use Rattle.gi_mir.specs.Row.{word_of, rows_of, is_unconditional_op}
+use Rattle.gi_mir.specs.Routines.{routine_names}
+use Rattle.gi_mir.specs.Row.{word_of, rows_of, is_unconditional_op, is_branch_op}
 
 -- a mark of one byte, `word` and a word
 abbrev pub mark : ℕ → Piece
@@ -92,21 +91,6 @@ symbol_flag_pieces Plain = []
 symbol_flag_pieces Call = word (codes "target-flags") ∷ bracketed (word (codes "riscv-call") ∷ []) ++ (Spaces 1 ∷ [])
 symbol_flag_pieces Hi = word (codes "target-flags") ∷ bracketed (word (codes "riscv-hi") ∷ []) ++ (Spaces 1 ∷ [])
 symbol_flag_pieces Lo = word (codes "target-flags") ∷ bracketed (word (codes "riscv-lo") ∷ []) ++ (Spaces 1 ∷ [])
-
--- the names of the runtime's routines, those of RV32 first
-abbrev pub routine_names : List (List ℕ)
-routine_names =
-    codes "__muldi3"
-    ∷ codes "__divdi3"
-    ∷ codes "__udivdi3"
-    ∷ codes "__moddi3"
-    ∷ codes "__umoddi3"
-    ∷ codes "__multi3"
-    ∷ codes "__divti3"
-    ∷ codes "__udivti3"
-    ∷ codes "__modti3"
-    ∷ codes "__umodti3"
-    ∷ []
 
 -- the bytes of a name by its number, and none where no name has it
 abbrev pub name_at : List (List ℕ) → ℕ → List ℕ
@@ -240,19 +224,6 @@ instr_line kinds names instr = piece_bytes (Spaces 4 ∷ instr_pieces kinds name
 abbrev pub instr_lines : (kinds : ℕ → Kind) (names : List (List ℕ)) → List (ℕ × InstrData) → List (List ℕ)
 instr_lines kinds names [] = []
 instr_lines kinds names (instr ∷ instrs) = instr_line kinds names instr.1 ∷ instr_lines kinds names instrs
-
--- the opcodes that go to the blocks among their operands
-abbrev pub is_branch_op : Opcode → Bool
-is_branch_op GenericBranch = true
-is_branch_op GenericBranchConditional = true
-is_branch_op BranchEqual = true
-is_branch_op BranchNotEqual = true
-is_branch_op BranchLess = true
-is_branch_op BranchGreaterEqual = true
-is_branch_op BranchLessUnsigned = true
-is_branch_op BranchGreaterEqualUnsigned = true
-is_branch_op PseudoBranch = true
-is_branch_op _ = false
 
 -- a list with one more at its end, unless it is there
 abbrev pub with_place : List ℕ → ℕ → List ℕ

@@ -13,7 +13,7 @@ use Rattle.gi_text.specs.declared.token.Number.{Number as NumberData}
 use Rattle.gi_mir.specs.declared.operand.Pred.TheVariants as pred
 use Rattle.gi_mir.specs.declared.operand.SymbolFlag.TheVariants as symbol_flag
 use Rattle.gi_mir.specs.Row.{opcode_of}
-use Rattle.gi_spelling.specs.Printed.{routine_names}
+use Rattle.gi_mir.specs.Routines.{routine_names}
 use Rattle.gi_spelling.specs.declared.token.Flag.TheVariants as flag
 use Rattle.gi_spelling.specs.declared.token.RegisterClass.TheVariants as class
 use Rattle.gi_spelling.specs.declared.token.Word.{Word}

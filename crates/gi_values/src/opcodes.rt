@@ -92,7 +92,7 @@ fn gives_of(
 fn parts_text(alloc: Global, results: &[Llt], values: &[u128]) -> Result<String, AllocError> {
     let mut widths = Vec::new(alloc);
     for ty in results {
-        widths.push(gi_mir::accepted::scalar_bits(*ty))?;
+        widths.push(gi_mir::types::scalar_bits(*ty))?;
     }
     match values {
         [value] => {

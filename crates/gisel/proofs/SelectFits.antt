@@ -11,7 +11,8 @@ use Rattle.gi_mir.specs.declared.opcode.Opcode.TheVariants.{Add, AddImmediate}
 use Rattle.gi_mir.specs.declared.operand.Operand.TheVariants.{Def, Use, Phys, Int}
 use Rattle.gi_meaning.specs.Machine.{is_immediate}
 use Rattle.gisel.specs.NormalForm.{first_fit}
-use Rattle.gisel.specs.Rows.{Site, is_generic_op, selection_rows, is_used, short_in, short_number, short_sum, made, add_immediate, dead_made, constant_made, short_sum_made, sum_made}
+use Rattle.gi_mir.specs.Row.{is_generic_op}
+use Rattle.gisel.specs.Rows.{Site, selection_rows, is_used, short_in, short_number, short_sum, made, add_immediate, dead_made, constant_made, short_sum_made, sum_made}
 use Rattle.gisel.specs.Selecting.{short_of, selected_where, selected_if_used, selected_root, selected_sum}
 use Rattle.gisel.specs.Selection.{classed_instr}
 use Rattle.gisel.specs.declared.select.Root.TheVariants as root

@@ -12,7 +12,8 @@ use Rattle.gi_mir.specs.declared.operand.Operand.{Operand}
 use Rattle.gi_mir.specs.declared.operand.Operand.TheVariants as operand
 use Rattle.gi_spelling.specs.Stated.{StatedInstr, is_stated_after, defined_after, live_after, is_return, are_stated}
 use Rattle.gisel.specs.NormalForm.{last_place, first_fit, next, next_at, rewritten_at, rewritten, with_ids}
-use Rattle.gisel.specs.Rows.{Site, is_generic, is_generic_op, is_use_of, reads, is_used, short_in, selection_rows}
+use Rattle.gi_mir.specs.Row.{is_generic_op}
+use Rattle.gisel.specs.Rows.{Site, is_generic, is_use_of, reads, is_used, short_in, selection_rows}
 use Rattle.gisel.specs.Selecting.{used_in, short_among}
 use Rattle.gisel.specs.Selection.{classed_operand, classed_instr}
 

@@ -15,7 +15,8 @@ use Rattle.gi_refine.specs.Refinement.{IsRefinement}
 use Rattle.gi_refine.specs.Replacing.{touches, any_touches}
 use Rattle.gi_refine.proofs.Refining.{refines_itself, refines_through}
 use Rattle.gisel.specs.NormalForm.{first_fit, next, with_ids, IsNormalForm}
-use Rattle.gisel.specs.Rows.{is_generic, is_generic_op, is_use_of, reads, is_used, short_in, selection_rows}
+use Rattle.gi_mir.specs.Row.{is_generic_op}
+use Rattle.gisel.specs.Rows.{is_generic, is_use_of, reads, is_used, short_in, selection_rows}
 use Rattle.gisel.specs.Selecting.{selected_where, selected_list, used_in, before, short_among}
 use Rattle.gisel.specs.Selection.{classed_instr}
 use Rattle.gisel.proofs.SelectFits.{IsShort, short_value, constant_instr, constant_list, constant_fits, constant_selected, sum_instr, sum_list, sum_fits, sum_selected, sum_classed, sum_not_generic}

@@ -1,25 +1,21 @@
 -- The table of instruction selection: what stands in the place of a generic instruction. A row looks at the
 -- function, at the place and at the instruction there, and answers where it fits.
 -- (RISC-V unprivileged ISA, RV32I: "Integer Computational Instructions".)
-use Rattle.std.specs.Prelude.{ℕ, ℤ, Bool, true, false, not, ◌&&◌, ◌==◌, List, [], ◌∷◌, Option, Some, None, option_map, take, codes, bytes_eq, find, if◌then◌else◌}
+use Rattle.std.specs.Prelude.{ℕ, ℤ, Bool, true, false, not, ◌&&◌, ◌==◌, List, [], ◌∷◌, Option, Some, None, option_map, find, if◌then◌else◌}
 use Rattle.std.specs.List.{list_any}
 use Rattle.gi_llt.specs.Bits.{signed}
 use Rattle.gi_mir.specs.declared.opcode.Opcode.{Opcode}
-use Rattle.gi_mir.specs.declared.opcode.Opcode.TheVariants.{PseudoCall, GenericConstant, GenericAdd, Add, AddImmediate}
+use Rattle.gi_mir.specs.declared.opcode.Opcode.TheVariants.{GenericConstant, GenericAdd, Add, AddImmediate}
 use Rattle.gi_mir.specs.declared.operand.Reg.{Reg}
 use Rattle.gi_mir.specs.declared.operand.Kind.{Kind}
 use Rattle.gi_mir.specs.declared.operand.Operand.{Operand}
 use Rattle.gi_mir.specs.declared.operand.Operand.TheVariants.{Def, Use, Phys, PhysDef, ImplicitDef, Int, Constant}
 use Rattle.gi_mir.specs.Data.{InstrData, FunctionData, no_flags}
 use Rattle.gi_mir.specs.Edit.{all_instrs, defines}
-use Rattle.gi_mir.specs.Row.{word_of}
+use Rattle.gi_mir.specs.Row.{is_generic_op, is_call_op}
 use Rattle.gi_meaning.specs.Machine.{is_immediate}
 
 -- ══ Places ══
-
--- an opcode is generic where its name begins with `G_`
-abbrev pub is_generic_op : Opcode → Bool
-is_generic_op op = bytes_eq (take 2 (word_of op)) (codes "G_")
 
 abbrev pub is_generic : ℕ × InstrData → Bool
 is_generic i = is_generic_op i.1.op
@@ -95,10 +91,6 @@ made op operands line = record { op = op; flags = no_flags; operands = operands;
 abbrev pub add_immediate : Reg → Kind → Reg → ℤ → (line : ℕ) → List InstrData
 add_immediate d kind a i line = made AddImmediate (Def d kind ∷ Use a ∷ Int i ∷ []) line
 
-abbrev pub is_call : Opcode → Bool
-is_call PseudoCall = true
-is_call _ = false
-
 abbrev pub is_some_register : List ℕ → Bool
 is_some_register [] = false
 is_some_register (r ∷ rs) = true
@@ -106,7 +98,7 @@ is_some_register (r ∷ rs) = true
 -- it defines virtual registers, no physical one, isn't a call, and none of its results is used
 abbrev pub is_dead : (used : ℕ → Bool) → InstrData → Bool
 is_dead used i =
-    is_some_register (defined_registers i.operands) && not (list_any is_physical_result i.operands) && not (is_call i.op)
+    is_some_register (defined_registers i.operands) && not (list_any is_physical_result i.operands) && not (is_call_op i.op)
     && not (list_any used (defined_registers i.operands))
 
 -- a dead instruction: nothing
