@@ -1,1 +1,3 @@
 pub mod LineCuts
+pub mod LineTests
+pub mod RunCuts

@@ -1,4 +1,5 @@
 //! The module that a text of Machine IR spells.
 #![tactic(auto)]
 
+mod line_bytes;
 mod lines;
