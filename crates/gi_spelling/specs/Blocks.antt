@@ -23,6 +23,7 @@ use Rattle.gi_spelling.specs.declared.written.Source.{Source}
 use Rattle.gi_spelling.specs.declared.written.Source.TheVariants as source
 use Rattle.gi_spelling.specs.declared.written.Fault.{Fault}
 use Rattle.gi_spelling.specs.declared.written.Fault.TheVariants as fault
+use Rattle.gi_spelling.specs.declared.written.Wrong.{Wrong}
 use Rattle.gi_spelling.specs.Lines.{Line, Section, Sections, sections_of}
 use Rattle.gi_spelling.specs.Items.{kept_items}
 use Rattle.gi_spelling.specs.Reading.{Read, syntax, at_end, parts_of, read_all, read_instr, is_debug_line}
@@ -30,10 +31,6 @@ use Rattle.gi_spelling.specs.Resolved.{Tables, resolved}
 use Rattle.gi_spelling.specs.Written.{WrittenData}
 
 -- a line at which something is wrong
-pub record Wrong : Type 0 where
-  pub line : ℕ
-  pub fault : Fault
-
 abbrev pub wrong : ℕ → Fault → Wrong
 wrong line fault = record { line = line; fault = fault }
 
