@@ -3,3 +3,4 @@
 
 mod line_bytes;
 mod lines;
+mod wrongs;
