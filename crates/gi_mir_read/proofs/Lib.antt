@@ -1,3 +1,4 @@
 pub mod LineCuts
 pub mod LineTests
 pub mod RunCuts
+pub mod SectionCuts

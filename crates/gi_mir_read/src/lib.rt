@@ -3,4 +3,5 @@
 
 mod line_bytes;
 mod lines;
+mod sections;
 mod wrongs;
