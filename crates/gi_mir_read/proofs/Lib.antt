@@ -2,3 +2,4 @@ pub mod LineCuts
 pub mod LineTests
 pub mod RunCuts
 pub mod SectionCuts
+pub mod PartCuts

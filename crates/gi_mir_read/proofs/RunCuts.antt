@@ -1,7 +1,7 @@
 -- A list is cut at the first place where a test passes.
 use Rattle.std.proofs.Common.{◌≡◌, ℕ, suc, ◌+◌, Bool, true, false, cond, List, [], ◌∷◌, Some, None, length, take, drop, refl, sym, ap, ◌∙◌, arith}
 use Rattle.std.proofs.lemmas.Iterator.Adapters.{position_from-zero}
-use Rattle.std.specs.Prelude.{not}
+use Rattle.std.specs.Prelude.{not, map}
 use Rattle.std.specs.List.{position_from, position}
 use Rattle.gi_llt.specs.Tokens.{run_of, past_run}
 
@@ -62,3 +62,29 @@ take_run pass (x ∷ xs) = chosen (pass x) (take_run pass xs)
     chosen : (test : Bool) → take (length (run_of pass xs)) xs ≡ run_of pass xs → take (length (cond test (x ∷ run_of pass xs) [])) (x ∷ xs) ≡ cond test (x ∷ run_of pass xs) []
     chosen true more = ap (λ ys. x ∷ ys) more
     chosen false more = refl
+
+pub run_of-map : {X Y : Type 0} (pass : Y → Bool) (f : X → Y) (xs : List X) → run_of pass (map f xs) ≡ map f (run_of (λ x. pass (f x)) xs)
+run_of-map pass f [] = refl
+run_of-map pass f (x ∷ xs) = chosen (pass (f x)) (run_of-map pass f xs)
+  where
+    chosen : (test : Bool) → run_of pass (map f xs) ≡ map f (run_of (λ y. pass (f y)) xs) → cond test (f x ∷ run_of pass (map f xs)) [] ≡ map f (cond test (x ∷ run_of (λ y. pass (f y)) xs) [])
+    chosen true more = ap (λ ys. f x ∷ ys) more
+    chosen false more = refl
+
+pub past_run-map : {X Y : Type 0} (pass : Y → Bool) (f : X → Y) (xs : List X) → past_run pass (map f xs) ≡ map f (past_run (λ x. pass (f x)) xs)
+past_run-map pass f [] = refl
+past_run-map pass f (x ∷ xs) = chosen (pass (f x)) (past_run-map pass f xs)
+  where
+    chosen : (test : Bool) → past_run pass (map f xs) ≡ map f (past_run (λ y. pass (f y)) xs) → cond test (past_run pass (map f xs)) (f x ∷ map f xs) ≡ map f (cond test (past_run (λ y. pass (f y)) xs) (x ∷ xs))
+    chosen true more = more
+    chosen false more = refl
+
+pub past_run-same : {X : Type 0} (p q : X → Bool) → ((x : X) → p x ≡ q x) → (xs : List X) → past_run p xs ≡ past_run q xs
+past_run-same p q same [] = refl
+past_run-same p q same (x ∷ xs) = chosen (p x) (q x) (same x) (past_run-same p q same xs)
+  where
+    chosen : (a b : Bool) → a ≡ b → past_run p xs ≡ past_run q xs → cond a (past_run p xs) (x ∷ xs) ≡ cond b (past_run q xs) (x ∷ xs)
+    chosen true true e more = more
+    chosen true false e more = cc
+    chosen false true e more = cc
+    chosen false false e more = refl

@@ -3,5 +3,6 @@
 
 mod line_bytes;
 mod lines;
+mod parts;
 mod sections;
 mod wrongs;

@@ -3,46 +3,59 @@
 ghost use Rattle.std.specs.Prelude.{◌≡◌, ◌<◌, ◌≤◌, [], ◌∷◌, not, length, position, All, IfSome, MatchOption};
 ghost use Rattle.gi_llt.specs.Tokens.{past_run, run_of};
 ghost use Rattle.gi_mir_read.specs.Placed.{IsLineIn, lines_at};
-ghost use Rattle.gi_mir_read.specs.Sectioned.{IsSectionIn, begins, begins_at, section_at, sections_in};
+ghost use Rattle.gi_mir_read.specs.Sectioned.{IsSectionIn, is_marked, is_marked_at, is_unmarked, section_at, sections_in};
 
-use crate::line_bytes::{is_at_column_one, is_start};
+use crate::line_bytes::{is_at_column_one, is_dropped, is_end, is_start};
 use crate::lines::Line;
 
-/// What begins with the head of a section: a document, or an entry of a document.
+/// Lines at which others are cut.
 #[derive(Clone, Copy, Debug, PartialEq, Eq)]
-pub(crate) enum Head {
+pub(crate) enum Mark {
+    /// A document begins with it.
     Document,
+    /// An entry of a document begins with it.
     Entry,
+    /// It isn't passed over.
+    Counted,
+    /// A document begins or ends with it.
+    BlockEnd,
+    /// A document ends with it.
+    End,
 }
 
-impl Head {
-    /// Whether it begins with the line.
-    fn begins(self, line: &[u8]) -> bool
-        ensures { result ≡ begins self line.now }
+impl Mark {
+    /// Whether a line is marked so.
+    fn is_at(self, line: &[u8]) -> bool
+        ensures { result ≡ is_marked self line.now }
     {
         match self {
-            Head::Document => is_start(line),
-            Head::Entry => is_at_column_one(line),
+            Mark::Document => is_start(line),
+            Mark::Entry => is_at_column_one(line),
+            Mark::Counted => !is_dropped(line),
+            Mark::BlockEnd => is_end(line) || is_start(line),
+            Mark::End => is_end(line),
         }
     }
 
-    /// The place of the first line that begins one.
+    /// The place of the first line that is marked so.
     fn place(self, text: &[u8], lines: &[Line]) -> Option<usize>
         requires { All (IsLineIn text.now) lines.now }
-        ensures place { result ≡ position (begins_at self text.now) lines.now }
+        ensures place { result ≡ position (is_marked_at self text.now) lines.now }
         ensures within { IfSome result (λ place. place < length lines.now) }
     {
         for (place, line) in lines.iter().enumerate() {
-            if self.begins(line.bytes(text)) {
+            if self.is_at(line.bytes(text)) {
                 return Some(place);
             }
         }
         None
     }
 
-    /// The lines before the first that begins one, and the lines from that on.
+    /// The lines before the first that is marked so, and the lines from that on.
     pub fn cut<'a>(self, text: &[u8], lines: &'a [Line]) -> (&'a [Line], &'a [Line])
         requires { All (IsLineIn text.now) lines.now }
+        ensures front { lines_at text.now result.0.now ≡ run_of (is_unmarked self) (lines_at text.now lines.now) }
+        ensures back { lines_at text.now result.1.now ≡ past_run (is_unmarked self) (lines_at text.now lines.now) }
         ensures before { lines_at text.now result.0.now ≡ (sections_in self text.now lines.now).before }
         ensures after { (sections_in self text.now result.1.now).sections ≡ (sections_in self text.now lines.now).sections }
         ensures headed { (sections_in self text.now result.1.now).before ≡ [] }
@@ -56,7 +69,7 @@ impl Head {
         }
     }
 
-    /// The first section of lines that begin with one, and what stands behind it.
+    /// The first section of lines that begin with a head, where heads are marked so, and what stands behind it.
     pub fn next<'a>(self, text: &[u8], lines: &'a [Line]) -> Option<(Section<'a>, &'a [Line])>
         requires within { All (IsLineIn text.now) lines.now }
         requires headed { (sections_in self text.now lines.now).before ≡ [] }
