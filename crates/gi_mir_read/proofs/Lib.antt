@@ -3,3 +3,6 @@ pub mod LineTests
 pub mod RunCuts
 pub mod SectionCuts
 pub mod PartCuts
+pub mod KeptLemmas
+pub mod NumberLemmas
+pub mod TableLemmas

@@ -1,8 +1,15 @@
-//! The module that a text of Machine IR spells.
+//! Reading Machine IR: from a text to the module that it spells, or to its first line that spells nothing.
 #![tactic(auto)]
 
+mod items;
+mod kept;
 mod line_bytes;
 mod lines;
+mod list;
+mod number;
 mod parts;
 mod sections;
+mod stop;
+mod what;
+mod word;
 mod wrongs;

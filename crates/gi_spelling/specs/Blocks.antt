@@ -22,6 +22,8 @@ use Rattle.gi_spelling.specs.declared.token.Item.{Item}
 use Rattle.gi_spelling.specs.declared.written.Source.{Source}
 use Rattle.gi_spelling.specs.declared.written.Source.TheVariants as source
 use Rattle.gi_spelling.specs.declared.written.Fault.{Fault}
+use Rattle.gi_spelling.specs.declared.written.ListKind.{ListKind}
+use Rattle.gi_spelling.specs.declared.written.ListKind.TheVariants.{Successors, Liveins}
 use Rattle.gi_spelling.specs.declared.written.Fault.TheVariants as fault
 use Rattle.gi_spelling.specs.declared.written.Wrong.{Wrong}
 use Rattle.gi_spelling.specs.Lines.{Line, Section, Sections, sections_of}
@@ -115,10 +117,6 @@ head_faults text earlier line =
     else wrong line.number fault.Syntax ∷ []
 
 -- ══ Successors and liveins ══
-
-pub data ListKind : Type 0 where
-  Successors : ListKind
-  Liveins : ListKind
 
 abbrev pub list_by : (first second : What) → Option ListKind
 list_by (what.Word word.Successors) what.Colon = Some Successors

@@ -130,3 +130,10 @@ pub enum EntryKind {
     Register,
     Object,
 }
+
+/// What a line at the head of a block lists.
+#[derive(Clone, Copy, Debug, PartialEq, Eq)]
+pub enum ListKind {
+    Successors,
+    Liveins,
+}
