@@ -102,6 +102,14 @@ pub struct Wrong {
     pub fault: Fault,
 }
 
+/// A type that a use shows, and the line that it stands on.
+#[derive(Clone, Copy, Debug, PartialEq, Eq)]
+pub struct Shown {
+    pub line: u32,
+    pub reg: Reg,
+    pub ty: Llt,
+}
+
 /// What stands behind the key of a list: nothing, `[]` or something else.
 #[derive(Clone, Copy, Debug, PartialEq, Eq)]
 pub enum ListValue {
