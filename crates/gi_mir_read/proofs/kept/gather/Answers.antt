@@ -11,13 +11,13 @@ loop-place-preserved c =
     c.turn_after-turn.ensures ∙ ap (turn_after c.loop-place.next) c.from_place.ensures in
     elim c.if-turn.branch [
       | then-turn w ↦ record {
-          behind = omega arith;
-          kept = rw (w.items-is, w.count-is) (kept-moved c.loop-place.count c.loop-place.items c.loop-place.next c.turn_after-turn.result c.loop-place.place _ _
+        behind = omega arith;
+        kept = rw (w.items-is, w.count-is) (kept-moved c.loop-place.count c.loop-place.items c.loop-place.next c.turn_after-turn.result c.loop-place.place _ _
             within c.loop-place.invariant.behind turned w.if-turn.true c.loop-place.invariant.kept);
-        }
+      }
       | else-turn w ↦ record {
-          behind = omega arith;
-          kept = rw (w.items-is, w.count-is) (kept-passed _ c.loop-place.next c.turn_after-turn.result c.loop-place.place c.loop-place.items _
+        behind = omega arith;
+        kept = rw (w.items-is, w.count-is) (kept-passed _ c.loop-place.next c.turn_after-turn.result c.loop-place.place c.loop-place.items _
             within turned w.if-turn.false c.loop-place.invariant.kept);
-        }
+      }
     ]
