@@ -507,7 +507,14 @@ impl Opcode {
         ensures found { IfSome result (λ op. word_of op ≡ text.now) }
         ensures missing { IfNone result ((op : Opcode) → word_of op ≢ text.now) }
     {
-        first_with_word(text)
+        first_with_word(text.as_bytes())
+    }
+
+    /// The opcode whose word these bytes are.
+    pub fn from_bytes(word: &[u8]) -> Option<Opcode>
+        ensures { result ≡ opcode_of word.now }
+    {
+        first_with_word(word)
     }
 
     /// The rows of which the operands have one.
@@ -604,11 +611,14 @@ impl Opcode {
 
 /// The first opcode of the list that has this word.
 #[tactic(auto, unfolding(crate::specs::Row::opcode_of))]
-fn first_with_word(text: &str) -> Option<Opcode>
-    ensures exact { result ≡ opcode_of text.now }
-    ensures found { IfSome result (λ op. word_of op ≡ text.now) }
+fn first_with_word(word: &[u8]) -> Option<Opcode>
+    ensures exact { result ≡ opcode_of word.now }
+    ensures found { IfSome result (λ op. word_of op ≡ word.now) }
 {
-    OPCODES.iter().copied().find(|op| op.word() == text)
+    OPCODES
+        .iter()
+        .copied()
+        .find(|op| op.word().as_bytes() == word)
 }
 
 /// Two opcodes with one word are one opcode.

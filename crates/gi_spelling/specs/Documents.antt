@@ -20,13 +20,16 @@ use Rattle.gi_spelling.specs.declared.written.Fields.{Fields}
 use Rattle.gi_spelling.specs.declared.written.EntryKind.TheVariants as entry_kind
 use Rattle.gi_spelling.specs.declared.written.Fault.{Fault}
 use Rattle.gi_spelling.specs.declared.written.Fault.TheVariants as fault
+use Rattle.gi_spelling.specs.declared.written.ListValue.{ListValue}
+use Rattle.gi_spelling.specs.declared.written.ListValue.TheVariants.{Entries, NoEntries, NoList}
+use Rattle.gi_spelling.specs.declared.written.Wrong.{Wrong}
 use Rattle.gi_spelling.specs.Lines.{Line, Section, Sections, value_bytes, behind_colon, key_of, is_entry, is_entry_of, Parts, parts_of_text, document_entries, document_strays, document_end}
 use Rattle.gi_spelling.specs.Items.{items_of_line, value_items}
 use Rattle.gi_spelling.specs.Words.{greatest_register, greatest_size}
 use Rattle.gi_spelling.specs.Reading.{Read, syntax}
 use Rattle.gi_spelling.specs.Entries.{read_entry}
 use Rattle.gi_spelling.specs.Resolved.{Tables, block_place}
-use Rattle.gi_spelling.specs.Blocks.{Wrong, wrong, Body, blocks_in, block_numbers, bodies_from, wrongs_from, outer_wrong, shown_wrongs}
+use Rattle.gi_spelling.specs.Blocks.{wrong, Body, blocks_in, block_numbers, bodies_from, wrongs_from, outer_wrong, shown_wrongs}
 
 -- ══ Values ══
 
@@ -65,11 +68,6 @@ truth_fault (Some []) = Some fault.Syntax
 truth_fault (Some (item ∷ rest)) = truth_by item.what item rest
 
 -- nothing, `[]` or something else
-pub data ListValue : Type 0 where
-  Entries : ListValue
-  NoEntries : ListValue
-  NoList : ListValue
-
 abbrev pub square_by : (first second : What) → ListValue
 square_by what.OpenSquare what.CloseSquare = NoEntries
 square_by first second = NoList

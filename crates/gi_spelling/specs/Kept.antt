@@ -5,6 +5,9 @@
 -- the probability in brackets directly behind a block, as `%bb.1(0x40000000)`.
 -- (MIR Format Reference Manual, "Machine Instructions"; that these say nothing here is this project's own.)
 use Rattle.std.specs.Prelude.{ℕ, zero, suc, Bool, true, false, ◌&&◌, List, [], ◌∷◌, map, if◌then◌else◌}
+use Rattle.gi_spelling.specs.declared.kept.Next.{Next}
+use Rattle.gi_spelling.specs.declared.kept.Next.TheVariants.{Past, PastOrigin}
+use Rattle.gi_spelling.specs.declared.kept.Turn.{Turn}
 use Rattle.gi_spelling.specs.declared.token.Word.TheVariants as word
 use Rattle.gi_spelling.specs.declared.token.What.{What}
 use Rattle.gi_spelling.specs.declared.token.What.TheVariants as what
@@ -38,15 +41,7 @@ abbrev pub is_probable : (first second third fourth : What) → Bool
 is_probable (what.Block number) what.Open (what.Number size plain) what.Close = true
 is_probable first second third fourth = false
 
--- what becomes of a token: whether it is kept, and what follows: so many that are passed over, or all up to a comma or a bracket
-pub data Next : Type 0 where
-  Past : (count : ℕ) → Next
-  PastOrigin : Next
-
-pub record Turn : Type 0 where
-  pub keeps : Bool
-  pub next : Next
-
+-- what becomes of a token
 abbrev pub turn : (keeps : Bool) → Next → Turn
 turn keeps next = record { keeps = keeps; next = next }
 

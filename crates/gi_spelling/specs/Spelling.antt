@@ -38,7 +38,9 @@ use Rattle.gi_spelling.specs.Written.{WrittenData}
 use Rattle.gi_spelling.specs.Lines.{Line, Section, parts_of_text, document_entries, document_strays, is_entry, is_entry_of}
 use Rattle.gi_spelling.specs.Items.{what_in, kept_items, value_items}
 use Rattle.gi_spelling.specs.Resolved.{Tables, block_place, resolved}
-use Rattle.gi_spelling.specs.Blocks.{ListKind, Successors, Liveins, list_kind, listed_in, is_head, blocks_in, block_numbers, shown_types, has_type}
+use Rattle.gi_spelling.specs.declared.written.ListKind.{ListKind}
+use Rattle.gi_spelling.specs.declared.written.ListKind.TheVariants.{Successors, Liveins}
+use Rattle.gi_spelling.specs.Blocks.{list_kind, listed_in, is_head, blocks_in, block_numbers, shown_types, has_type}
 use Rattle.gi_spelling.specs.Documents.{is_name, name_value, registers_in, groups_of, objects_from, entries_of, ir_wrongs}
 use Rattle.gi_spelling.specs.Named.{IsNamedInstr}
 

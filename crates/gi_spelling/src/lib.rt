@@ -1,6 +1,7 @@
 //! What Machine IR in text is: which module a text spells, and the text that a module is printed as.
 #![tactic(auto)]
 
+pub mod kept;
 pub mod laws;
 pub mod token;
 pub mod written;

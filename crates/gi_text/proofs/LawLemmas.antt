@@ -6,7 +6,7 @@ use Rattle.std.proofs.Math.Seq.{take-append_seam}
 use Rattle.gi_llt.specs.Tokens.{LexemeKind, Lexeme, lexeme, start_of, Found, FoundBlank, FoundComment, FoundToken, FoundNothing, found, tokens_from, tokens_past, tokens_of}
 use Rattle.gi_text.specs.declared.token.Token.{Token}
 use Rattle.gi_text.specs.Numbers.{is_too_great}
-use Rattle.gi_text.specs.Cutting.{Fault, NoToken, TooGreat, Cut, behind, token_at, cut_from, cut_past, slice, cut_of, lexeme_in, IsSlice}
+use Rattle.gi_text.specs.Cutting.{Fault, NoToken, TooGreat, Cut, behind, token_at, cut_from, cut_past, slice, cut_of, lexeme_in, IsSlice, IsSized}
 use Rattle.gi_text.proofs.StepLemmas.{IsFront, front_found}
 use Rattle.gi_text.proofs.CutLemmas.{lexeme_kind-of}
 
@@ -136,3 +136,49 @@ pub slices_of : (text : List ℕ) (start end : ℕ) (tokens : List Token) → st
 slices_of text start end tokens ordered within is =
     let lengths : length (slice start end text) ≡ min (end - start) (length text - start) = length-take (end - start) (drop start text) ∙ ap (min (end - start)) (length-drop start text) in
     slices_past text start (slice start end text) 0 tokens (omega (arith, lengths, ordered, within)) is
+
+-- no token is a number that is too great
+sized_front : (text : List ℕ) (token : Token) (tokens : List Token) → IsSized text token → All (IsSized text) tokens → All (IsSized text) (token ∷ tokens)
+sized_front text token tokens first later zero d within = first
+sized_front text token tokens first later (suc k) d within = later k d (omega (arith, within))
+
+none_sized : (text : List ℕ) → All (IsSized text) []
+none_sized text k d within = absurd (let no : k < 0 = within in omega arith)
+
+sized_token : (text : List ℕ) (t : Token) (tokens : List Token) (cut : Cut) → IsSized text t → ((later : List Token) → cut ≡ Ok later → All (IsSized text) later)
+    → behind (t ∷ []) cut ≡ Ok tokens → All (IsSized text) tokens
+sized_token text t tokens (Err fault) first after is = cc
+sized_token text t tokens (Ok later) first after is = let all : t ∷ later ≡ tokens = cc in subst (All (IsSized text)) all (sized_front text t later first (after later refl))
+
+sized_found : (f : Found) (text : List ℕ) (first place : ℕ) (rest back : List ℕ) (cut_after : ℕ → Cut) (tokens : List Token) → IsFront f rest
+    → drop place text ≡ first ∷ (rest ++ back) → ((n : ℕ) (later : List Token) → cut_after n ≡ Ok later → All (IsSized text) later)
+    → cut_from f first place cut_after ≡ Ok tokens → All (IsSized text) tokens
+sized_found FoundBlank text first place rest back cut_after tokens front at after is = after 0 tokens is
+sized_found FoundComment text first place rest back cut_after tokens front at after is = let none : [] ≡ tokens = cc in subst (All (IsSized text)) none (none_sized text)
+sized_found (FoundToken kind more) text first place rest back cut_after tokens front at after is = chosen (is_too_great kind (first ∷ more)) refl is
+  where
+    whole : drop place text ≡ first ∷ (more ++ (front.0 ++ back))
+    whole = at ∙ ap (λ ys. first ∷ ys) (ap (λ ys. ys ++ back) front.1 ∙ append_assoc more front.0 back)
+
+    same : lexeme kind (first ∷ more) ≡ lexeme_in text (token_at kind place (suc (length more)))
+    same = lexeme_at text kind first place more (front.0 ++ back) whole
+
+    chosen : (great : Bool) → is_too_great kind (first ∷ more) ≡ great
+        → (if great then Err (TooGreat place) else behind (token_at kind place (suc (length more)) ∷ []) (cut_after (length more))) ≡ Ok tokens → All (IsSized text) tokens
+    chosen true great is = cc
+    chosen false great is =
+        sized_token text (token_at kind place (suc (length more))) tokens (cut_after (length more))
+        (record { sized = sym (ap (λ l. is_too_great l.kind l.bytes) same) ∙ great }) (after (length more)) is
+sized_found FoundNothing text first place rest back cut_after tokens front at after is = cc
+
+sized_past : (text : List ℕ) (place : ℕ) (line back : List ℕ) (skipped : ℕ) (tokens : List Token) → drop place text ≡ line ++ back → cut_past place line skipped ≡ Ok tokens
+    → All (IsSized text) tokens
+sized_past text place [] back skipped tokens at is = let none : [] ≡ tokens = cc in subst (All (IsSized text)) none (none_sized text)
+sized_past text place (byte ∷ rest) back zero tokens at is =
+    sized_found (found (start_of byte) byte rest) text byte place rest back (cut_past (suc place) rest) tokens (front_found (start_of byte) byte rest) at
+    (λ n later. sized_past text (suc place) rest back n later (drop_next place text (rest ++ back) byte at)) is
+sized_past text place (byte ∷ rest) back (suc skipped) tokens at is = sized_past text (suc place) rest back skipped tokens (drop_next place text (rest ++ back) byte at) is
+
+pub sized_of : (text : List ℕ) (start end : ℕ) (tokens : List Token) → cut_of text start end ≡ Ok tokens → All (IsSized text) tokens
+sized_of text start end tokens is =
+    sized_past text start (slice start end text) (drop (end - start) (drop start text)) 0 tokens (sym (take-append-drop (end - start) (drop start text))) is

@@ -1,6 +1,6 @@
 -- The tokens of a line as slices of the text that it stands in, or what is wrong at the leftmost place
 -- where something is.
-use Rattle.std.specs.Prelude.{◌≡◌, ℕ, zero, suc, ◌+◌, ◌-◌, ◌<◌, ◌≤◌, List, [], ◌∷◌, ◌++◌, length, take, drop, Result, Ok, Err, if◌then◌else◌, ⊤}
+use Rattle.std.specs.Prelude.{◌≡◌, ℕ, zero, suc, ◌+◌, ◌-◌, ◌<◌, ◌≤◌, false, List, [], ◌∷◌, ◌++◌, length, take, drop, Result, Ok, Err, if◌then◌else◌, ⊤}
 use Rattle.gi_llt.specs.Tokens.{LexemeKind, Lexeme, lexeme, start_of, Found, FoundBlank, FoundComment, FoundToken, FoundNothing, found}
 use Rattle.gi_text.specs.declared.token.Token.{Token}
 use Rattle.gi_text.specs.declared.token.Place.{Place}
@@ -75,3 +75,7 @@ lexeme_in bytes token = lexeme (lexeme_kind token.kind) (slice token.start token
 pub record IsSlice (bytes : List ℕ) (token : Token) : Type 0 where
   pub ordered : token.start < token.end
   pub within : token.end ≤ length bytes
+
+-- the token is no number whose size 128 bits don't hold
+pub record IsSized (bytes : List ℕ) (token : Token) : Type 0 where
+  pub sized : is_too_great (lexeme_kind token.kind) (slice token.start token.end bytes) ≡ false

@@ -1,7 +1,7 @@
 //! The tokens of a line.
 
 ghost use Rattle.std.specs.Prelude.{◌≡◌, ◌+◌, ◌-◌, ◌<◌, ◌≤◌, ◌^◌, [], ◌∷◌, ◌++◌, Ok, length, take, drop, All, IfOk, IfErr, OnOk};
-ghost use Rattle.gi_text.specs.Cutting.{IsFaultOf, IsSlice, cut_of, slice, told_place};
+ghost use Rattle.gi_text.specs.Cutting.{IsFaultOf, IsSized, IsSlice, cut_of, slice, told_place};
 ghost use Rattle.gi_text.specs.declared.token.LineError.TheVariants.{Memory};
 
 use crate::numbers::is_too_great;
@@ -70,6 +70,7 @@ pub fn tokens(
     requires short { end < 2 ^ 32 - 1 }
     ensures ok { IfOk result (λ tokens. cut_of bytes.now start end ≡ Ok tokens.items) }
     ensures slices { IfOk result (λ tokens. All (IsSlice bytes.now) tokens.items) }
+    ensures sized { IfOk result (λ tokens. All (IsSized bytes.now) tokens.items) }
     ensures err { IfErr result (λ error. IsFaultOf (cut_of bytes.now start end) line start error) }
 {
     let mut tokens = Vec::new(alloc);

@@ -9,9 +9,10 @@ mod numbers;
 mod step;
 mod token;
 
+pub use bytes::{digit_length, is_digit, is_word_byte, word_length};
 pub use cursor::Cursor;
 pub use cut::tokens;
-pub use numbers::number;
+pub use numbers::{digit_value, number};
 pub use token::{LineError, Number, Place, SizeError, TextError, Token, TokenKind};
 
 #[cfg(test)]

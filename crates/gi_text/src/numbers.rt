@@ -8,7 +8,7 @@ ghost use Rattle.gi_text.specs.Numbers.{bounded, digit_value, is_negative, is_to
 use crate::token::{Number, Token, TokenKind};
 
 /// The value of a digit.
-fn digit_value(byte: u8) -> u8
+pub fn digit_value(byte: u8) -> u8
     ensures value { result ≡ digit_value byte }
 {
     match byte {

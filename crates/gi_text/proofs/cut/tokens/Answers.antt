@@ -4,7 +4,7 @@ use Rattle.gi_text.specs.Kinds.{lexeme_kind}
 use Rattle.gi_text.specs.Numbers.{is_too_great}
 use Rattle.gi_text.specs.Cutting.{IsFaultOf, behind, cut_line, cut_of}
 use Rattle.gi_text.proofs.CutLemmas.{after_token, at_end, at_great}
-use Rattle.gi_text.proofs.LawLemmas.{slices_of}
+use Rattle.gi_text.proofs.LawLemmas.{sized_of, slices_of}
 use Rattle.gi_text.proofs.cut.tokens.Goals as goal
 
 pub returns-then-is_too_great-clause-err : goal.returns-then-is_too_great-clause-err
@@ -30,3 +30,7 @@ pub returns-in-End-clause-slices : goal.returns-in-End-clause-slices
 returns-in-End-clause-slices c =
     slices_of c.args.bytes.now c.args.start c.args.end c.loop-rest.tokens.items c.requires.ordered c.requires.within
     (at_end c.loop-rest.tokens.items c.loop-rest.place c.loop-rest.rest.now _ c.in-End.ensures.step c.loop-rest.invariant.cut)
+
+pub returns-in-End-clause-sized : goal.returns-in-End-clause-sized
+returns-in-End-clause-sized c =
+    sized_of c.args.bytes.now c.args.start c.args.end c.loop-rest.tokens.items (at_end c.loop-rest.tokens.items c.loop-rest.place c.loop-rest.rest.now _ c.in-End.ensures.step c.loop-rest.invariant.cut)

@@ -1,0 +1,5 @@
+pub mod Placed
+pub mod Sectioned
+pub mod Parted
+pub mod Stops
+pub mod Turns

@@ -1,0 +1,19 @@
+//! Reading Machine IR: from a text to the module that it spells, or to its first line that spells nothing.
+#![tactic(auto)]
+
+mod definition;
+mod faults;
+mod items;
+mod kept;
+mod line_bytes;
+mod lines;
+mod list;
+mod memory;
+mod number;
+mod parts;
+mod sections;
+mod source;
+mod stop;
+mod what;
+mod word;
+mod wrongs;
