@@ -1,3 +1,4 @@
 pub mod KeptLemmas
 pub mod NumberLemmas
+pub mod SplitLemmas
 pub mod TableLemmas

@@ -3,12 +3,14 @@
 
 mod definition;
 mod faults;
+mod instr;
 mod items;
 mod kept;
 mod list;
 mod memory;
 mod number;
 mod source;
+mod split;
 mod stop;
 mod what;
 mod word;
