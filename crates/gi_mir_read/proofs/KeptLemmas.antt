@@ -19,7 +19,7 @@ kept-first PastOrigin x rest = chosen (ends_origin x.what)
   where
     chosen : (ends : Bool)
         → (if ends then kept_turn (turn_at x.what (map what_in rest)) x (λ later. kept_past what_in later rest) else kept_past what_in PastOrigin rest)
-          ≡ kept_turn (if ends then first_turn (x ∷ rest) else turn false PastOrigin) x (λ later. kept_past what_in later rest)
+        ≡ kept_turn (if ends then first_turn (x ∷ rest) else turn false PastOrigin) x (λ later. kept_past what_in later rest)
     chosen true = refl
     chosen false = refl
 

@@ -10,6 +10,7 @@ mod number;
 mod parts;
 mod sections;
 mod stop;
+mod values;
 mod what;
 mod word;
 mod wrongs;
