@@ -6,3 +6,4 @@ pub mod PartCuts
 pub mod KeptLemmas
 pub mod NumberLemmas
 pub mod TableLemmas
+pub mod KeyLemmas

@@ -3,3 +3,4 @@ pub mod Sectioned
 pub mod Parted
 pub mod Stops
 pub mod Turns
+pub mod Keyed

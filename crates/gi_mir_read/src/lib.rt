@@ -3,6 +3,7 @@
 
 mod items;
 mod kept;
+mod keys;
 mod line_bytes;
 mod lines;
 mod list;
