@@ -11,6 +11,7 @@ pub mod LineLemmas
 pub mod LinesLemmas
 pub mod MachineSums
 pub mod NormalForms
+pub mod OptionLemmas
 pub mod ReadLemmas
 pub mod RefusedLemmas
 pub mod SelectFits
