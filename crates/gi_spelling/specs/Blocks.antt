@@ -12,7 +12,7 @@ use Rattle.gi_mir.specs.declared.operand.Kind.{Kind}
 use Rattle.gi_mir.specs.declared.operand.Operand.{Operand}
 use Rattle.gi_mir.specs.declared.operand.Operand.TheVariants as operand
 use Rattle.gi_mir.specs.declared.operand.Reg.{Reg}
-use Rattle.gi_mir.specs.Accepted.{same_type}
+use Rattle.gi_mir.specs.Types.{same_type}
 use Rattle.gi_mir.specs.Registers.{type_of_kind}
 use Rattle.gi_mir.specs.Data.{InstrData}
 use Rattle.gi_spelling.specs.declared.token.Word.TheVariants as word
