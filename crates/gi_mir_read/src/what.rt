@@ -4,7 +4,7 @@ ghost use Rattle.std.specs.Prelude.{◌≡◌, [], ◌∷◌, None, bytes_eq, co
 ghost use Rattle.std.specs.Option.{option_map_or};
 ghost use Rattle.gi_text.specs.Cutting.{IsSlice, IsSized, lexeme_in, slice};
 ghost use Rattle.gi_text.specs.declared.token.TokenKind.TheVariants.{Number};
-ghost use Rattle.gi_spelling.specs.Printed.{routine_names};
+ghost use Rattle.gi_mir.specs.Routines.{routine_names};
 ghost use Rattle.gi_spelling.specs.Words.{behind, greatest_block, greatest_register, is_numbered, is_plain_signed, mark_token, number_written, numeral, numeral_before_name, physical_token, register_token, routine_token, what_of};
 ghost use Rattle.gi_spelling.specs.declared.token.What.TheVariants as what;
 
