@@ -3,7 +3,9 @@ pub mod FormedLemmas
 pub mod IdsLemmas
 pub mod KindLemmas
 pub mod Live
+pub mod Located
 pub mod NamesLemmas
 pub mod NumberingLaws
 pub mod Places
+pub mod Tabled
 pub mod Words

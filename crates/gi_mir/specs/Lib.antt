@@ -6,6 +6,7 @@ pub mod Formed
 pub mod Ids
 pub mod Names
 pub mod Numbering
+pub mod Places
 pub mod Registers
 pub mod Renaming
 pub mod Row

@@ -1,9 +1,8 @@
 //! Blocks of numbered instructions.
 
-ghost use Rattle.std.specs.Prelude.{◌≡◌, ◌==◌, ◌≤◌, ◌<◌, ◌-◌, ◌^◌, length, position, find, remove, slice_get, option_map, OnOk, OnErr, IfSome, Some, true};
-ghost use Rattle.std.specs.List.{list_any};
+ghost use Rattle.std.specs.Prelude.{◌≡◌, ◌+◌, ◌==◌, ◌≤◌, ◌<◌, length, find, insert, remove, option_map, OnOk, OnErr, IfSome, Some, true};
 ghost use Rattle.gi_mir.specs.Formed.{is_formed};
-ghost use Rattle.gi_mir.specs.Edit.{block_with, block_with_instr, block_changed, with_operand, with_kind, HasDefAt, defines, entry_at, has_instr, id_at, place_of};
+ghost use Rattle.gi_mir.specs.Edit.{block_with, block_changed_at, with_operand, with_kind, HasDefAt, defines, entry_at, has_at, id_at};
 
 use crate::instr::Instr;
 use crate::operand::{Kind, Operand, Reg};
@@ -39,7 +38,7 @@ pub struct Numbered {
 }
 
 impl Model for Numbered {
-    ghost use Rattle.std.specs.Prelude.{◌≡◌, ℕ, true};
+    ghost use Rattle.std.specs.Prelude.{◌≡◌, ◌+◌, ℕ, true};
     ghost use Rattle.gi_mir.specs.Data.{InstrData};
     ghost use Rattle.gi_mir.specs.Formed.{is_formed};
 
@@ -76,21 +75,14 @@ impl Body {
         }
     }
 
-    /// Whether the instruction with this id is here.
-    pub(crate) fn has(&self, id: InstrId) -> bool
-        ensures { result ≡ has_instr id.0 self.now }
+    /// Whether the instruction at this place has this id.
+    pub(crate) fn has_at(&self, id: InstrId, at: usize) -> bool
+        ensures { result ≡ has_at self.now id.0 at }
     {
-        self.instrs.iter().any(|n| n.has_id(id))
-    }
-
-    /// The place of the first instruction with this id, and the end where there is none.
-    pub(crate) fn place_of(&self, id: InstrId) -> usize
-        ensures value { result ≡ place_of id.0 self.now.instrs }
-        ensures within { result ≤ length self.now.instrs }
-        ensures found { has_instr id.0 self.now ≡ true → result < length self.now.instrs }
-        ensures small { result < 2 ^ 64 - 1 }
-    {
-        place_of(self.instrs.as_slice(), id)
+        match self.instrs.as_slice().get(at) {
+            Some(n) => n.has_id(id),
+            None => false,
+        }
     }
 
     /// The id of the instruction at this place.
@@ -103,35 +95,41 @@ impl Body {
         }
     }
 
-    /// The instruction with this id.
-    pub(crate) fn instr(&self, id: InstrId) -> &Instr
-        requires { has_instr id.0 self.now ≡ true }
-        ensures value { option_map (λ p. p.1) (entry_at self.now (place_of id.0 self.now.instrs)) ≡ Some result.now }
+    /// The id of the instruction after this place.
+    pub(crate) fn id_after(&self, at: usize) -> Option<InstrId>
+        requires { at < length self.now.instrs }
+        ensures { option_map (λ id. id.0) result ≡ id_at self.now (at + 1) }
+    {
+        let _count = self.instrs.len();
+        self.id_at(at + 1)
+    }
+
+    /// The instruction at this place.
+    pub(crate) fn instr(&self, at: usize) -> &Instr
+        requires { at < length self.now.instrs }
+        ensures value { option_map (λ p. p.1) (entry_at self.now at) ≡ Some result.now }
         ensures formed { is_formed result.now ≡ true }
     {
-        let place = self.place_of(id);
-        let found = &self.instrs[place];
+        let found = &self.instrs[at];
         &found.instr
     }
 
-    /// Puts another operand into an instruction.
-    pub(crate) fn set_operand(&mut self, id: InstrId, place: usize, new: Operand)
-        requires has { has_instr id.0 self.old ≡ true }
-        requires can { IfSome (option_map (λ p. p.1) (entry_at self.old (place_of id.0 self.old.instrs))) (λ i. (place < length i.operands) × (is_formed (with_operand i place new) ≡ true)) }
-        ensures { self.new ≡ block_changed (λ i. with_operand i place new) id.0 self.old }
+    /// Puts another operand into the instruction at this place.
+    pub(crate) fn set_operand(&mut self, at: usize, place: usize, new: Operand)
+        requires within { at < length self.old.instrs }
+        requires can { IfSome (option_map (λ p. p.1) (entry_at self.old at)) (λ i. (place < length i.operands) × (is_formed (with_operand i place new) ≡ true)) }
+        ensures { self.new ≡ block_changed_at (λ i. with_operand i place new) at self.old }
     {
-        let at = self.place_of(id);
         let found = &mut self.instrs[at];
         found.set_operand(place, new);
     }
 
-    /// Gives a definition another kind.
-    pub(crate) fn set_kind(&mut self, id: InstrId, place: usize, kind: Kind)
-        requires has { has_instr id.0 self.old ≡ true }
-        requires can { HasDefAt (option_map (λ p. p.1) (entry_at self.old (place_of id.0 self.old.instrs))) place }
-        ensures { self.new ≡ block_changed (λ i. with_kind i place kind) id.0 self.old }
+    /// Gives a definition of the instruction at this place another kind.
+    pub(crate) fn set_kind(&mut self, at: usize, place: usize, kind: Kind)
+        requires within { at < length self.old.instrs }
+        requires can { HasDefAt (option_map (λ p. p.1) (entry_at self.old at)) place }
+        ensures { self.new ≡ block_changed_at (λ i. with_kind i place kind) at self.old }
     {
-        let at = self.place_of(id);
         let found = &mut self.instrs[at];
         found.set_kind(place, kind);
     }
@@ -146,30 +144,24 @@ impl Body {
         }
     }
 
-    /// Takes an instruction out.
-    pub(crate) fn take(&mut self, id: InstrId) -> Instr
-        requires { has_instr id.0 self.old ≡ true }
-        ensures taken { option_map (λ p. p.1) (entry_at self.old (place_of id.0 self.old.instrs)) ≡ Some result }
-        ensures rest { self.new ≡ record self.old { instrs = remove self.old.instrs (place_of id.0 self.old.instrs) } }
+    /// Takes the instruction at this place out.
+    pub(crate) fn take(&mut self, at: usize) -> Instr
+        requires { at < length self.old.instrs }
+        ensures taken { option_map (λ p. p.1) (entry_at self.old at) ≡ Some result }
+        ensures rest { self.new ≡ record self.old { instrs = remove self.old.instrs at } }
         ensures formed { is_formed result ≡ true }
     {
-        let place = self.place_of(id);
-        let Numbered { id: _, instr } = self.instrs.remove(place);
+        let Numbered { id: _, instr } = self.instrs.remove(at);
         instr
     }
 
-    /// Puts an instruction before the one that is named, or last.
-    pub(crate) fn insert(&mut self, before: Option<InstrId>, new: Numbered) -> Result<(), Memory>
-        ensures ok { OnOk result (self.new ≡ block_with_instr self.old before new) }
+    /// Puts an instruction at this place.
+    pub(crate) fn insert(&mut self, at: usize, new: Numbered) -> Result<(), Memory>
+        requires { at ≤ length self.old.instrs }
+        ensures ok { OnOk result (self.new ≡ record self.old { instrs = insert self.old.instrs at new }) }
         ensures err { OnErr result (self.new ≡ self.old) }
     {
-        match before {
-            None => self.instrs.push(new).map_err(|_| Memory),
-            Some(id) => {
-                let place = place_of(self.instrs.as_slice(), id);
-                self.instrs.insert(place, new).map_err(|_| Memory)
-            }
-        }
+        self.instrs.insert(at, new).map_err(|_| Memory)
     }
 }
 
@@ -208,22 +200,4 @@ impl Numbered {
     {
         self.id.0 == id.0
     }
-}
-
-/// The place of the first instruction with this id.
-fn position_of(instrs: &[Numbered], id: InstrId) -> Option<usize>
-    ensures value { result ≡ position (λ p. p.0 == id.0) instrs.now }
-    ensures within { IfSome result (λ place. place < length instrs.now) }
-{
-    instrs.iter().position(|n| n.has_id(id))
-}
-
-/// The place of the first instruction with this id, and the end where there is none.
-fn place_of(instrs: &[Numbered], id: InstrId) -> usize
-    ensures value { result ≡ place_of id.0 instrs.now }
-    ensures within { result ≤ length instrs.now }
-    ensures found { list_any (λ p. p.0 == id.0) instrs.now ≡ true → result < length instrs.now }
-    ensures small { result < 2 ^ 64 - 1 }
-{
-    position_of(instrs, id).unwrap_or(instrs.len())
 }

@@ -6,10 +6,12 @@ pub mod block;
 pub mod formed;
 pub mod function;
 pub mod instr;
+mod layout;
 pub mod module;
 pub mod names;
 pub mod opcode;
 pub mod operand;
+mod place;
 pub mod row;
 #[cfg(test)]
 mod tests;

@@ -1,0 +1,185 @@
+//! The blocks of a function, and what is written down so that nothing in them has to be looked for.
+
+ghost use Rattle.std.specs.Prelude.{◌≡◌, ◌<◌, ◌≤◌, ◌+◌, ◌-◌, true, ◌++◌, ◌∷◌, [], length, insert, remove, slice_set, OnOk, OnErr, IfOk, IfSome, Some, option_map, slice_get, slice_index_or};
+ghost use Rattle.gi_mir.specs.Edit.{block_with, empty_block, has_at, entry_at, with_operand, with_kind, block_changed_at, HasDefAt};
+ghost use Rattle.gi_mir.specs.Formed.{is_formed};
+ghost use Rattle.gi_mir.specs.Places.{IsTabled, HasGivenIds, HasDistinctIds, IsRenumbered, body_at, with_inserted, with_removed, with_changed_at};
+
+use crate::block::{Block, Body, InstrId, Numbered};
+use crate::instr::Instr;
+use crate::operand::{Kind, Operand};
+use crate::place::Place;
+use gi_llt::Memory;
+use std::alloc::Global;
+
+/// Blocks, and the place of each of their instructions by its id.
+#[derive(Drop)]
+pub(crate) struct Layout {
+    pub(crate) blocks: Vec<Body>,
+    pub(crate) places: Vec<Place>,
+}
+
+/// The place that is written down for an id.
+pub(crate) fn place_among(places: &[Place], id: InstrId) -> Option<Place>
+    ensures { result ≡ slice_get places.now id.0 }
+{
+    places.get(id.0).copied()
+}
+
+/// Whether the instruction at this place has this id.
+pub(crate) fn stands_at(blocks: &[Body], place: Place, id: InstrId) -> bool
+    ensures { result ≡ has_at (slice_index_or blocks.now place.block empty_block) id.0 place.at }
+{
+    match blocks.get(place.block as usize) {
+        Some(body) => body.has_at(id, place.at),
+        None => false,
+    }
+}
+
+/// Writes down where the instructions of a block stand, from this place on.
+fn renumber(places: &mut [Place], from: Place, instrs: &[Numbered])
+    requires within { from.at ≤ length instrs.now }
+    requires given { HasGivenIds instrs.now (length places.old) }
+    requires once { HasDistinctIds instrs.now }
+    ensures { IsRenumbered places.old places.new from.block from.at (length instrs.now) instrs.now }
+{
+    for at in from.at..instrs.len() {
+        let n = &instrs[at];
+        let block = from.block;
+        places[n.id.0] = Place { block, at };
+    }
+}
+
+impl Layout {
+    /// No block.
+    pub(crate) fn new(alloc: Global) -> Layout
+        ensures blocks { result.blocks.items ≡ [] }
+        ensures places { result.places.items ≡ [] }
+    {
+        Layout {
+            blocks: Vec::new(alloc),
+            places: Vec::new(alloc),
+        }
+    }
+
+    /// Writes down where the instructions of a block stand, from this place on.
+    fn renumber(&mut self, from: Place)
+        requires within { from.block < length self.old.blocks.items }
+        requires bound { from.at ≤ length (body_at self.old.blocks.items from.block).instrs }
+        requires given { HasGivenIds (body_at self.old.blocks.items from.block).instrs (length self.old.places.items) }
+        requires once { HasDistinctIds (body_at self.old.blocks.items from.block).instrs }
+        ensures blocks { self.new.blocks ≡ self.old.blocks }
+        ensures places { IsRenumbered self.old.places.items self.new.places.items from.block from.at (length (body_at self.old.blocks.items from.block).instrs) (body_at self.old.blocks.items from.block).instrs }
+    {
+        let body = &self.blocks[from.block as usize];
+        renumber(self.places.as_mut_slice(), from, body.instrs.as_slice());
+    }
+
+    /// Adds a block with no instruction.
+    pub(crate) fn add_block(&mut self, block: Block) -> Result<(), Memory>
+        requires { IsTabled self.old.blocks.items self.old.places.items }
+        ensures ok { OnOk result (self.new.blocks.items ≡ self.old.blocks.items ++ block_with block ∷ []) }
+        ensures err { OnErr result (self.new.blocks.items ≡ self.old.blocks.items) }
+        ensures places { self.new.places ≡ self.old.places }
+        ensures tabled { IsTabled self.new.blocks.items self.new.places.items }
+    {
+        let alloc = *self.blocks.allocator();
+        let body = Body::new(alloc, block);
+        self.blocks.push(body).map_err(|_| Memory)
+    }
+
+    /// Writes down the place of a new instruction.
+    fn enter(&mut self, spot: Place) -> Result<(), Memory>
+        ensures ok { OnOk result (self.new.places.items ≡ self.old.places.items ++ spot ∷ []) }
+        ensures err { OnErr result (self.new.places.items ≡ self.old.places.items) }
+        ensures blocks { self.new.blocks ≡ self.old.blocks }
+    {
+        self.places.push(spot).map_err(|_| Memory)
+    }
+
+    /// Takes the last instruction that was put in out again.
+    fn undo(&mut self, spot: Place)
+        requires within { spot.block < length self.old.blocks.items }
+        requires bound { spot.at < length (body_at self.old.blocks.items spot.block).instrs }
+        ensures blocks { self.new.blocks.items ≡ with_removed self.old.blocks.items spot }
+        ensures places { self.new.places ≡ self.old.places }
+    {
+        let body = &mut self.blocks[spot.block as usize];
+        let _ = body.take(spot.at);
+    }
+
+    /// Puts an instruction at a place, and answers its id. Those behind it in the block are numbered anew.
+    pub(crate) fn insert(&mut self, spot: Place, instr: Instr) -> Result<InstrId, Memory>
+        requires tabled { IsTabled self.old.blocks.items self.old.places.items }
+        requires within { spot.block < length self.old.blocks.items }
+        requires bound { spot.at ≤ length (body_at self.old.blocks.items spot.block).instrs }
+        requires formed { is_formed instr ≡ true }
+        ensures ok { OnOk result (self.new.blocks.items ≡ with_inserted self.old.blocks.items spot (length self.old.places.items, instr)) }
+        ensures id { IfOk result (λ id. id.0 ≡ length self.old.places.items) }
+        ensures given { OnOk result (length self.new.places.items ≡ length self.old.places.items + 1) }
+        ensures err { OnErr result (self.new.blocks.items ≡ self.old.blocks.items) }
+        ensures same_given { OnErr result (length self.new.places.items ≡ length self.old.places.items) }
+        ensures tabled { IsTabled self.new.blocks.items self.new.places.items }
+    {
+        let id = InstrId(self.places.len());
+        let body = &mut self.blocks[spot.block as usize];
+        body.insert(spot.at, Numbered { id, instr })?;
+        match self.enter(spot) {
+            Ok(()) => {
+                self.renumber(spot);
+                Ok(id)
+            }
+            Err(_) => {
+                self.undo(spot);
+                Err(Memory)
+            }
+        }
+    }
+
+    /// Takes the instruction at a place out. Those behind it in the block are numbered anew.
+    pub(crate) fn remove(&mut self, spot: Place) -> Instr
+        requires tabled { IsTabled self.old.blocks.items self.old.places.items }
+        requires within { spot.block < length self.old.blocks.items }
+        requires bound { spot.at < length (body_at self.old.blocks.items spot.block).instrs }
+        ensures taken { option_map (λ p. p.1) (entry_at (body_at self.old.blocks.items spot.block) spot.at) ≡ Some result }
+        ensures formed { is_formed result ≡ true }
+        ensures rest { self.new.blocks.items ≡ with_removed self.old.blocks.items spot }
+        ensures given { length self.new.places.items ≡ length self.old.places.items }
+        ensures tabled { IsTabled self.new.blocks.items self.new.places.items }
+    {
+        let body = &mut self.blocks[spot.block as usize];
+        let instr = body.take(spot.at);
+        self.renumber(spot);
+        instr
+    }
+
+    /// Puts another operand into the instruction at a place.
+    pub(crate) fn set_operand(&mut self, spot: Place, k: usize, new: Operand) -> Result<(), Memory>
+        requires tabled { IsTabled self.old.blocks.items self.old.places.items }
+        requires within { spot.block < length self.old.blocks.items }
+        requires bound { spot.at < length (body_at self.old.blocks.items spot.block).instrs }
+        requires can { IfSome (option_map (λ p. p.1) (entry_at (body_at self.old.blocks.items spot.block) spot.at)) (λ i. (k < length i.operands) × (is_formed (with_operand i k new) ≡ true)) }
+        ensures ok { OnOk result (self.new.blocks.items ≡ with_changed_at (λ i. with_operand i k new) self.old.blocks.items spot) }
+        ensures err { OnErr result (self.new.blocks.items ≡ self.old.blocks.items) }
+        ensures given { length self.new.places.items ≡ length self.old.places.items }
+        ensures tabled { IsTabled self.new.blocks.items self.new.places.items }
+    {
+        let body = &mut self.blocks[spot.block as usize];
+        body.set_operand(spot.at, k, new);
+        Ok(())
+    }
+
+    /// Gives a definition of the instruction at a place another kind.
+    pub(crate) fn set_kind(&mut self, spot: Place, k: usize, kind: Kind)
+        requires tabled { IsTabled self.old.blocks.items self.old.places.items }
+        requires within { spot.block < length self.old.blocks.items }
+        requires bound { spot.at < length (body_at self.old.blocks.items spot.block).instrs }
+        requires can { HasDefAt (option_map (λ p. p.1) (entry_at (body_at self.old.blocks.items spot.block) spot.at)) k }
+        ensures blocks { self.new.blocks.items ≡ with_changed_at (λ i. with_kind i k kind) self.old.blocks.items spot }
+        ensures given { length self.new.places.items ≡ length self.old.places.items }
+        ensures tabled { IsTabled self.new.blocks.items self.new.places.items }
+    {
+        let body = &mut self.blocks[spot.block as usize];
+        body.set_kind(spot.at, k, kind);
+    }
+}
