@@ -2,6 +2,9 @@ pub mod Definitions
 pub mod FormedLemmas
 pub mod IdsLemmas
 pub mod KindLemmas
+pub mod Lists
+pub mod Noted
+pub mod Mentioned
 pub mod Live
 pub mod Located
 pub mod NamesLemmas

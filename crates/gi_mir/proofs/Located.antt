@@ -129,7 +129,7 @@ id_in-once id blocks n b c j k own hb hc =
     (uses_in-nth_id id (get_or blocks b empty_block).instrs j hb)
     (uses_in-nth_id id (get_or blocks c empty_block).instrs k hc) (own.once id)
 
-uses_of-id_in : (id : ℕ) (blocks : List BlockData) (b k : ℕ) → id_in blocks b k ≡ Some id → 1 ≤ uses_of id blocks
+pub uses_of-id_in : (id : ℕ) (blocks : List BlockData) (b k : ℕ) → id_in blocks b k ≡ Some id → 1 ≤ uses_of id blocks
 uses_of-id_in id blocks b k h =
     omega (arith, uses_in-nth_id id (get_or blocks b empty_block).instrs k h, get_or-le-sum_by (uses_in id) blocks b empty_block (id_in-within id blocks b k h))
 

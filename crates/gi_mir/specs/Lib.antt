@@ -4,9 +4,11 @@ pub mod Data
 pub mod Edit
 pub mod Formed
 pub mod Ids
+pub mod Mentions
 pub mod Names
 pub mod Numbering
 pub mod Places
 pub mod Registers
 pub mod Renaming
 pub mod Row
+pub mod Tables

@@ -1,5 +1,5 @@
 -- Where each instruction stands in layout.
-use Rattle.std.specs.Prelude.{◌≡◌, ℕ, ◌<◌, ◌≤◌, ◌⊎◌, List, Option, Some, option_map, length, insert, remove, slice_get, slice_index_or, slice_set}
+use Rattle.std.specs.Prelude.{◌≡◌, ℕ, ◌<◌, ◌≤◌, ◌==◌, ◌&&◌, ◌||◌, Bool, nat_lt, List, Option, Some, option_map, length, insert, remove, slice_get, slice_index_or, slice_set}
 use Rattle.gi_mir.specs.Data.{InstrData, BlockData}
 use Rattle.gi_mir.specs.Edit.{empty_block, block_changed_at}
 use Rattle.gi_mir.specs.Ids.{AreOwnIds}
@@ -9,8 +9,8 @@ abbrev pub place : ℕ → ℕ → Place
 place block at = record { block = block; at = at }
 
 -- the blocks' order first, and then the order in a block
-abbrev pub ComesBefore : Place → Place → Type 0
-ComesBefore p q = (p.block < q.block) ⊎ ((p.block ≡ q.block) × (p.at < q.at))
+abbrev pub comes_before : Place → Place → Bool
+comes_before p q = nat_lt p.block q.block || (p.block == q.block && nat_lt p.at q.at)
 
 -- the id of the instruction at a place of a list, and of a function
 abbrev pub nth_id : List (ℕ × InstrData) → ℕ → Option ℕ
@@ -22,11 +22,6 @@ id_in blocks block at = nth_id (slice_index_or blocks block empty_block).instrs 
 -- each instruction's place is written down
 pub record HasPlaces (places : List Place) (blocks : List BlockData) : Type 0 where
   pub located : (id block at : ℕ) → id_in blocks block at ≡ Some id → slice_get places id ≡ Some (place block at)
-
--- what is written down beside the blocks
-pub record IsTabled (blocks : List BlockData) (places : List Place) : Type 0 where
-  pub own : AreOwnIds blocks (length places)
-  pub has_places : HasPlaces places blocks
 
 -- the block at this place in layout, and edits of the instruction at a place
 abbrev pub body_at : List BlockData → ℕ → BlockData

@@ -1,10 +1,12 @@
 //! Blocks of numbered instructions.
 
-ghost use Rattle.std.specs.Prelude.{◌≡◌, ◌+◌, ◌==◌, ◌≤◌, ◌<◌, length, find, insert, remove, option_map, OnOk, OnErr, IfSome, Some, true};
+ghost use Rattle.std.specs.Prelude.{◌≡◌, ◌+◌, ◌==◌, ◌≤◌, ◌<◌, length, slice_get, find, insert, remove, option_map, OnOk, OnErr, IfSome, Some, true};
 ghost use Rattle.gi_mir.specs.Formed.{is_formed};
 ghost use Rattle.gi_mir.specs.Edit.{block_with, block_changed_at, with_operand, with_kind, HasDefAt, defines, entry_at, has_at, id_at};
+ghost use Rattle.gi_mir.specs.Mentions.{is_mentioned, operands_of};
 
 use crate::instr::Instr;
+use crate::mentions::any_mentions;
 use crate::operand::{Kind, Operand, Reg};
 use gi_llt::Memory;
 use std::alloc::Global;
@@ -114,14 +116,36 @@ impl Body {
         &found.instr
     }
 
-    /// Puts another operand into the instruction at this place.
-    pub(crate) fn set_operand(&mut self, at: usize, place: usize, new: Operand)
+    /// The operands of the instruction at this place.
+    pub(crate) fn operands(&self, at: usize) -> &[Operand]
+        requires { at < length self.now.instrs }
+        ensures { result.now ≡ operands_of (entry_at self.now at) }
+    {
+        self.instr(at).operands.as_slice()
+    }
+
+    /// Whether the instruction at this place mentions what an operand does.
+    pub(crate) fn mentions(&self, at: usize, x: Operand) -> bool
+        requires { at < length self.now.instrs }
+        ensures { result ≡ is_mentioned x (operands_of (entry_at self.now at)) }
+    {
+        match x.mention() {
+            Some(key) => any_mentions(self.operands(at), key),
+            None => false,
+        }
+    }
+
+    /// Puts another operand into the instruction at this place, and answers the old one.
+    pub(crate) fn set_operand(&mut self, at: usize, place: usize, new: Operand) -> Operand
         requires within { at < length self.old.instrs }
         requires can { IfSome (option_map (λ p. p.1) (entry_at self.old at)) (λ i. (place < length i.operands) × (is_formed (with_operand i place new) ≡ true)) }
-        ensures { self.new ≡ block_changed_at (λ i. with_operand i place new) at self.old }
+        ensures changed { self.new ≡ block_changed_at (λ i. with_operand i place new) at self.old }
+        ensures old { slice_get (operands_of (entry_at self.old at)) place ≡ Some result }
     {
+        let old = self.operands(at)[place];
         let found = &mut self.instrs[at];
         found.set_operand(place, new);
+        old
     }
 
     /// Gives a definition of the instruction at this place another kind.

@@ -4,6 +4,7 @@ ghost use Rattle.std.specs.Prelude.{◌≡◌, ◌↔◌, IsTrue, ◌-◌, ◌^�
 ghost use Rattle.gi_mir.specs.Edit.{block_at, head_of, ids_of, empty_function, register_above, above_registers, with_block, with_stack, with_keys, spot_in, with_instr, home_of, place_in_block, IsLive, StandsBefore, instr_of, id_at, id_after, id_before, without_instr, with_new_reg, CanSetOperand, with_operand_of, IsDefAt, with_changed, with_kind, definition_in, definition_of};
 ghost use Rattle.gi_mir.specs.Formed.{is_formed};
 ghost use Rattle.gi_mir.specs.Ids.{AreOwnIds};
+ghost use Rattle.gi_mir.specs.Places.{id_in};
 
 use crate::block::{Block, Body, InstrId, Numbered};
 use crate::instr::Instr;
@@ -64,13 +65,13 @@ pub struct Function {
 impl Model for Function {
     ghost use Rattle.std.specs.Prelude.{◌^◌, ◌<◌, length};
     ghost use Rattle.gi_mir.specs.Data.{FunctionData};
-    ghost use Rattle.gi_mir.specs.Places.{IsTabled};
+    ghost use Rattle.gi_mir.specs.Tables.{IsTabled};
 
     ghost Value = { FunctionData };
 
     ghost view = { λ a. record { name = a.name; legalized = a.legalized; banked = a.banked; selected = a.selected; stack = a.stack.items; blocks = a.layout.blocks.items; next_reg = a.next_reg; next_id = length a.layout.places.items } };
 
-    ghost invariant = { λ a. (length a.layout.blocks.items < 2 ^ 32) × IsTabled a.layout.blocks.items a.layout.places.items };
+    ghost invariant = { λ a. (length a.layout.blocks.items < 2 ^ 32) × IsTabled a.layout.blocks.items a.layout.places.items a.layout.mentions };
 }
 
 impl Function {
@@ -247,6 +248,7 @@ impl Function {
         ensures at { result.at ≡ place_in_block self.now id.0 }
         ensures block_within { result.block < length self.now.blocks }
         ensures at_within { result.at < length (block_at self.now result.block).instrs }
+        ensures stands { id_in self.now.blocks result.block result.at ≡ Some id.0 }
     {
         self.layout.places[id.0]
     }
@@ -336,7 +338,7 @@ impl Function {
         ensures formed { is_formed result ≡ true }
     {
         let place = self.place(id);
-        self.layout.remove(place)
+        self.layout.remove(place, id)
     }
 
     /// Puts another operand into an instruction.
@@ -347,7 +349,7 @@ impl Function {
         ensures err { OnErr result (self.new ≡ self.old) }
     {
         let place = self.place(id);
-        self.layout.set_operand(place, k, new)?;
+        self.layout.set_operand(place, id, k, new)?;
         self.next_reg = self.next_reg.max(new.register_above());
         Ok(())
     }

@@ -1,22 +1,26 @@
 //! The blocks of a function, and what is written down so that nothing in them has to be looked for.
 
-ghost use Rattle.std.specs.Prelude.{◌≡◌, ◌<◌, ◌≤◌, ◌+◌, ◌-◌, true, ◌++◌, ◌∷◌, [], length, insert, remove, slice_set, OnOk, OnErr, IfOk, IfSome, Some, option_map, slice_get, slice_index_or};
+ghost use Rattle.std.specs.Prelude.{◌≡◌, ◌<◌, ◌≤◌, ◌+◌, ◌-◌, true, false, ◌++◌, ◌∷◌, [], length, insert, remove, slice_set, OnOk, OnErr, IfOk, IfSome, Some, option_map, slice_get, slice_index_or};
 ghost use Rattle.gi_mir.specs.Edit.{block_with, empty_block, has_at, entry_at, with_operand, with_kind, block_changed_at, HasDefAt};
 ghost use Rattle.gi_mir.specs.Formed.{is_formed};
-ghost use Rattle.gi_mir.specs.Places.{IsTabled, HasGivenIds, HasDistinctIds, IsRenumbered, body_at, with_inserted, with_removed, with_changed_at};
+ghost use Rattle.gi_mir.specs.Mentions.{HasSameLists, IsNoted, IsSorted, Lacks, operands_at, precedes};
+ghost use Rattle.gi_mir.specs.Tables.{IsTabled};
+ghost use Rattle.gi_mir.specs.Places.{HasGivenIds, id_in, HasDistinctIds, IsRenumbered, body_at, with_inserted, with_removed, with_changed_at};
 
 use crate::block::{Block, Body, InstrId, Numbered};
 use crate::instr::Instr;
+use crate::mentions::Mentions;
 use crate::operand::{Kind, Operand};
 use crate::place::Place;
 use gi_llt::Memory;
 use std::alloc::Global;
 
-/// Blocks, and the place of each of their instructions by its id.
+/// Blocks, the place of each of their instructions by its id, and those that mention each register.
 #[derive(Drop)]
 pub(crate) struct Layout {
     pub(crate) blocks: Vec<Body>,
     pub(crate) places: Vec<Place>,
+    pub(crate) mentions: Mentions,
 }
 
 /// The place that is written down for an id.
@@ -55,10 +59,12 @@ impl Layout {
     pub(crate) fn new(alloc: Global) -> Layout
         ensures blocks { result.blocks.items ≡ [] }
         ensures places { result.places.items ≡ [] }
+        ensures tabled { IsTabled result.blocks.items result.places.items result.mentions }
     {
         Layout {
             blocks: Vec::new(alloc),
             places: Vec::new(alloc),
+            mentions: Mentions::new(alloc),
         }
     }
 
@@ -70,6 +76,7 @@ impl Layout {
         requires once { HasDistinctIds (body_at self.old.blocks.items from.block).instrs }
         ensures blocks { self.new.blocks ≡ self.old.blocks }
         ensures places { IsRenumbered self.old.places.items self.new.places.items from.block from.at (length (body_at self.old.blocks.items from.block).instrs) (body_at self.old.blocks.items from.block).instrs }
+        ensures mentions { self.new.mentions ≡ self.old.mentions }
     {
         let body = &self.blocks[from.block as usize];
         renumber(self.places.as_mut_slice(), from, body.instrs.as_slice());
@@ -77,24 +84,39 @@ impl Layout {
 
     /// Adds a block with no instruction.
     pub(crate) fn add_block(&mut self, block: Block) -> Result<(), Memory>
-        requires { IsTabled self.old.blocks.items self.old.places.items }
+        requires { IsTabled self.old.blocks.items self.old.places.items self.old.mentions }
         ensures ok { OnOk result (self.new.blocks.items ≡ self.old.blocks.items ++ block_with block ∷ []) }
         ensures err { OnErr result (self.new.blocks.items ≡ self.old.blocks.items) }
         ensures places { self.new.places ≡ self.old.places }
-        ensures tabled { IsTabled self.new.blocks.items self.new.places.items }
+        ensures tabled { IsTabled self.new.blocks.items self.new.places.items self.new.mentions }
     {
         let alloc = *self.blocks.allocator();
         let body = Body::new(alloc, block);
         self.blocks.push(body).map_err(|_| Memory)
     }
 
-    /// Writes down the place of a new instruction.
-    fn enter(&mut self, spot: Place) -> Result<(), Memory>
+    /// Writes down the place of a new instruction, which stands there, and what it mentions.
+    fn enter(&mut self, spot: Place, id: InstrId) -> Result<(), Memory>
+        requires within { spot.block < length self.old.blocks.items }
+        requires bound { spot.at < length (body_at self.old.blocks.items spot.block).instrs }
+        requires sorted { IsSorted (self.old.places.items ++ spot ∷ []) spot self.old.mentions }
+        requires fresh { Lacks self.old.mentions id }
+        requires own { precedes (self.old.places.items ++ spot ∷ []) spot id ≡ false }
         ensures ok { OnOk result (self.new.places.items ≡ self.old.places.items ++ spot ∷ []) }
+        ensures noted { OnOk result (IsNoted self.old.mentions self.new.mentions (precedes (self.old.places.items ++ spot ∷ []) spot) (operands_at self.old.blocks.items spot) id) }
         ensures err { OnErr result (self.new.places.items ≡ self.old.places.items) }
+        ensures same { OnErr result (HasSameLists self.old.mentions self.new.mentions) }
         ensures blocks { self.new.blocks ≡ self.old.blocks }
     {
-        self.places.push(spot).map_err(|_| Memory)
+        self.places.push(spot).map_err(|_| Memory)?;
+        let body = &self.blocks[spot.block as usize];
+        match self.mentions.note_all(self.places.as_slice(), body.operands(spot.at), id, spot) {
+            Ok(()) => Ok(()),
+            Err(_) => {
+                let _ = self.places.pop();
+                Err(Memory)
+            }
+        }
     }
 
     /// Takes the last instruction that was put in out again.
@@ -103,6 +125,7 @@ impl Layout {
         requires bound { spot.at < length (body_at self.old.blocks.items spot.block).instrs }
         ensures blocks { self.new.blocks.items ≡ with_removed self.old.blocks.items spot }
         ensures places { self.new.places ≡ self.old.places }
+        ensures mentions { self.new.mentions ≡ self.old.mentions }
     {
         let body = &mut self.blocks[spot.block as usize];
         let _ = body.take(spot.at);
@@ -110,7 +133,7 @@ impl Layout {
 
     /// Puts an instruction at a place, and answers its id. Those behind it in the block are numbered anew.
     pub(crate) fn insert(&mut self, spot: Place, instr: Instr) -> Result<InstrId, Memory>
-        requires tabled { IsTabled self.old.blocks.items self.old.places.items }
+        requires tabled { IsTabled self.old.blocks.items self.old.places.items self.old.mentions }
         requires within { spot.block < length self.old.blocks.items }
         requires bound { spot.at ≤ length (body_at self.old.blocks.items spot.block).instrs }
         requires formed { is_formed instr ≡ true }
@@ -119,12 +142,12 @@ impl Layout {
         ensures given { OnOk result (length self.new.places.items ≡ length self.old.places.items + 1) }
         ensures err { OnErr result (self.new.blocks.items ≡ self.old.blocks.items) }
         ensures same_given { OnErr result (length self.new.places.items ≡ length self.old.places.items) }
-        ensures tabled { IsTabled self.new.blocks.items self.new.places.items }
+        ensures tabled { IsTabled self.new.blocks.items self.new.places.items self.new.mentions }
     {
         let id = InstrId(self.places.len());
         let body = &mut self.blocks[spot.block as usize];
         body.insert(spot.at, Numbered { id, instr })?;
-        match self.enter(spot) {
+        match self.enter(spot, id) {
             Ok(()) => {
                 self.renumber(spot);
                 Ok(id)
@@ -137,47 +160,58 @@ impl Layout {
     }
 
     /// Takes the instruction at a place out. Those behind it in the block are numbered anew.
-    pub(crate) fn remove(&mut self, spot: Place) -> Instr
-        requires tabled { IsTabled self.old.blocks.items self.old.places.items }
+    pub(crate) fn remove(&mut self, spot: Place, id: InstrId) -> Instr
+        requires tabled { IsTabled self.old.blocks.items self.old.places.items self.old.mentions }
         requires within { spot.block < length self.old.blocks.items }
-        requires bound { spot.at < length (body_at self.old.blocks.items spot.block).instrs }
+        requires stands { id_in self.old.blocks.items spot.block spot.at ≡ Some id.0 }
         ensures taken { option_map (λ p. p.1) (entry_at (body_at self.old.blocks.items spot.block) spot.at) ≡ Some result }
         ensures formed { is_formed result ≡ true }
         ensures rest { self.new.blocks.items ≡ with_removed self.old.blocks.items spot }
         ensures given { length self.new.places.items ≡ length self.old.places.items }
-        ensures tabled { IsTabled self.new.blocks.items self.new.places.items }
+        ensures tabled { IsTabled self.new.blocks.items self.new.places.items self.new.mentions }
     {
         let body = &mut self.blocks[spot.block as usize];
         let instr = body.take(spot.at);
+        self.mentions.forget_all(instr.operands.as_slice(), id);
         self.renumber(spot);
         instr
     }
 
     /// Puts another operand into the instruction at a place.
-    pub(crate) fn set_operand(&mut self, spot: Place, k: usize, new: Operand) -> Result<(), Memory>
-        requires tabled { IsTabled self.old.blocks.items self.old.places.items }
+    pub(crate) fn set_operand(
+        &mut self,
+        spot: Place,
+        id: InstrId,
+        k: usize,
+        new: Operand,
+    ) -> Result<(), Memory>
+        requires tabled { IsTabled self.old.blocks.items self.old.places.items self.old.mentions }
         requires within { spot.block < length self.old.blocks.items }
-        requires bound { spot.at < length (body_at self.old.blocks.items spot.block).instrs }
+        requires stands { id_in self.old.blocks.items spot.block spot.at ≡ Some id.0 }
         requires can { IfSome (option_map (λ p. p.1) (entry_at (body_at self.old.blocks.items spot.block) spot.at)) (λ i. (k < length i.operands) × (is_formed (with_operand i k new) ≡ true)) }
         ensures ok { OnOk result (self.new.blocks.items ≡ with_changed_at (λ i. with_operand i k new) self.old.blocks.items spot) }
         ensures err { OnErr result (self.new.blocks.items ≡ self.old.blocks.items) }
         ensures given { length self.new.places.items ≡ length self.old.places.items }
-        ensures tabled { IsTabled self.new.blocks.items self.new.places.items }
+        ensures tabled { IsTabled self.new.blocks.items self.new.places.items self.new.mentions }
     {
+        self.mentions.note_operand(self.places.as_slice(), new, id, spot)?;
         let body = &mut self.blocks[spot.block as usize];
-        body.set_operand(spot.at, k, new);
+        let old = body.set_operand(spot.at, k, new);
+        if !body.mentions(spot.at, old) {
+            self.mentions.forget_operand(old, id);
+        }
         Ok(())
     }
 
     /// Gives a definition of the instruction at a place another kind.
     pub(crate) fn set_kind(&mut self, spot: Place, k: usize, kind: Kind)
-        requires tabled { IsTabled self.old.blocks.items self.old.places.items }
+        requires tabled { IsTabled self.old.blocks.items self.old.places.items self.old.mentions }
         requires within { spot.block < length self.old.blocks.items }
         requires bound { spot.at < length (body_at self.old.blocks.items spot.block).instrs }
         requires can { HasDefAt (option_map (λ p. p.1) (entry_at (body_at self.old.blocks.items spot.block) spot.at)) k }
         ensures blocks { self.new.blocks.items ≡ with_changed_at (λ i. with_kind i k kind) self.old.blocks.items spot }
         ensures given { length self.new.places.items ≡ length self.old.places.items }
-        ensures tabled { IsTabled self.new.blocks.items self.new.places.items }
+        ensures tabled { IsTabled self.new.blocks.items self.new.places.items self.new.mentions }
     {
         let body = &mut self.blocks[spot.block as usize];
         body.set_kind(spot.at, k, kind);

@@ -7,6 +7,7 @@ pub mod formed;
 pub mod function;
 pub mod instr;
 mod layout;
+mod mentions;
 pub mod module;
 pub mod names;
 pub mod opcode;

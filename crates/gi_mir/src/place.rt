@@ -1,7 +1,7 @@
 //! Places of instructions in layout.
 
-ghost use Rattle.std.specs.Prelude.{◌↔◌, IsTrue};
-ghost use Rattle.gi_mir.specs.Places.{ComesBefore};
+ghost use Rattle.std.specs.Prelude.{◌≡◌};
+ghost use Rattle.gi_mir.specs.Places.{comes_before};
 
 /// A place in layout: of a block, and in that block.
 #[derive(Clone, Copy, Debug, Default, PartialEq, Eq)]
@@ -13,7 +13,7 @@ pub(crate) struct Place {
 impl Place {
     /// Whether this place comes before another in layout.
     pub(crate) fn is_before(self, other: Place) -> bool
-        ensures { IsTrue result ↔ ComesBefore self other }
+        ensures { result ≡ comes_before self other }
     {
         self.block < other.block || self.block == other.block && self.at < other.at
     }

@@ -35,3 +35,6 @@ returns-clause-block_within c =
 pub returns-clause-at_within : goal.returns-clause-at_within
 returns-clause-at_within c =
     rw (read c) (nth_id-within c.args.id.0 (home_block c.args.self.now c.args.id.0).instrs (place_in_block c.args.self.now c.args.id.0) (id_in-live c.args.self.now c.args.id.0 c.requires))
+
+pub returns-clause-stands : goal.returns-clause-stands
+returns-clause-stands c = rw (read c) (id_in-live c.args.self.now c.args.id.0 c.requires)

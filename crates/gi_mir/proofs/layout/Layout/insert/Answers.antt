@@ -1,11 +1,27 @@
--- The ids are distinct still, and those from the place on are numbered anew.
+-- The ids are distinct still, those from the place on are numbered anew, and the new one is listed.
 use Rattle.std.proofs.Common.{rules, ◌≡◌, ◌∙◌, ◌+◌, ◌++◌, ◌∷◌, [], ap, set, sym, subst, length, length-set, length-append, ℕ, List}
-use Rattle.std.specs.Vec.{vec_len}
+use Rattle.gi_mir.specs.declared.operand.Operand.{Operand}
 use Rattle.gi_mir.specs.Data.{BlockData}
-use Rattle.gi_mir.specs.Places.{IsTabled, HasGivenIds, HasDistinctIds, body_at, with_removed}
+use Rattle.gi_mir.specs.Mentions.{IsNoted, precedes}
+use Rattle.gi_mir.specs.Places.{with_removed}
 use Rattle.gi_mir.proofs.Located.{HasGivenIds-in, HasDistinctIds-in}
-use Rattle.gi_mir.proofs.Tabled.{IsTabled-insert, AreOwnIds-insert, undone}
+use Rattle.gi_mir.proofs.Tabled.{IsTabled-insert, IsTabled-same_lists, AreOwnIds-insert, operands_at-inserted, pushed-sorted, pushed-fresh, pushed-own, undone}
 use Rattle.gi_mir.proofs.layout.Layout.insert.Goals as goal
+
+pub enter-requires-clause-sorted : goal.enter-requires-clause-sorted
+enter-requires-clause-sorted c =
+    let count : c.len.result ≡ length c.args.self.now.places.items = search rules in
+    pushed-sorted c.args.self.now.places.items c.args.self.now.blocks.items c.args.spot (record { 0 = c.len.result }) c.args.self.now.mentions c.requires.within count c.requires.tabled
+
+pub enter-requires-clause-fresh : goal.enter-requires-clause-fresh
+enter-requires-clause-fresh c =
+    let count : c.len.result ≡ length c.args.self.now.places.items = search rules in
+    pushed-fresh c.args.self.now.places.items c.args.self.now.blocks.items c.args.spot (record { 0 = c.len.result }) c.args.self.now.mentions c.requires.within count c.requires.tabled
+
+pub enter-requires-clause-own : goal.enter-requires-clause-own
+enter-requires-clause-own c =
+    let count : c.len.result ≡ length c.args.self.now.places.items = search rules in
+    pushed-own c.args.self.now.places.items c.args.self.now.blocks.items c.args.spot (record { 0 = c.len.result }) count c.requires.tabled.own c.requires.tabled.has_places
 
 pub renumber-requires-clause-given : goal.renumber-requires-clause-given
 renumber-requires-clause-given c =
@@ -36,13 +52,17 @@ returns-in-Err-clause-err c =
 pub returns-in-Err-clause-tabled : goal.returns-in-Err-clause-tabled
 returns-in-Err-clause-tabled c =
     let places = ap (λ v. v.items) c.undo.ensures.places ∙ c.in-Err.ensures.err in
-    rw (returns-in-Err-clause-err c, places) c.requires.tabled
+    rw (returns-in-Err-clause-err c, places, c.undo.ensures.mentions) (IsTabled-same_lists c.args.self.now.blocks.items c.args.self.now.places.items c.args.self.now.mentions c.enter.new.self.mentions c.in-Err.ensures.same c.requires.tabled)
 
 pub returns-in-Ok-clause-tabled : goal.returns-in-Ok-clause-tabled
 returns-in-Ok-clause-tabled c =
     let n = c.len.result in
-    let count : n ≡ length c.args.self.now.places.items = search rules in
+    let old = c.args.self.now.places.items in
+    let blocks = c.args.self.now.blocks.items in
+    let count : n ≡ length old = search rules in
     let put = ap (λ v. v.items) c.in-Ok.ensures.blocks in
     let after = ap (λ v. v.items) c.renumber.ensures.blocks ∙ put in
-    IsTabled-insert c.args.self.now.places.items c.enter.new.self.places.items c.renumber.new.self.places.items c.args.spot c.args.self.now.blocks.items c.renumber.new.self.blocks.items c.args.spot.block c.args.spot.at n c.index_mut-body.result.now c.insert.new.self c.args.instr c.requires.within c.index_mut-body.ensures.value c.requires.bound
-    count c.in-Ok.ensures.ok after c.in_ok-insert.ensures.ok (rw put at c.renumber.ensures.places) c.requires.tabled
+    let operands = operands_at-inserted blocks c.args.spot c.index_mut-body.result.now c.insert.new.self n c.args.instr c.requires.within c.index_mut-body.ensures.value c.requires.bound c.in_ok-insert.ensures.ok in
+    let noted = subst (λ (xs : List Operand). IsNoted c.args.self.now.mentions c.enter.new.self.mentions (precedes (old ++ c.args.spot ∷ []) c.args.spot) xs (record { 0 = n })) operands c.in-Ok.ensures.noted in
+    rw c.renumber.ensures.mentions (IsTabled-insert old c.enter.new.self.places.items c.renumber.new.self.places.items c.args.spot blocks c.renumber.new.self.blocks.items n c.index_mut-body.result.now c.insert.new.self c.args.instr c.args.self.now.mentions c.enter.new.self.mentions c.requires.within c.index_mut-body.ensures.value c.requires.bound
+    count c.in-Ok.ensures.ok after c.in_ok-insert.ensures.ok (rw put at c.renumber.ensures.places) noted c.requires.tabled)
