@@ -1,4 +1,4 @@
-pub mod Definitions
+pub mod Keys
 pub mod FormedLemmas
 pub mod IdsLemmas
 pub mod KindLemmas

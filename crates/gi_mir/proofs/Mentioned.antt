@@ -242,8 +242,8 @@ sorted-parts p (x ∷ xs) ys h g = by (sorted-parts p xs ys h.1 g)
 pub IsSorted-as : (places : List Place) (spot : Place) (id : InstrId) (front back : List (ℕ × InstrData)) (m : Mentions) (between : ℕ → Bool) → IsSplit (precedes places spot) id front back → IsListedAs m front back id between → IsSorted places spot m
 IsSorted-as places spot id front back m between split as_so = record {
   sorted = λ key. rw (as_so.lists key) (sorted-parts (precedes places spot) (mentioning key front) (one_if (between key) id ++ mentioning key back)
-  (Each-mentioning (λ x. precedes places spot x ≡ true) key front (Each-weaker _ _ (λ e h. h.0) front split.first))
-  (late key (between key)));
+      (Each-mentioning (λ x. precedes places spot x ≡ true) key front (Each-weaker _ _ (λ e h. h.0) front split.first))
+      (late key (between key)));
 }
   where
     late : (key : ℕ) (b : Bool) → Each (λ x. precedes places spot x ≡ false) (one_if b id ++ mentioning key back)
@@ -253,9 +253,9 @@ IsSorted-as places spot id front back m between split as_so = record {
 pub Lacks-as : (p : InstrId → Bool) (id : InstrId) (front back : List (ℕ × InstrData)) (m : Mentions) → IsSplit p id front back → IsListedAs m front back id (λ key. false) → Lacks m id
 Lacks-as p id front back m split as_so = record {
   absent = λ key. rw (as_so.lists key) (Each-none (λ x. Unit {0}) id (mentioning key front ++ mentioning key back)
-  (Each-append (λ x. Unit {0} × ((x.0 == id.0) ≡ false)) (mentioning key front) (mentioning key back)
-  (Each-mentioning (λ x. Unit {0} × ((x.0 == id.0) ≡ false)) key front (Each-weaker _ _ (λ e h. (tt, h.1)) front split.first))
-  (Each-mentioning (λ x. Unit {0} × ((x.0 == id.0) ≡ false)) key back (Each-weaker _ _ (λ e h. (tt, h.1)) back split.last))));
+      (Each-append (λ x. Unit {0} × ((x.0 == id.0) ≡ false)) (mentioning key front) (mentioning key back)
+      (Each-mentioning (λ x. Unit {0} × ((x.0 == id.0) ≡ false)) key front (Each-weaker _ _ (λ e h. (tt, h.1)) front split.first))
+      (Each-mentioning (λ x. Unit {0} × ((x.0 == id.0) ≡ false)) key back (Each-weaker _ _ (λ e h. (tt, h.1)) back split.last))));
 }
 
 -- ---- a function is split at a place

@@ -34,7 +34,7 @@ pub IsForgotten-step : (old cur new : Mentions) (operands : List Operand) (i : �
 IsForgotten-step old cur new operands i x id within is before one = record {
   here = λ key h. here key (or_cases (list_any (is_mention key) (take i operands)) (list_any (is_mention key) (x ∷ [])) (sym (more key) ∙ h));
   others = λ key h. let missing = neither (list_any (is_mention key) (take i operands)) (list_any (is_mention key) (x ∷ [])) (sym (more key) ∙ h) in
-  one.others key missing.1 ∙ before.others key missing.0;
+      one.others key missing.1 ∙ before.others key missing.0;
 }
   where
     more : (key : ℕ) → list_any (is_mention key) (take (i + 1) operands) ≡ (list_any (is_mention key) (take i operands) || list_any (is_mention key) (x ∷ []))
@@ -55,7 +55,7 @@ pub IsNoted-step : (p : InstrId → Bool) (old cur new : Mentions) (operands : L
 IsNoted-step p old cur new operands i x id own within is before one = record {
   here = λ key h. here key (or_cases (list_any (is_mention key) (take i operands)) (list_any (is_mention key) (x ∷ [])) (sym (more key) ∙ h));
   others = λ key h. let missing = neither (list_any (is_mention key) (take i operands)) (list_any (is_mention key) (x ∷ [])) (sym (more key) ∙ h) in
-  one.others key missing.1 ∙ before.others key missing.0;
+      one.others key missing.1 ∙ before.others key missing.0;
 }
   where
     more : (key : ℕ) → list_any (is_mention key) (take (i + 1) operands) ≡ (list_any (is_mention key) (take i operands) || list_any (is_mention key) (x ∷ []))

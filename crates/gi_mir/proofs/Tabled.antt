@@ -114,7 +114,6 @@ split-pushed old blocks spot id count own has =
     pushed : (xs : List Place) → id.0 ≡ length xs → slice_get (xs ++ spot ∷ []) id.0 ≡ Some spot
     pushed xs e = rw e (seam xs spot)
 
-
 pub pushed-sorted : (old : List Place) (blocks : List BlockData) (spot : Place) (id : InstrId) (m : Mentions) → spot.block < length blocks → id.0 ≡ length old → IsTabled blocks old m → IsSorted (old ++ spot ∷ []) spot m
 pushed-sorted old blocks spot id m within count has =
     IsSorted-as (old ++ spot ∷ []) spot id (ahead blocks spot.block spot.at) (behind blocks spot.block spot.at) m (λ key. false) (split-pushed old blocks spot id count has.own has.has_places)

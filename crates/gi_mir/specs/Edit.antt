@@ -1,5 +1,5 @@
 -- What the edits of a function make of it.
-use Rattle.std.specs.Prelude.{◌≡◌, ◌⊎◌, ℕ, ◌+◌, ◌-◌, ◌<◌, max, Bool, true, false, List, [], ◌∷◌, ◌++◌, Option, Some, None, ◌==◌, map, flat_map, fold, length, insert, remove, option_map, if◌then◌else◌, slice_get, find, IfSome, slice_index_or, slice_set}
+use Rattle.std.specs.Prelude.{◌≡◌, ◌⊎◌, ℕ, ◌+◌, ◌-◌, ◌<◌, max, Bool, true, false, List, [], ◌∷◌, ◌++◌, Option, Some, None, ◌==◌, map, flat_map, fold, length, insert, remove, option_map, if◌then◌else◌, slice_get, find, filter, IfSome, slice_index_or, slice_set}
 use Rattle.std.specs.List.{list_any, position_or_len}
 use Rattle.std.specs.Option.{option_map_or}
 use Rattle.gi_mir.specs.Data.{InstrData, BlockData, FunctionData}
@@ -195,6 +195,18 @@ definition_in reg blocks = option_map (λ p. p.0) (find (defines reg) (all_instr
 
 abbrev pub definition_of : FunctionData → ℕ → Option ℕ
 definition_of f reg = definition_in reg f.blocks
+
+-- whether an instruction uses a register
+abbrev pub is_use_of : ℕ → Operand → Bool
+is_use_of reg (Use r) = r.0 == reg
+is_use_of reg x = false
+
+abbrev pub uses : ℕ → ℕ × InstrData → Bool
+uses reg p = list_any (is_use_of reg) p.1.operands
+
+-- the instructions that use a register, each once, in layout order
+abbrev pub users_of : FunctionData → ℕ → List ℕ
+users_of f reg = map (λ p. p.0) (filter (uses reg) (all_instrs f.blocks))
 
 abbrev pub with_new_reg : FunctionData → FunctionData
 with_new_reg f = record f { next_reg = f.next_reg + 1 }

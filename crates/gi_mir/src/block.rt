@@ -1,13 +1,13 @@
 //! Blocks of numbered instructions.
 
-ghost use Rattle.std.specs.Prelude.{◌≡◌, ◌+◌, ◌==◌, ◌≤◌, ◌<◌, length, slice_get, find, insert, remove, option_map, OnOk, OnErr, IfSome, Some, true};
+ghost use Rattle.std.specs.Prelude.{◌≡◌, ◌+◌, ◌==◌, ◌≤◌, ◌<◌, length, slice_get, insert, remove, option_map, OnOk, OnErr, IfSome, Some, true};
 ghost use Rattle.gi_mir.specs.Formed.{is_formed};
-ghost use Rattle.gi_mir.specs.Edit.{block_with, block_changed_at, with_operand, with_kind, HasDefAt, defines, entry_at, has_at, id_at};
+ghost use Rattle.gi_mir.specs.Edit.{block_with, block_changed_at, with_operand, with_kind, HasDefAt, entry_at, has_at, id_at};
 ghost use Rattle.gi_mir.specs.Mentions.{is_mentioned, operands_of};
 
 use crate::instr::Instr;
 use crate::mentions::any_mentions;
-use crate::operand::{Kind, Operand, Reg};
+use crate::operand::{Kind, Operand};
 use gi_llt::Memory;
 use std::alloc::Global;
 use std::marker::Model;
@@ -158,16 +158,6 @@ impl Body {
         found.set_kind(place, kind);
     }
 
-    /// The first instruction that defines a register.
-    pub(crate) fn definition_of(&self, reg: Reg) -> Option<InstrId>
-        ensures { option_map (λ id. id.0) result ≡ option_map (λ p. p.0) (find (defines reg.0) self.now.instrs) }
-    {
-        match self.instrs.iter().find(|n| n.defines(reg)) {
-            Some(found) => Some(found.id()),
-            None => None,
-        }
-    }
-
     /// Takes the instruction at this place out.
     pub(crate) fn take(&mut self, at: usize) -> Instr
         requires { at < length self.old.instrs }
@@ -205,12 +195,6 @@ impl Numbered {
     {
         let instr = &mut self.instr;
         instr.set_kind(place, kind);
-    }
-
-    fn defines(&self, reg: Reg) -> bool
-        ensures { result ≡ defines reg.0 self.now }
-    {
-        self.instr.defines(reg)
     }
 
     fn id(&self) -> InstrId

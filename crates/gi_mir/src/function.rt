@@ -1,7 +1,7 @@
 //! Functions: blocks of numbered instructions.
 
-ghost use Rattle.std.specs.Prelude.{◌≡◌, ◌↔◌, IsTrue, ◌-◌, ◌^◌, ◌<◌, ◌≤◌, true, length, Contains, OnOk, OnErr, IfOk, IfSome, Some, option_map};
-ghost use Rattle.gi_mir.specs.Edit.{block_at, head_of, ids_of, empty_function, register_above, above_registers, with_block, with_stack, with_keys, spot_in, with_instr, home_of, place_in_block, IsLive, StandsBefore, instr_of, id_at, id_after, id_before, without_instr, with_new_reg, CanSetOperand, with_operand_of, IsDefAt, with_changed, with_kind, definition_in, definition_of};
+ghost use Rattle.std.specs.Prelude.{◌≡◌, ◌↔◌, IsTrue, ◌-◌, ◌^◌, ◌<◌, ◌≤◌, true, length, Contains, OnOk, OnErr, IfOk, IfSome, Some, map, option_map, slice_get};
+ghost use Rattle.gi_mir.specs.Edit.{block_at, head_of, ids_of, empty_function, register_above, above_registers, with_block, with_stack, with_keys, spot_in, with_instr, home_of, place_in_block, IsLive, StandsBefore, instr_of, id_at, id_after, id_before, without_instr, with_new_reg, CanSetOperand, with_operand_of, IsDefAt, with_changed, with_kind, definition_of, users_of};
 ghost use Rattle.gi_mir.specs.Formed.{is_formed};
 ghost use Rattle.gi_mir.specs.Ids.{AreOwnIds};
 ghost use Rattle.gi_mir.specs.Places.{id_in};
@@ -9,6 +9,7 @@ ghost use Rattle.gi_mir.specs.Places.{id_in};
 use crate::block::{Block, Body, InstrId, Numbered};
 use crate::instr::Instr;
 use crate::layout::{Layout, place_among, stands_at};
+use crate::mentions::{definition_key, use_key};
 use crate::operand::{Kind, Operand, Reg, StackObject};
 use crate::place::Place;
 use gi_llt::Memory;
@@ -37,17 +38,11 @@ fn above_registers(least: u64, operands: &[Operand]) -> u64
         .fold(least, |above, x| above.max(x.register_above()))
 }
 
-/// The first instruction in layout order that defines this register.
-fn definition_among(blocks: &[Body], reg: Reg) -> Option<InstrId>
-    ensures { option_map (λ id. id.0) result ≡ definition_in reg.0 blocks.now }
+/// The first id of a list.
+fn first(ids: &[InstrId]) -> Option<InstrId>
+    ensures { result ≡ slice_get ids.now 0 }
 {
-    for body in blocks {
-        match body.definition_of(reg) {
-            Some(id) => return Some(id),
-            None => {}
-        }
-    }
-    None
+    ids.first().copied()
 }
 
 /// A function: its name, three keys, its stack objects and its blocks.
@@ -368,6 +363,13 @@ impl Function {
     pub fn def_of(&self, reg: Reg) -> Option<InstrId>
         ensures { option_map (λ id. id.0) result ≡ definition_of self.now reg.0 }
     {
-        definition_among(self.layout.blocks.as_slice(), reg)
+        first(self.layout.mentions.of(definition_key(reg)))
+    }
+
+    /// The instructions that use this register, each once, in layout order.
+    pub fn uses_of(&self, reg: Reg) -> &[InstrId]
+        ensures { map (λ id. id.0) result.now ≡ users_of self.now reg.0 }
+    {
+        self.layout.mentions.of(use_key(reg))
     }
 }

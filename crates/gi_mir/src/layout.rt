@@ -110,7 +110,10 @@ impl Layout {
     {
         self.places.push(spot).map_err(|_| Memory)?;
         let body = &self.blocks[spot.block as usize];
-        match self.mentions.note_all(self.places.as_slice(), body.operands(spot.at), id, spot) {
+        match self
+            .mentions
+            .note_all(self.places.as_slice(), body.operands(spot.at), id, spot)
+        {
             Ok(()) => Ok(()),
             Err(_) => {
                 let _ = self.places.pop();
@@ -194,7 +197,8 @@ impl Layout {
         ensures given { length self.new.places.items ≡ length self.old.places.items }
         ensures tabled { IsTabled self.new.blocks.items self.new.places.items self.new.mentions }
     {
-        self.mentions.note_operand(self.places.as_slice(), new, id, spot)?;
+        self.mentions
+            .note_operand(self.places.as_slice(), new, id, spot)?;
         let body = &mut self.blocks[spot.block as usize];
         let old = body.set_operand(spot.at, k, new);
         if !body.mentions(spot.at, old) {

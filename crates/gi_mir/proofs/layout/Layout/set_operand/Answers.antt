@@ -27,18 +27,12 @@ mentions-requires c =
     let stands = nth_id-changed_at edit old.instrs c.args.spot.at c.args.spot.at ∙ ap (λ (b : BlockData). nth_id b.instrs c.args.spot.at) here ∙ c.requires.stands in
     rw c.set_operand-old.ensures.changed (nth_id-within c.args.id.0 (block_changed_at edit c.args.spot.at old).instrs c.args.spot.at stands)
 
-not_true : (b : Bool) → b ≡ false → b ≡ false
-not_true b h = h
-
-not_false : (b : Bool) → b ≡ true → b ≡ true
-not_false b h = h
-
 pub returns-then-not-mentions-clause-tabled : goal.returns-then-not-mentions-clause-tabled
-returns-then-not-mentions-clause-tabled c = 
+returns-then-not-mentions-clause-tabled c =
     let noted = rw c.as_slice.ensures.value at c.in_ok-note_operand.ensures.ok in
-    IsTabled-set_operand-last c.args.self.now.places.items c.args.self.now.blocks.items c.args.spot c.index_mut-body.result.now c.set_operand-old.new.self c.args.id c.args.k c.set_operand-old.result c.args.new c.args.self.now.mentions c.note_operand.new.self c.forget_operand.new.self c.requires.within c.index_mut-body.ensures.value c.requires.stands c.set_operand-old.ensures.changed c.set_operand-old.ensures.old noted (sym c.mentions.ensures ∙ not_true c.mentions.result c.if-not-mentions.true) c.forget_operand.ensures c.requires.tabled
+    IsTabled-set_operand-last c.args.self.now.places.items c.args.self.now.blocks.items c.args.spot c.index_mut-body.result.now c.set_operand-old.new.self c.args.id c.args.k c.set_operand-old.result c.args.new c.args.self.now.mentions c.note_operand.new.self c.forget_operand.new.self c.requires.within c.index_mut-body.ensures.value c.requires.stands c.set_operand-old.ensures.changed c.set_operand-old.ensures.old noted (sym c.mentions.ensures ∙ c.if-not-mentions.true) c.forget_operand.ensures c.requires.tabled
 
 pub returns-else-not-mentions-clause-tabled : goal.returns-else-not-mentions-clause-tabled
 returns-else-not-mentions-clause-tabled c =
     let noted = rw c.as_slice.ensures.value at c.in_ok-note_operand.ensures.ok in
-    IsTabled-set_operand-more c.args.self.now.places.items c.args.self.now.blocks.items c.args.spot c.index_mut-body.result.now c.set_operand-old.new.self c.args.id c.args.k c.set_operand-old.result c.args.new c.args.self.now.mentions c.note_operand.new.self c.requires.within c.index_mut-body.ensures.value c.requires.stands c.set_operand-old.ensures.changed c.set_operand-old.ensures.old noted (sym c.mentions.ensures ∙ not_false c.mentions.result c.if-not-mentions.false) c.requires.tabled
+    IsTabled-set_operand-more c.args.self.now.places.items c.args.self.now.blocks.items c.args.spot c.index_mut-body.result.now c.set_operand-old.new.self c.args.id c.args.k c.set_operand-old.result c.args.new c.args.self.now.mentions c.note_operand.new.self c.requires.within c.index_mut-body.ensures.value c.requires.stands c.set_operand-old.ensures.changed c.set_operand-old.ensures.old noted (sym c.mentions.ensures ∙ c.if-not-mentions.false) c.requires.tabled
