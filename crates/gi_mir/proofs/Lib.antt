@@ -10,5 +10,6 @@ pub mod Located
 pub mod NamesLemmas
 pub mod NumberingLaws
 pub mod Places
+pub mod Replaced
 pub mod Tabled
 pub mod Words

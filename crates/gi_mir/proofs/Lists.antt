@@ -1,5 +1,5 @@
 -- Lists of ids in layout order.
-use Rattle.std.proofs.Common.{◌≡◌, ◌≢◌, ℕ, zero, suc, ◌+◌, ◌<◌, ◌≤◌, Bool, true, false, not, ◌&&◌, ◌||◌, cond, List, [], ◌∷◌, ◌++◌, Option, Some, None, ◌⊎◌, inl, inr, ⊎_elim, length, take, drop, get_or, refl, sym, subst, ap, ◌∙◌, arith, eqb-true, eq-eqb}
+use Rattle.std.proofs.Common.{◌≡◌, ◌≢◌, ℕ, zero, suc, ◌+◌, ◌<◌, ◌≤◌, Bool, true, false, not, ◌&&◌, ◌||◌, cond, List, [], ◌∷◌, ◌++◌, Option, Some, None, ◌⊎◌, inl, inr, ⊎_elim, length, take, drop, get_or, set, refl, sym, subst, ap, ◌∙◌, arith, eqb-true, eq-eqb}
 use Rattle.std.specs.Prelude.{insert, slice_get, ◌==◌, map, filter}
 use Rattle.std.specs.List.{list_any}
 use Rattle.std.specs.List.Sorted.{IsPartitionedBy, IsPartitionPoint}
@@ -65,3 +65,10 @@ without-twice id (x ∷ xs) = by (without-twice id xs) (x.0 == id.0) refl
     by : without id (without id xs) ≡ without id xs → (e : Bool) → (x.0 == id.0) ≡ e → without id (cond (not e) (x ∷ without id xs) (without id xs)) ≡ cond (not e) (x ∷ without id xs) (without id xs)
     by again true g = again
     by again false g = rw g (ap (λ ys. x ∷ ys) again)
+
+-- ---- a list that is mapped in place
+
+pub map-step : {X : Type 0} (f : X → X) (xs : List X) (i : ℕ) (d : X) → i < length xs → set (map f (take i xs) ++ drop i xs) i (f (get_or (map f (take i xs) ++ drop i xs) i d)) ≡ map f (take (suc i) xs) ++ drop (suc i) xs
+map-step f [] i d h = absurd (omega arith)
+map-step f (x ∷ xs) zero d h = refl
+map-step f (x ∷ xs) (suc i) d h = ap (λ ys. f x ∷ ys) (map-step f xs i d (omega arith))

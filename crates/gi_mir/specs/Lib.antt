@@ -12,3 +12,4 @@ pub mod Registers
 pub mod Renaming
 pub mod Row
 pub mod Tables
+pub mod Uses

@@ -4,10 +4,11 @@ ghost use Rattle.std.specs.Prelude.{◌≡◌, ◌+◌, ◌==◌, ◌≤◌, ◌
 ghost use Rattle.gi_mir.specs.Formed.{is_formed};
 ghost use Rattle.gi_mir.specs.Edit.{block_with, block_changed_at, with_operand, with_kind, HasDefAt, entry_at, has_at, id_at};
 ghost use Rattle.gi_mir.specs.Mentions.{is_mentioned, operands_of};
+ghost use Rattle.gi_mir.specs.Uses.{instr_replaced};
 
 use crate::instr::Instr;
 use crate::mentions::any_mentions;
-use crate::operand::{Kind, Operand};
+use crate::operand::{Kind, Operand, Reg};
 use gi_llt::Memory;
 use std::alloc::Global;
 use std::marker::Model;
@@ -148,6 +149,15 @@ impl Body {
         old
     }
 
+    /// Makes each use of a register in the instruction at this place one of another.
+    pub(crate) fn replace_reg(&mut self, at: usize, old: Reg, new: Reg)
+        requires { at < length self.old.instrs }
+        ensures { self.new ≡ block_changed_at (instr_replaced old.0 new.0) at self.old }
+    {
+        let found = &mut self.instrs[at];
+        found.replace_reg(old, new);
+    }
+
     /// Gives a definition of the instruction at this place another kind.
     pub(crate) fn set_kind(&mut self, at: usize, place: usize, kind: Kind)
         requires within { at < length self.old.instrs }
@@ -195,6 +205,13 @@ impl Numbered {
     {
         let instr = &mut self.instr;
         instr.set_kind(place, kind);
+    }
+
+    fn replace_reg(&mut self, old: Reg, new: Reg)
+        ensures { self.new ≡ (self.old.0, instr_replaced old.0 new.0 self.old.1) }
+    {
+        let instr = &mut self.instr;
+        instr.replace_reg(old, new);
     }
 
     fn id(&self) -> InstrId
