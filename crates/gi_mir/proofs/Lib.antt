@@ -11,5 +11,6 @@ pub mod NamesLemmas
 pub mod NumberingLaws
 pub mod Places
 pub mod Replaced
+pub mod Replacing
 pub mod Tabled
 pub mod Words

@@ -138,7 +138,7 @@ without-parts p id b (x ∷ xs) ys h g = rw h.0.1 (ap (λ zs. x ∷ zs) (without
 pub record IsListedAs (m : Mentions) (front back : List (ℕ × InstrData)) (id : InstrId) (between : ℕ → Bool) : Type 0 where
   pub lists : (key : ℕ) → listed m key ≡ mentioning key front ++ (one_if (between key) id ++ mentioning key back)
 
-mentioning-append : (key : ℕ) (xs ys : List (ℕ × InstrData)) → mentioning key (xs ++ ys) ≡ mentioning key xs ++ mentioning key ys
+pub mentioning-append : (key : ℕ) (xs ys : List (ℕ × InstrData)) → mentioning key (xs ++ ys) ≡ mentioning key xs ++ mentioning key ys
 mentioning-append key xs ys =
     ap (map instr_id) (filter-append (mentions key) xs ys) ∙ map-append instr_id (filter (mentions key) xs) (filter (mentions key) ys)
 

@@ -292,7 +292,7 @@ operands_at-inserted blocks spot body more n i within same bound is =
     at_insert (y ∷ ys) (suc k) x h = at_insert ys k x (omega arith)
 
 -- the entry that stands at a place
-entry_of : (P : Type 0) (blocks : List BlockData) (b at id : ℕ) → id_in blocks b at ≡ Some id → ((i : InstrData) → slice_get (get_or blocks b empty_block).instrs at ≡ Some (id, i) → P) → P
+pub entry_of : (P : Type 0) (blocks : List BlockData) (b at id : ℕ) → id_in blocks b at ≡ Some id → ((i : InstrData) → slice_get (get_or blocks b empty_block).instrs at ≡ Some (id, i) → P) → P
 entry_of P blocks b at id stands f = by (slice_get (get_or blocks b empty_block).instrs at) refl
   where
     by : (o : Option (ℕ × InstrData)) → slice_get (get_or blocks b empty_block).instrs at ≡ o → P
@@ -311,7 +311,7 @@ slice_get-changed_at edit (y ∷ ys) zero x h = let same : y ≡ x = cc in rw sa
 slice_get-changed_at edit (y ∷ ys) (suc at) x h = rw (changed_at-suc edit at y ys) (slice_get-changed_at edit ys at x h)
 
 -- the lists with the new operand noted
-after_note : (places : List Place) (blocks : List BlockData) (spot : Place) (id : InstrId) (i : InstrData) (new : Operand) (lists noted : Mentions) → spot.block < length blocks → id_in blocks spot.block spot.at ≡ Some id.0 → slice_get (get_or blocks spot.block empty_block).instrs spot.at ≡ Some (id.0, i)
+pub after_note : (places : List Place) (blocks : List BlockData) (spot : Place) (id : InstrId) (i : InstrData) (new : Operand) (lists noted : Mentions) → spot.block < length blocks → id_in blocks spot.block spot.at ≡ Some id.0 → slice_get (get_or blocks spot.block empty_block).instrs spot.at ≡ Some (id.0, i)
     → IsNoted lists noted (precedes places spot) (new ∷ []) id → IsTabled blocks places lists
     → IsListedAs noted (ahead blocks spot.block spot.at) (behind blocks spot.block (suc spot.at)) id (λ key. mentions key (id.0, i) || list_any (is_mention key) (new ∷ []))
 after_note places blocks spot id i new lists noted within stands h noted_so has =

@@ -1,15 +1,16 @@
 //! Functions: blocks of numbered instructions.
 
-ghost use Rattle.std.specs.Prelude.{◌≡◌, ◌↔◌, IsTrue, ◌-◌, ◌^◌, ◌<◌, ◌≤◌, true, length, Contains, OnOk, OnErr, IfOk, IfSome, Some, map, option_map, slice_get};
+ghost use Rattle.std.specs.Prelude.{◌≡◌, ◌↔◌, IsTrue, ◌-◌, ◌^◌, ◌<◌, ◌≤◌, true, length, Contains, OnOk, OnErr, IfOk, IfSome, Some, map, option_map};
 ghost use Rattle.gi_mir.specs.Edit.{block_at, head_of, ids_of, empty_function, register_above, above_registers, with_block, with_stack, with_keys, spot_in, with_instr, home_of, place_in_block, IsLive, StandsBefore, instr_of, id_at, id_after, id_before, without_instr, with_new_reg, CanSetOperand, with_operand_of, IsDefAt, with_changed, with_kind, definition_of, users_of};
 ghost use Rattle.gi_mir.specs.Formed.{is_formed};
 ghost use Rattle.gi_mir.specs.Ids.{AreOwnIds};
 ghost use Rattle.gi_mir.specs.Places.{id_in};
+ghost use Rattle.gi_mir.specs.Uses.{with_reg_replaced, IsPartlyReplaced};
 
 use crate::block::{Block, Body, InstrId, Numbered};
 use crate::instr::Instr;
 use crate::layout::{Layout, place_among, stands_at};
-use crate::mentions::{definition_key, use_key};
+use crate::mentions::{definition_key, first, use_key};
 use crate::operand::{Kind, Operand, Reg, StackObject};
 use crate::place::Place;
 use gi_llt::Memory;
@@ -36,13 +37,6 @@ fn above_registers(least: u64, operands: &[Operand]) -> u64
     operands
         .iter()
         .fold(least, |above, x| above.max(x.register_above()))
-}
-
-/// The first id of a list.
-fn first(ids: &[InstrId]) -> Option<InstrId>
-    ensures { result ≡ slice_get ids.now 0 }
-{
-    ids.first().copied()
 }
 
 /// A function: its name, three keys, its stack objects and its blocks.
@@ -371,5 +365,21 @@ impl Function {
         ensures { map (λ id. id.0) result.now ≡ users_of self.now reg.0 }
     {
         self.layout.mentions.of(use_key(reg))
+    }
+
+    /// Makes each use of a register one of another. Where memory runs out, the uses up to some place in layout
+    /// are replaced.
+    pub fn replace_reg(&mut self, old: Reg, new: Reg) -> Result<(), Memory>
+        ensures ok { OnOk result (self.new ≡ with_reg_replaced old.0 new.0 self.old) }
+        ensures err { OnErr result (IsPartlyReplaced old.0 new.0 self.old self.new) }
+    {
+        if self.uses_of(old).is_empty() {
+            return Ok(());
+        }
+        self.next_reg = self.next_reg.max(new.0 as u64 + 1);
+        if old.0 == new.0 {
+            return Ok(());
+        }
+        self.layout.replace_reg(old, new)
     }
 }

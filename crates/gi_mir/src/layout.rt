@@ -1,16 +1,18 @@
 //! The blocks of a function, and what is written down so that nothing in them has to be looked for.
 
-ghost use Rattle.std.specs.Prelude.{◌≡◌, ◌<◌, ◌≤◌, ◌+◌, ◌-◌, true, false, ◌++◌, ◌∷◌, [], length, insert, remove, slice_set, OnOk, OnErr, IfOk, IfSome, Some, option_map, slice_get, slice_index_or};
-ghost use Rattle.gi_mir.specs.Edit.{block_with, empty_block, has_at, entry_at, with_operand, with_kind, block_changed_at, HasDefAt};
+ghost use Rattle.std.specs.List.{list_any};
+ghost use Rattle.std.specs.Prelude.{◌≡◌, ◌≢◌, map, ◌<◌, ◌≤◌, ◌+◌, ◌-◌, true, false, ◌++◌, ◌∷◌, [], length, insert, remove, slice_set, OnOk, OnErr, IfOk, IfSome, Some, option_map, slice_get, slice_index_or};
+ghost use Rattle.gi_mir.specs.Edit.{block_with, empty_block, has_at, entry_at, with_operand, with_kind, block_changed_at, HasDefAt, is_use_of};
 ghost use Rattle.gi_mir.specs.Formed.{is_formed};
 ghost use Rattle.gi_mir.specs.Mentions.{HasSameLists, IsNoted, IsSorted, Lacks, operands_at, precedes};
-ghost use Rattle.gi_mir.specs.Tables.{IsTabled};
+ghost use Rattle.gi_mir.specs.Tables.{IsTabled, IsFirstOf};
+ghost use Rattle.gi_mir.specs.Uses.{instr_replaced, block_replaced, ArePartlyReplaced};
 ghost use Rattle.gi_mir.specs.Places.{HasGivenIds, id_in, HasDistinctIds, IsRenumbered, body_at, with_inserted, with_removed, with_changed_at};
 
 use crate::block::{Block, Body, InstrId, Numbered};
 use crate::instr::Instr;
-use crate::mentions::Mentions;
-use crate::operand::{Kind, Operand};
+use crate::mentions::{Mentions, first, use_key};
+use crate::operand::{Kind, Operand, Reg};
 use crate::place::Place;
 use gi_llt::Memory;
 use std::alloc::Global;
@@ -203,6 +205,52 @@ impl Layout {
         let old = body.set_operand(spot.at, k, new);
         if !body.mentions(spot.at, old) {
             self.mentions.forget_operand(old, id);
+        }
+        Ok(())
+    }
+
+    /// The first instruction that is listed under a key, and its place.
+    fn first_of(&self, key: u64) -> Option<(InstrId, Place)>
+        requires { IsTabled self.now.blocks.items self.now.places.items self.now.mentions }
+        ensures { IsFirstOf self.now.blocks.items key result }
+    {
+        match first(self.mentions.of(key)) {
+            Some(id) => Some((id, self.places[id.0])),
+            None => None,
+        }
+    }
+
+    /// Makes each use of a register in the instruction at a place one of another.
+    fn replace_at(&mut self, spot: Place, id: InstrId, old: Reg, new: Reg) -> Result<(), Memory>
+        requires tabled { IsTabled self.old.blocks.items self.old.places.items self.old.mentions }
+        requires within { spot.block < length self.old.blocks.items }
+        requires stands { id_in self.old.blocks.items spot.block spot.at ≡ Some id.0 }
+        requires there { list_any (is_use_of old.0) (operands_at self.old.blocks.items spot) ≡ true }
+        requires apart { old.0 ≢ new.0 }
+        ensures ok { OnOk result (self.new.blocks.items ≡ with_changed_at (instr_replaced old.0 new.0) self.old.blocks.items spot) }
+        ensures err { OnErr result (self.new.blocks.items ≡ self.old.blocks.items) }
+        ensures given { length self.new.places.items ≡ length self.old.places.items }
+        ensures tabled { IsTabled self.new.blocks.items self.new.places.items self.new.mentions }
+    {
+        self.mentions.note_operand(self.places.as_slice(), Operand::Use(new), id, spot)?;
+        let body = &mut self.blocks[spot.block as usize];
+        body.replace_reg(spot.at, old, new);
+        self.mentions.forget_operand(Operand::Use(old), id);
+        Ok(())
+    }
+
+    /// Makes each use of a register one of another. Where memory runs out, those up to some place in layout
+    /// are replaced.
+    pub(crate) fn replace_reg(&mut self, old: Reg, new: Reg) -> Result<(), Memory>
+        requires tabled { IsTabled self.old.blocks.items self.old.places.items self.old.mentions }
+        requires apart { old.0 ≢ new.0 }
+        ensures ok { OnOk result (self.new.blocks.items ≡ map (block_replaced old.0 new.0) self.old.blocks.items) }
+        ensures err { OnErr result (ArePartlyReplaced old.0 new.0 self.old.blocks.items self.new.blocks.items) }
+        ensures given { length self.new.places.items ≡ length self.old.places.items }
+        ensures tabled { IsTabled self.new.blocks.items self.new.places.items self.new.mentions }
+    {
+        while let Some((id, spot)) = self.first_of(use_key(old)) {
+            self.replace_at(spot, id, old, new)?;
         }
         Ok(())
     }

@@ -1,6 +1,6 @@
 //! Which instructions mention a register: which define it, and which use it, in layout order.
 
-ghost use Rattle.std.specs.Prelude.{◌≡◌, ℕ, [], ◌∷◌, ◌≤◌, length, insert, true, false, OnOk, OnErr};
+ghost use Rattle.std.specs.Prelude.{◌≡◌, ℕ, [], ◌∷◌, ◌≤◌, length, insert, slice_get, true, false, OnOk, OnErr};
 ghost use Rattle.std.specs.List.{list_any};
 ghost use Rattle.std.specs.List.Sorted.{IsPartitionedBy, IsPartitionPoint};
 ghost use Rattle.gi_mir.specs.Mentions.{definition_key, use_key, mention_of, is_mention, precedes, has_at, noted, without, listed, IsListed, HasSameLists, IsSorted, Lacks, IsNoted, IsForgotten};
@@ -80,6 +80,13 @@ fn rank(places: &[Place], ids: &[InstrId], spot: Place) -> usize
     ensures bound { result ≤ length ids.now }
 {
     ids.partition_point(|id| precedes(places, *id, spot))
+}
+
+/// The first instruction of a list.
+pub(crate) fn first(ids: &[InstrId]) -> Option<InstrId>
+    ensures { result ≡ slice_get ids.now 0 }
+{
+    ids.first().copied()
 }
 
 /// Whether a list has an instruction at this index.
