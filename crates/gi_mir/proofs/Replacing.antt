@@ -1,5 +1,6 @@
 -- Uses that are replaced one instruction after another, in layout order.
-use Rattle.std.proofs.Common.{◌≡◌, ◌≢◌, ℕ, zero, suc, ◌+◌, ◌-◌, ◌<◌, ◌≤◌, Bool, true, false, not, ◌&&◌, ◌||◌, cond, List, [], ◌∷◌, ◌++◌, Option, Some, None, ◌⊎◌, inl, inr, ⊎_elim, length, take, drop, get_or, set, refl, sym, subst, ap, ap₂, ◌∙◌, arith, eq-eqb, true≢false}
+use Rattle.std.proofs.Common.{◌≡◌, ◌≢◌, ℕ, zero, suc, ◌+◌, ◌-◌, ◌<◌, ◌≤◌, Bool, true, false, not, ◌&&◌, ◌||◌, cond, List, [], ◌∷◌, ◌++◌, Option, Some, None, ◌⊎◌, inl, inr, ⊎_elim, length, take, drop, get_or, set, refl, sym, subst, ap, ap₂, ◌∙◌, arith, eq-eqb, eqb-true, max, true≢false}
+use Rattle.std.proofs.lemmas.Bool.Decides.{nat_tests}
 use Rattle.std.specs.Prelude.{slice_get, option_map, ◌==◌, map, filter}
 use Rattle.std.specs.List.{list_any}
 use Rattle.std.proofs.lemmas.List.{map-append, take-map, length-append}
@@ -10,12 +11,12 @@ use Rattle.gi_mir.specs.declared.mentions.Mentions.{Mentions}
 use Rattle.gi_mir.specs.declared.operand.Operand.{Operand}
 use Rattle.gi_mir.specs.declared.operand.Operand.TheVariants as operand
 use Rattle.gi_mir.specs.declared.place.Place.{Place}
-use Rattle.gi_mir.specs.Data.{InstrData, BlockData}
+use Rattle.gi_mir.specs.Data.{InstrData, BlockData, FunctionData}
 use Rattle.gi_mir.specs.Edit.{empty_block, all_instrs, changed_at, block_changed_at, is_use_of, uses}
 use Rattle.gi_mir.specs.Mentions.{use_key, is_mention, mentions, instr_id, mentioning, operands_of, operands_at, precedes, listed, IsNoted, IsForgotten}
 use Rattle.gi_mir.specs.Places.{place, id_in, HasPlaces, with_changed_at}
 use Rattle.gi_mir.specs.Tables.{IsTabled, IsFirstMention}
-use Rattle.gi_mir.specs.Uses.{instr_replaced, entry_replaced, block_replaced, frame_of, ArePartlyReplaced}
+use Rattle.gi_mir.specs.Uses.{operand_replaced, with_reg_replaced, instr_replaced, entry_replaced, block_replaced, frame_of, ArePartlyReplaced}
 use Rattle.gi_mir.proofs.FormedLemmas.{changed_at-suc}
 use Rattle.gi_mir.proofs.Keys.{mentions-use}
 use Rattle.gi_mir.proofs.Located.{get_or-within, id_in-within}
@@ -77,13 +78,16 @@ pub first_mention : (places : List Place) (blocks : List BlockData) (key : ℕ) 
 first_mention places blocks key id has h =
     let (m, i, at, there) = find_entry key id (all_instrs blocks) h in
     let (c, k, stands) = find_place blocks m (id.0, i) at in
-    let here : id_in blocks c k ≡ Some id.0 = ap (option_map (λ (p : ℕ × InstrData). p.0)) stands in
-    (place c k, has.located id.0 c k here, record {
-      within = id_in-within id.0 blocks c k here;
-      stands = here;
-      there = ap (λ (o : Option (ℕ × InstrData)). list_any (is_mention key) (operands_of o)) stands ∙ there;
-      first = h;
-    })
+    let here : id_in blocks c k ≡ Some id.0 = ap (option_map (λ (p : ℕ × InstrData). p.0)) stands in (
+      place c k,
+      has.located id.0 c k here,
+      record {
+        within = id_in-within id.0 blocks c k here;
+        stands = here;
+        there = ap (λ (o : Option (ℕ × InstrData)). list_any (is_mention key) (operands_of o)) stands ∙ there;
+        first = h;
+      },
+    )
 
 -- nothing ahead of it mentions the key
 none_first : (key : ℕ) (id : InstrId) (front : List (ℕ × InstrData)) (rest : List InstrId) → Each (λ e. (e.0 == id.0) ≡ false) front → slice_get (mentioning key front ++ rest) 0 ≡ Some id → mentioning key front ≡ []
@@ -217,10 +221,10 @@ IsReplacing-step old new places before cur id spot apart has found so_far =
         done = (suc (length (ahead cur spot.block spot.at)));
         frames = map-set_same frame_of cur spot.block (block_changed_at (instr_replaced old new) spot.at (get_or cur spot.block empty_block)) empty_block keeps_frame ∙ so_far.partly.frames;
         replaced = ap (take (suc (length (ahead cur spot.block spot.at)))) after ∙ take-seam (ahead cur spot.block spot.at) (id.0, instr_replaced old new i) (behind cur spot.block (suc spot.at))
-        ∙ sym (take-seam_mapped)
-        ∙ ap (λ (xs : List (ℕ × InstrData)). take (suc (length (ahead cur spot.block spot.at))) (map (entry_replaced old new) xs)) (sym split) ∙ ap (take (suc (length (ahead cur spot.block spot.at)))) same_entries ∙ take-map (entry_replaced old new) (suc (length (ahead cur spot.block spot.at))) (all_instrs before);
+            ∙ sym (take-seam_mapped)
+            ∙ ap (λ (xs : List (ℕ × InstrData)). take (suc (length (ahead cur spot.block spot.at))) (map (entry_replaced old new) xs)) (sym split) ∙ ap (take (suc (length (ahead cur spot.block spot.at)))) same_entries ∙ take-map (entry_replaced old new) (suc (length (ahead cur spot.block spot.at))) (all_instrs before);
         left = ap (drop (suc (length (ahead cur spot.block spot.at)))) after ∙ drop-seam (ahead cur spot.block spot.at) (id.0, instr_replaced old new i) (behind cur spot.block (suc spot.at)) ∙ sym (ap (drop (suc (length (ahead cur spot.block spot.at)))) split ∙ drop-seam (ahead cur spot.block spot.at) (id.0, i) (behind cur spot.block (suc spot.at)))
-        ∙ drop-more so_far.partly.done (suc (length (ahead cur spot.block spot.at))) (all_instrs cur) (all_instrs before) not_past so_far.partly.left;
+            ∙ drop-more so_far.partly.done (suc (length (ahead cur spot.block spot.at))) (all_instrs cur) (all_instrs before) not_past so_far.partly.left;
       };
       whole = whole;
     }
@@ -262,3 +266,60 @@ replaced-smaller old new places later cur id spot m less apart has found after =
     let used : mentions (use_key old) (id.0, i) ≡ true = rw h at found.there in
     let gone : mentions (use_key old) (id.0, instr_replaced old new i) ≡ false = mentions-use old (id.0, instr_replaced old new i) ∙ uses-replaced old new (id.0, i) apart in
     rw (was, now, used, gone) (simp length-append (omega arith)))
+
+-- ---- a function whose register is replaced
+
+none_listed : (old : ℕ) (ps : List (ℕ × InstrData)) → list_any (uses old) ps ≡ false → mentioning (use_key old) ps ≡ []
+none_listed old [] h = refl
+none_listed old (p ∷ ps) h = by (uses old p) (mentions (use_key old) p) (mentions-use old p) h (none_listed old ps)
+  where
+    by : (a b : Bool) → b ≡ a → (a || list_any (uses old) ps) ≡ false → (list_any (uses old) ps ≡ false → mentioning (use_key old) ps ≡ []) → map instr_id (cond b (p ∷ filter (mentions (use_key old)) ps) (filter (mentions (use_key old)) ps)) ≡ []
+    by true b e g more = cc
+    by false false e g more = more g
+    by false true e g more = cc
+
+-- no user means no use
+pub any_user : (reg : ℕ) (ps : List (ℕ × InstrData)) (ids : List InstrId) → map (λ id. id.0) ids ≡ map (λ p. p.0) (filter (uses reg) ps) → list_any (uses reg) ps ≡ not (length ids == 0)
+any_user reg ps ids h = by ps ids h
+  where
+    by : (qs : List (ℕ × InstrData)) (xs : List InstrId) → map (λ id. id.0) xs ≡ map (λ p. p.0) (filter (uses reg) qs) → list_any (uses reg) qs ≡ not (length xs == 0)
+    by [] [] e = refl
+    by [] (x ∷ xs) e = cc
+    by (q ∷ qs) xs e = one (uses reg q) xs e (by qs xs)
+      where
+        one : (b : Bool) (ys : List InstrId) → map (λ id. id.0) ys ≡ map (λ p. p.0) (cond b (q ∷ filter (uses reg) qs) (filter (uses reg) qs)) → (map (λ id. id.0) ys ≡ map (λ p. p.0) (filter (uses reg) qs) → list_any (uses reg) qs ≡ not (length ys == 0)) → (b || list_any (uses reg) qs) ≡ not (length ys == 0)
+        one true [] g more = cc
+        one true (y ∷ ys) g more = sym (positive (length ys))
+          where
+            positive : (n : ℕ) → not (suc n == 0) ≡ true
+            positive n = grind (arith, nat_tests)
+        one false ys g more = more g
+
+pub with_reg_replaced-none : (old new : ℕ) (f : FunctionData) → list_any (uses old) (all_instrs f.blocks) ≡ false → f ≡ with_reg_replaced old new f
+with_reg_replaced-none old new f h =
+    ap (λ (bs : List BlockData). record f { blocks = bs }) (sym (blocks_without old new f.blocks (none_listed old (all_instrs f.blocks) h)))
+    ∙ ap (λ (b : Bool). record f { blocks = map (block_replaced old new) f.blocks; next_reg = cond b (max f.next_reg (new + 1)) f.next_reg }) (sym h)
+
+pub with_reg_replaced-some : (old new n ids : ℕ) (f : FunctionData) (blocks : List BlockData) → list_any (uses old) (all_instrs f.blocks) ≡ true → n ≡ max f.next_reg (new + 1) → blocks ≡ map (block_replaced old new) f.blocks → ids ≡ f.next_id
+    → record f { blocks = blocks; next_reg = n; next_id = ids } ≡ with_reg_replaced old new f
+with_reg_replaced-some old new n ids f blocks h next is same =
+    rw (is, next, same)
+    (ap (λ (b : Bool). record f { blocks = map (block_replaced old new) f.blocks; next_reg = cond b (max f.next_reg (new + 1)) f.next_reg }) (sym h))
+
+-- a register that is replaced by itself
+same_operand : (n : ℕ) (x : Operand) → operand_replaced n n x ≡ x
+same_operand n (operand.Use r) = ap (λ (m : ℕ). operand.Use (record { 0 = m })) (by (r.0 == n) refl)
+  where
+    by : (b : Bool) → (r.0 == n) ≡ b → cond b n r.0 ≡ r.0
+    by true e = sym (eqb-true r.0 n e)
+    by false e = refl
+same_operand n _ = refl
+
+map_same : {X : Type 0} (f : X → X) → ((x : X) → f x ≡ x) → (xs : List X) → map f xs ≡ xs
+map_same f same [] = refl
+map_same f same (x ∷ xs) = ap₂ (λ a b. a ∷ b) (same x) (map_same f same xs)
+
+pub blocks_same : (n : ℕ) (blocks : List BlockData) → map (block_replaced n n) blocks ≡ blocks
+blocks_same n blocks =
+    map_same (block_replaced n n) (λ b. ap (λ (is : List (ℕ × InstrData)). record b { instrs = is })
+    (map_same (entry_replaced n n) (λ p. ap (λ (xs : List Operand). (p.0, record p.1 { operands = xs })) (map_same (operand_replaced n n) (same_operand n) p.1.operands)) b.instrs)) blocks

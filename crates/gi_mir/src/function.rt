@@ -1,7 +1,8 @@
 //! Functions: blocks of numbered instructions.
 
+ghost use Rattle.std.specs.List.{list_any};
 ghost use Rattle.std.specs.Prelude.{◌≡◌, ◌↔◌, IsTrue, ◌-◌, ◌^◌, ◌<◌, ◌≤◌, true, length, Contains, OnOk, OnErr, IfOk, IfSome, Some, map, option_map};
-ghost use Rattle.gi_mir.specs.Edit.{block_at, head_of, ids_of, empty_function, register_above, above_registers, with_block, with_stack, with_keys, spot_in, with_instr, home_of, place_in_block, IsLive, StandsBefore, instr_of, id_at, id_after, id_before, without_instr, with_new_reg, CanSetOperand, with_operand_of, IsDefAt, with_changed, with_kind, definition_of, users_of};
+ghost use Rattle.gi_mir.specs.Edit.{block_at, head_of, ids_of, empty_function, register_above, above_registers, with_block, with_stack, with_keys, spot_in, with_instr, home_of, place_in_block, IsLive, StandsBefore, instr_of, id_at, id_after, id_before, without_instr, with_new_reg, CanSetOperand, with_operand_of, IsDefAt, with_changed, with_kind, definition_of, users_of, uses, all_instrs};
 ghost use Rattle.gi_mir.specs.Formed.{is_formed};
 ghost use Rattle.gi_mir.specs.Ids.{AreOwnIds};
 ghost use Rattle.gi_mir.specs.Places.{id_in};
@@ -367,13 +368,20 @@ impl Function {
         self.layout.mentions.of(use_key(reg))
     }
 
+    /// Whether an instruction uses this register.
+    fn is_used(&self, reg: Reg) -> bool
+        ensures { result ≡ list_any (uses reg.0) (all_instrs self.now.blocks) }
+    {
+        !self.uses_of(reg).is_empty()
+    }
+
     /// Makes each use of a register one of another. Where memory runs out, the uses up to some place in layout
     /// are replaced.
     pub fn replace_reg(&mut self, old: Reg, new: Reg) -> Result<(), Memory>
         ensures ok { OnOk result (self.new ≡ with_reg_replaced old.0 new.0 self.old) }
         ensures err { OnErr result (IsPartlyReplaced old.0 new.0 self.old self.new) }
     {
-        if self.uses_of(old).is_empty() {
+        if !self.is_used(old) {
             return Ok(());
         }
         self.next_reg = self.next_reg.max(new.0 as u64 + 1);

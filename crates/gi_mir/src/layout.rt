@@ -232,7 +232,8 @@ impl Layout {
         ensures given { length self.new.places.items ≡ length self.old.places.items }
         ensures tabled { IsTabled self.new.blocks.items self.new.places.items self.new.mentions }
     {
-        self.mentions.note_operand(self.places.as_slice(), Operand::Use(new), id, spot)?;
+        self.mentions
+            .note_operand(self.places.as_slice(), Operand::Use(new), id, spot)?;
         let body = &mut self.blocks[spot.block as usize];
         body.replace_reg(spot.at, old, new);
         self.mentions.forget_operand(Operand::Use(old), id);
