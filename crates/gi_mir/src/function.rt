@@ -143,7 +143,8 @@ impl Function {
         body.instrs.as_slice()
     }
 
-    /// Puts an instruction before the one that is named in this block, or last, and answers its id.
+    /// Puts an instruction before the one that is named in this block, or last, and answers its id. Those behind
+    /// it in the block are numbered anew, so that at the end of a block none is.
     pub fn insert_before(
         &mut self,
         block: u32,
@@ -320,7 +321,7 @@ impl Function {
         self.place(a).is_before(self.place(b))
     }
 
-    /// Takes an instruction out.
+    /// Takes an instruction out. Those behind it in the block are numbered anew.
     pub fn erase(&mut self, id: InstrId) -> Instr
         requires { IsLive self.old id.0 }
         ensures taken { instr_of self.old id.0 ≡ Some result }

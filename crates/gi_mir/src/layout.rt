@@ -1,4 +1,8 @@
 //! The blocks of a function, and what is written down so that nothing in them has to be looked for.
+//!
+//! The place of an instruction and those that mention a register are looked up, and no block is walked. An
+//! insertion and a removal number anew those behind them in their block alone. A use list is searched by halving,
+//! as its ids are in layout order.
 
 ghost use Rattle.std.specs.List.{list_any};
 ghost use Rattle.std.specs.Prelude.{◌≡◌, ◌≢◌, map, ◌<◌, ◌≤◌, ◌+◌, ◌-◌, true, false, ◌++◌, ◌∷◌, [], length, insert, remove, slice_set, OnOk, OnErr, IfOk, IfSome, Some, option_map, slice_get, slice_index_or};
