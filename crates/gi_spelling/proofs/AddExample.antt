@@ -6,7 +6,7 @@ use Rattle.gi_mir.specs.declared.opcode.Opcode.TheVariants.{GenericAdd, Add}
 use Rattle.gi_mir.specs.declared.operand.Kind.TheVariants.{Banked, Class}
 use Rattle.gi_llt.specs.declared.Llt.TheVariants.{Scalar}
 use Rattle.gi_spelling.specs.Printed.{printed}
-use Rattle.gi_spelling.specs.Spelling.{Spells}
+use Rattle.gi_spelling.specs.Plain.{Spells}
 use Rattle.gi_spelling.specs.Stated.{CopyIn, AddUp, CopyOut, Return, IsStatedText}
 
 pub prints_selected : printed selected_module ≡ selected_text

@@ -8,7 +8,7 @@ use Rattle.gi_mir.specs.declared.operand.Kind.TheVariants.{Generic}
 use Rattle.gi_mir.specs.declared.operand.Operand.TheVariants.{Def, Use, Phys, Block, ImplicitUse}
 use Rattle.gi_mir.specs.Data.{FunctionData, ModuleData, reg_of}
 use Rattle.gi_spelling.specs.Printed.{name_at, text_of}
-use Rattle.gi_spelling.specs.Spelling.{Section, Spells}
+use Rattle.gi_spelling.specs.Plain.{Section, Spells}
 use Rattle.gi_spelling.specs.AddExample.{instr, generic_module}
 
 -- comments, blanks, empty lines, other keys, and keys in another order

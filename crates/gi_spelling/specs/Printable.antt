@@ -6,7 +6,7 @@ use Rattle.gi_mir.specs.declared.operand.Operand.{Operand}
 use Rattle.gi_mir.specs.declared.operand.Operand.TheVariants.{Global, Routine}
 use Rattle.gi_mir.specs.Data.{InstrData, BlockData, FunctionData, ModuleData}
 use Rattle.gi_spelling.specs.Printed.{name_at, routine_names}
-use Rattle.gi_spelling.specs.Spelling.{is_name}
+use Rattle.gi_spelling.specs.Plain.{is_name}
 
 abbrev pub is_named_operand : (names : List (List ℕ)) → Operand → Bool
 is_named_operand names (Global flag name) = is_name (name_at names name)

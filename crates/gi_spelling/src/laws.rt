@@ -5,7 +5,7 @@ ghost use Rattle.gi_spelling.specs.AddExample.{generic_module, selected_module, 
 ghost use Rattle.gi_mir.specs.Data.{ModuleData};
 ghost use Rattle.gi_spelling.specs.Printable.{IsPrintableModule};
 ghost use Rattle.gi_spelling.specs.Printed.{printed};
-ghost use Rattle.gi_spelling.specs.Spelling.{Spells};
+ghost use Rattle.gi_spelling.specs.Plain.{Spells};
 ghost use Rattle.gi_spelling.specs.Stated.{IsStatedText};
 
 /// The printed text of a module spells that module.

@@ -19,7 +19,7 @@ use Rattle.gi_spelling.specs.Printed.{name_at, operand_pieces, is_definition, so
 use Rattle.gi_mir.specs.Row.{word_of, rows_of}
 use Rattle.gi_llt.specs.Tokens.{Spaces, piece_bytes}
 use Rattle.gi_spelling.specs.Stated.{StatedInstr, CopyIn, MakeConstant, AddUp, CopyOut, Return, stated_instr, IsStatedInstr, IsStated}
-use Rattle.gi_spelling.specs.Spelling.{lines_of}
+use Rattle.gi_spelling.specs.Plain.{lines_of}
 use Rattle.gisel.specs.Rows.{is_use_of, short_where}
 use Rattle.gisel.specs.Selecting.{root_of, result_of, selected_sum, selected_root, selected_if_used, selected_where, selected_list, used_in, before, short_among}
 use Rattle.gisel.specs.Selectable.{IsSelectable}

@@ -1,6 +1,6 @@
 -- Words and an input as they are taken, where no read failed, leave want of memory as the one reason to stop.
 use Rattle.std.proofs.Common.{◌≡◌, ℕ, ◌≤◌, List, length, Option, Some, None, ◌⊎◌, inl, inr, refl, ◌∙◌, arith}
-use Rattle.gi_spelling.specs.Spelling.{lines_of}
+use Rattle.gi_spelling.specs.Plain.{lines_of}
 use Rattle.gisel.specs.Answers.{limit}
 use Rattle.gisel.specs.Refused.{IsStatedLines}
 use Rattle.gisel.specs.Stop.{IsCause, UsageOf, status_of}

@@ -3,7 +3,7 @@ use Rattle.std.specs.Prelude.{◌≡◌, ℕ, List, ◌++◌}
 use Rattle.std.specs.List.{AllZip}
 use Rattle.gi_mir.specs.Data.{FunctionData, ModuleData}
 use Rattle.gi_spelling.specs.Printed.{name_at}
-use Rattle.gi_spelling.specs.Spelling.{Spells}
+use Rattle.gi_spelling.specs.Plain.{Spells}
 use Rattle.gi_meaning.specs.State.{World, IsWorld, Outcome}
 use Rattle.gi_meaning.specs.Runs.{Runs, Allows}
 

@@ -3,7 +3,7 @@
 ghost use Rattle.std.specs.Prelude.{◌≡◌, ◌≢◌, ◌⊎◌, ◌≤◌, ◌<◌, ◌^◌, ◌-◌, ◌++◌, [], None, IsTrue, IfOk, OnOk, IfErr, IfSome, IsSome, IsErrOf, length, map, string_bytes, Some, codes};
 ghost use Rattle.gi_io.specs.Faults.{Rose};
 ghost use Rattle.gi_io.specs.Writing.{AppendsPrefix};
-ghost use Rattle.gi_spelling.specs.Spelling.{lines_of};
+ghost use Rattle.gi_spelling.specs.Plain.{lines_of};
 ghost use Rattle.gisel.specs.Answers.{limit, IsOutput, AppendsOutput, AppendsPartOfOutput, RefusesWith};
 ghost use Rattle.gisel.specs.Promise.{Compiles, AppendsCompiled};
 ghost use Rattle.gisel.specs.Refused.{IsStatedLines};
