@@ -4,8 +4,10 @@ pub mod Edit
 pub mod Entries
 pub mod Formed
 pub mod Ids
+pub mod Mentions
 pub mod Names
 pub mod Numbering
+pub mod Places
 pub mod Registers
 pub mod Renaming
 pub mod Routines
@@ -13,3 +15,5 @@ pub mod Row
 pub mod Stages
 pub mod Types
 pub mod Typings
+pub mod Tables
+pub mod Uses

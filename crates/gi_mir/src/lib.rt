@@ -7,16 +7,18 @@ pub mod entry;
 pub mod formed;
 pub mod function;
 pub mod instr;
+mod layout;
+mod mentions;
 pub mod module;
 pub mod names;
 pub mod opcode;
 pub mod operand;
+mod place;
 pub mod routine;
 pub mod row;
 pub mod stage;
-#[cfg(test)]
 mod table_tests;
-#[cfg(test)]
-mod tests;
 pub mod types;
 pub mod typing;
+#[cfg(test)]
+mod tests;
