@@ -7,3 +7,5 @@ pub mod PrintExamples
 pub mod SpellingExamples
 pub mod StatedLines
 pub mod Texts
+pub mod TokenLists
+pub mod ReadPieces
