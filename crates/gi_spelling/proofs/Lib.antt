@@ -9,3 +9,4 @@ pub mod StatedLines
 pub mod Texts
 pub mod TokenLists
 pub mod ReadPieces
+pub mod ItemParts
