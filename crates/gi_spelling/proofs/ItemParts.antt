@@ -33,7 +33,7 @@ has_some (x ∷ xs) = true
 abbrev pub parts_whats : List (List Item) → List (List What)
 parts_whats parts = map (map what_in) parts
 
-some_parts : (items : List Item) → (part : List Item) × (parts : List (List Item)) × (parts_of items ≡ part ∷ parts)
+pub some_parts : (items : List Item) → (part : List Item) × (parts : List (List Item)) × (parts_of items ≡ part ∷ parts)
 some_parts [] = ([], [], refl)
 some_parts (item ∷ rest) = chosen (is_comma_item item.what) (parts_of rest)
   where

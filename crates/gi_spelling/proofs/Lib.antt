@@ -10,3 +10,4 @@ pub mod Texts
 pub mod TokenLists
 pub mod ReadPieces
 pub mod ItemParts
+pub mod ReadLines
