@@ -11,3 +11,4 @@ pub mod TokenLists
 pub mod ReadPieces
 pub mod ItemParts
 pub mod ReadLines
+pub mod WrittenPieces

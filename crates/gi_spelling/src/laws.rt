@@ -1,6 +1,6 @@
 //! What is promised of texts and the modules that they spell.
 
-ghost use Rattle.std.specs.Prelude.{List, ℕ, Ok};
+ghost use Rattle.std.specs.Prelude.{◌≡◌, List, ℕ, Ok};
 ghost use Rattle.gi_spelling.specs.Reading.{read_instr};
 ghost use Rattle.gi_spelling.specs.Spelling.{AreWritten};
 ghost use Rattle.gi_spelling.specs.Written.{WrittenData};
