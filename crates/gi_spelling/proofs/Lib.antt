@@ -12,3 +12,5 @@ pub mod ReadPieces
 pub mod ItemParts
 pub mod ReadLines
 pub mod WrittenPieces
+pub mod WrittenParts
+pub mod WrittenLines

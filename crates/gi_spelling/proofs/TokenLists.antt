@@ -20,7 +20,7 @@ abbrev pub names_nothing : What → Bool
 names_nothing what.Global = false
 names_nothing w = true
 
-no_place : (item : Item) (w : What) → names_nothing w ≡ true → name_place item w ≡ None
+pub no_place : (item : Item) (w : What) → names_nothing w ≡ true → name_place item w ≡ None
 no_place item what.Global none = absurd (cc)
 no_place item w none = refl
 

@@ -172,7 +172,7 @@ routine_read typed symbol_flag.Hi place items e = routine_hi typed place items e
 routine_read typed symbol_flag.Lo place items e = routine_lo typed place items e
 
 -- an operand that names no global
-abbrev is_global : Source → Bool
+abbrev pub is_global : Source → Bool
 is_global (source.Global flag place) = true
 is_global s = false
 

@@ -17,6 +17,11 @@ pub fn read_lines_are_written()
     ensures { (items : List Item) (written : WrittenData) → read_instr items ≡ Ok written → AreWritten items written }
 {}
 
+/// A line whose tokens spell something is read as that.
+pub fn written_lines_are_read()
+    ensures { (items : List Item) (written : WrittenData) → AreWritten items written → read_instr items ≡ Ok written }
+{}
+
 /// The printed text of a module spells that module.
 pub fn printed_text_spells()
     ensures { (m : ModuleData) → IsPrintableModule m → Spells (printed m) m }
