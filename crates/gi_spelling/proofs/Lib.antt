@@ -7,3 +7,10 @@ pub mod PrintExamples
 pub mod SpellingExamples
 pub mod StatedLines
 pub mod Texts
+pub mod TokenLists
+pub mod ReadPieces
+pub mod ItemParts
+pub mod ReadLines
+pub mod WrittenPieces
+pub mod WrittenParts
+pub mod WrittenLines
