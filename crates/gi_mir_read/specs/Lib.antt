@@ -1,3 +1,4 @@
+pub mod Depths
 pub mod Flagged
 pub mod Readings
 pub mod Splits

@@ -1,7 +1,9 @@
 //! Reading Machine IR: from a text to the module that it spells, or to its first line that spells nothing.
 #![tactic(auto)]
 
+mod block;
 mod definition;
+mod entry;
 mod faults;
 mod instr;
 mod items;
