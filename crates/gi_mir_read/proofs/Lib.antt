@@ -5,4 +5,5 @@ pub mod SectionCuts
 pub mod PartCuts
 pub mod KeptLemmas
 pub mod NumberLemmas
+pub mod SplitLemmas
 pub mod TableLemmas

@@ -1,5 +1,8 @@
 pub mod Placed
 pub mod Sectioned
 pub mod Parted
+pub mod Flagged
+pub mod Readings
+pub mod Splits
 pub mod Stops
 pub mod Turns

@@ -118,7 +118,7 @@ fn turn_after(next: Next, items: &[Item]) -> Turn
 }
 
 /// The tokens from a place on.
-fn from_place(items: &[Item], place: usize) -> &[Item]
+pub(crate) fn from_place(items: &[Item], place: usize) -> &[Item]
     requires { place ≤ length items.now }
     ensures { result.now ≡ drop place items.now }
 {

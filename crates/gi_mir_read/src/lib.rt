@@ -3,6 +3,7 @@
 
 mod definition;
 mod faults;
+mod instr;
 mod items;
 mod kept;
 mod line_bytes;
@@ -13,6 +14,7 @@ mod number;
 mod parts;
 mod sections;
 mod source;
+mod split;
 mod stop;
 mod what;
 mod word;
