@@ -6,3 +6,4 @@ pub mod Readings
 pub mod Splits
 pub mod Stops
 pub mod Turns
+pub mod Keyed

@@ -5,6 +5,7 @@ ghost use Rattle.gi_text.specs.Cutting.{slice};
 ghost use Rattle.gi_spelling.specs.Lines.{lines_of, lines_in};
 ghost use Rattle.gi_mir_read.specs.Placed.{IsLineIn, line_at};
 
+use crate::list::push;
 use gi_llt::Memory;
 use std::alloc::Global;
 
@@ -48,16 +49,6 @@ fn end_of(text: &[u8], start: usize) -> usize
     }
 }
 
-/// Adds a line.
-fn append(lines: &mut Vec<Line>, line: Line) -> Result<(), Memory>
-    ensures { OnOk result (lines.new.items ≡ lines.old.items ++ line ∷ []) }
-{
-    match lines.push(line) {
-        Ok(()) => Ok(()),
-        Err(_) => Err(Memory),
-    }
-}
-
 /// The lines of a text.
 pub(crate) fn lines(alloc: Global, text: &[u8]) -> Result<Vec<Line>, Memory>
     requires { length text.now < 2 ^ 32 - 1 }
@@ -74,7 +65,7 @@ pub(crate) fn lines(alloc: Global, text: &[u8]) -> Result<Vec<Line>, Memory>
             start: start as u32,
             end: end as u32,
         };
-        append(&mut lines, line)?;
+        push(&mut lines, line)?;
         number += 1;
         start = end + 1;
     }
