@@ -1,5 +1,5 @@
 -- A table whose entries are seen as those of another.
-use Rattle.std.proofs.Common.{◌≡◌, Bool, true, false, cond, List, [], ◌∷◌, Option, Some, None, map, refl}
+use Rattle.std.proofs.Common.{◌≡◌, Bool, true, false, cond, List, [], ◌∷◌, Some, map, refl}
 use Rattle.std.specs.Prelude.{find, option_map}
 
 pub find-map : {A B C : Type 0} (seen : A → B) (test : B → Bool) (answer : B → C) (xs : List A)

@@ -1,5 +1,5 @@
 -- What becomes of the first of the tokens that are left of a line.
-use Rattle.std.specs.Prelude.{ℕ, zero, suc, true, false, List, [], ◌∷◌, map, if◌then◌else◌}
+use Rattle.std.specs.Prelude.{zero, suc, true, false, List, [], ◌∷◌, map, if◌then◌else◌}
 use Rattle.gi_spelling.specs.declared.kept.Next.{Next}
 use Rattle.gi_spelling.specs.declared.kept.Next.TheVariants.{Past, PastOrigin}
 use Rattle.gi_spelling.specs.declared.kept.Turn.{Turn}

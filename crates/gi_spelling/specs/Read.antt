@@ -8,7 +8,8 @@ use Rattle.gi_mir.specs.Data.{FunctionData, ModuleData}
 use Rattle.gi_spelling.specs.Printed.{name_at}
 use Rattle.gi_spelling.specs.declared.written.Fault.TheVariants as fault
 use Rattle.gi_spelling.specs.Lines.{Line, Section, parts_of_text}
-use Rattle.gi_spelling.specs.Blocks.{Wrong, wrong}
+use Rattle.gi_spelling.specs.declared.written.Wrong.{Wrong}
+use Rattle.gi_spelling.specs.Blocks.{wrong}
 use Rattle.gi_spelling.specs.Documents.{Document, entries_of, read_document, function_of, wrong_in}
 use Rattle.gi_spelling.specs.Named.{IsNamedFunction}
 

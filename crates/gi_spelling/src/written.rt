@@ -95,6 +95,29 @@ pub enum Fault {
     Unknown { start: usize, end: usize },
 }
 
+/// A line at which something is wrong.
+#[derive(Clone, Copy, Debug, PartialEq, Eq)]
+pub struct Wrong {
+    pub line: u32,
+    pub fault: Fault,
+}
+
+/// A type that a use shows, and the line that it stands on.
+#[derive(Clone, Copy, Debug, PartialEq, Eq)]
+pub struct Shown {
+    pub line: u32,
+    pub reg: Reg,
+    pub ty: Llt,
+}
+
+/// What stands behind the key of a list: nothing, `[]` or something else.
+#[derive(Clone, Copy, Debug, PartialEq, Eq)]
+pub enum ListValue {
+    Entries,
+    NoEntries,
+    NoList,
+}
+
 /// Where in an entry its next token stands.
 #[derive(Clone, Copy, Debug, PartialEq, Eq)]
 pub enum EntryState {

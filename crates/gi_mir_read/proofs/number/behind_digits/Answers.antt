@@ -1,4 +1,4 @@
-use Rattle.std.proofs.Common.{◌∙◌, ap, sym, drop}
+use Rattle.std.proofs.Common.{◌∙◌, ap, drop}
 use Rattle.gi_llt.specs.Tokens.{is_digit}
 use Rattle.gi_mir_read.proofs.NumberLemmas.{drop-run}
 use Rattle.gi_mir_read.proofs.number.behind_digits.Goals as goal

@@ -1,4 +1,4 @@
-use Rattle.std.proofs.Common.{◌∙◌, ap, sym, take}
+use Rattle.std.proofs.Common.{◌∙◌, ap, take}
 use Rattle.gi_llt.specs.Tokens.{is_digit}
 use Rattle.gi_mir_read.proofs.NumberLemmas.{take-run}
 use Rattle.gi_mir_read.proofs.number.digits.Goals as goal

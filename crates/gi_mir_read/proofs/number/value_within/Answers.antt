@@ -1,4 +1,4 @@
-use Rattle.std.proofs.Common.{◌<◌, length, arith}
+use Rattle.std.proofs.Common.{arith}
 use Rattle.gi_mir_read.proofs.NumberLemmas.{value-more}
 use Rattle.gi_mir_read.proofs.number.value_within.Goals as goal
 

@@ -3,7 +3,6 @@ use Rattle.std.specs.Prelude.{bytes_eq, map, position}
 use Rattle.std.specs.Option.{option_map_or}
 use Rattle.gi_mir.proofs.NamesLemmas.{position-map}
 use Rattle.gi_spelling.specs.Printed.{routine_names}
-use Rattle.gi_spelling.specs.Words.{routine_token}
 use Rattle.gi_spelling.specs.declared.token.What.{What}
 use Rattle.gi_spelling.specs.declared.token.What.TheVariants as what
 use Rattle.gi_mir_read.proofs.what.routine_token.Goals as goal
