@@ -2,6 +2,7 @@
 #![tactic(auto)]
 
 mod block;
+mod constant;
 mod definition;
 mod entry;
 mod faults;
@@ -13,6 +14,7 @@ mod line_bytes;
 mod lines;
 mod list;
 mod memory;
+mod naming;
 mod number;
 mod numbering;
 mod parts;
