@@ -10,4 +10,7 @@ pub mod SplitLemmas
 pub mod TableLemmas
 pub mod KeyLemmas
 pub mod ConstantLemmas
+pub mod EachLemmas
 pub mod FirstLemmas
+pub mod FormedLemmas
+pub mod MeantLemmas

@@ -1,6 +1,7 @@
 //! Reading Machine IR: from a text to the module that it spells, or to its first line that spells nothing.
 #![tactic(auto)]
 
+mod access;
 mod block;
 mod constant;
 mod definition;
@@ -18,10 +19,12 @@ mod naming;
 mod number;
 mod numbering;
 mod parts;
+mod resolve;
 mod sections;
 mod source;
 mod split;
 mod stop;
+mod tables;
 mod values;
 mod what;
 mod word;
