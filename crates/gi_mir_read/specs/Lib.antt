@@ -1,3 +1,4 @@
+pub mod Depths
 pub mod Placed
 pub mod Sectioned
 pub mod Parted
@@ -7,3 +8,5 @@ pub mod Splits
 pub mod Stops
 pub mod Turns
 pub mod Keyed
+pub mod Numbered
+pub mod Meant

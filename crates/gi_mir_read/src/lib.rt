@@ -1,7 +1,11 @@
 //! Reading Machine IR: from a text to the module that it spells, or to its first line that spells nothing.
 #![tactic(auto)]
 
+mod access;
+mod block;
+mod constant;
 mod definition;
+mod entry;
 mod faults;
 mod instr;
 mod items;
@@ -11,12 +15,16 @@ mod line_bytes;
 mod lines;
 mod list;
 mod memory;
+mod naming;
 mod number;
+mod numbering;
 mod parts;
+mod resolve;
 mod sections;
 mod source;
 mod split;
 mod stop;
+mod tables;
 mod values;
 mod what;
 mod word;
