@@ -7,3 +7,4 @@ pub mod KeptLemmas
 pub mod NumberLemmas
 pub mod TableLemmas
 pub mod KeyLemmas
+pub mod CountLemmas
