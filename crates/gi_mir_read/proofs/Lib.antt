@@ -8,3 +8,4 @@ pub mod NumberLemmas
 pub mod TableLemmas
 pub mod KeyLemmas
 pub mod CountLemmas
+pub mod TextLemmas

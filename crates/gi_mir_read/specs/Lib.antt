@@ -4,3 +4,4 @@ pub mod Parted
 pub mod Stops
 pub mod Turns
 pub mod Keyed
+pub mod Texts

@@ -2,6 +2,7 @@
 #![tactic(auto)]
 
 mod document_lines;
+mod ir;
 mod items;
 mod kept;
 mod keys;
