@@ -1,6 +1,8 @@
 -- The tokens that count, one after the other.
-use Rattle.std.proofs.Common.{◌≡◌, ℕ, zero, suc, ◌+◌, ◌<◌, Bool, true, false, List, [], ◌∷◌, ◌++◌, length, get_or, drop, refl, sym, ap, ◌∙◌, subst, drop-cons, add-one, append_assoc}
+use Rattle.std.proofs.Common.{◌≡◌, ℕ, zero, suc, ◌+◌, ◌<◌, ◌≤◌, Bool, true, false, List, [], ◌∷◌, ◌++◌, length, get_or, set, drop, take, arith, refl, sym, ap, ◌∙◌, subst, drop-cons, add-one, append_assoc}
 use Rattle.std.specs.Prelude.{if◌then◌else◌, map}
+use Rattle.std.proofs.lemmas.List.{drop-set-lt}
+use Rattle.std.proofs.Math.Seq.{take-suc-set}
 use Rattle.gi_spelling.specs.declared.kept.Next.{Next}
 use Rattle.gi_spelling.specs.declared.kept.Next.TheVariants.{Past, PastOrigin}
 use Rattle.gi_spelling.specs.declared.kept.Turn.{Turn}
@@ -51,3 +53,13 @@ kept-passed found next t place items whole within is keeps so_far =
     kept-at next place d items within ∙ ap (λ s. kept_turn s (get_or items place d) (λ n. kept_past what_in n (drop (suc place) items))) (sym is)
     ∙ ap (λ keeps. if keeps then get_or items place d ∷ later else later) keeps in
     rw (add-one place) (ap (λ ys. found ++ ys) (sym here) ∙ so_far)
+
+-- a token that is moved to the front
+pub kept-moved : (count : ℕ) (items : List Item) (next : Next) (t : Turn) (place : ℕ) (d : Item) (whole : List Item) → place < length items → count ≤ place
+    → t ≡ turn_after next (drop place items) → t.keeps ≡ true → take count items ++ kept_past what_in next (drop place items) ≡ whole
+    → take (count + 1) (set items count (get_or items place d)) ++ kept_past what_in t.next (drop (place + 1) (set items count (get_or items place d))) ≡ whole
+kept-moved count items next t place d whole within behind is keeps so_far =
+    let moved : take (count + 1) (set items count (get_or items place d)) ≡ take count items ++ get_or items place d ∷ [] =
+    rw (add-one count) (take-suc-set items count (get_or items place d) (omega arith)) in
+    let rest : drop (place + 1) (set items count (get_or items place d)) ≡ drop (place + 1) items = drop-set-lt (place + 1) items count (get_or items place d) (omega arith) in
+    rw rest (kept-pushed (take count items) (take (count + 1) (set items count (get_or items place d))) next t place d items whole within is keeps moved so_far)

@@ -5,6 +5,7 @@ pub mod SectionCuts
 pub mod PartCuts
 pub mod KeptLemmas
 pub mod NumberLemmas
+pub mod SplitLemmas
 pub mod TableLemmas
 pub mod KeyLemmas
 pub mod CountLemmas

@@ -1,6 +1,10 @@
+pub mod Depths
 pub mod Placed
 pub mod Sectioned
 pub mod Parted
+pub mod Flagged
+pub mod Readings
+pub mod Splits
 pub mod Stops
 pub mod Turns
 pub mod Keyed

@@ -2,8 +2,10 @@
 
 ghost use Rattle.std.specs.Prelude.{◌≡◌, ◌<◌, ◌≤◌, ◌-◌, ◌^◌, All, IfOk, length, map, option_map};
 ghost use Rattle.gi_text.specs.Cutting.{IsSized, IsSlice};
-ghost use Rattle.gi_spelling.specs.Items.{item_of, items_in};
+ghost use Rattle.gi_spelling.specs.Items.{item_of, items_in, what_in};
+ghost use Rattle.gi_spelling.specs.Kept.{kept};
 
+use crate::kept::keep;
 use crate::list::push;
 use crate::what::what;
 use gi_llt::Memory;
@@ -30,7 +32,7 @@ fn items_of(alloc: Global, bytes: &[u8], tokens: &[Token]) -> Result<Vec<Item>, 
     requires sized { All (IsSized bytes.now) tokens.now }
     ensures { IfOk result (λ items. items.items ≡ map (item_of bytes.now) tokens.now) }
 {
-    let mut items = Vec::new(alloc);
+    let mut items = Vec::with_capacity(alloc, tokens.len()).map_err(|_| Memory)?;
     for token in tokens {
         push(&mut items, item(bytes, *token))?;
     }
@@ -53,5 +55,26 @@ pub(crate) fn items(
         Ok(found) => Ok(Some(items_of(alloc, bytes, found.as_slice())?)),
         Err(LineError::Memory) => Err(Memory),
         Err(_) => Ok(None),
+    }
+}
+
+/// The tokens that count of the line of a block from `start` up to `end`.
+pub(crate) fn kept_items(
+    alloc: Global,
+    bytes: &[u8],
+    start: usize,
+    end: usize,
+) -> Result<Option<Vec<Item>>, Memory>
+    requires ordered { start ≤ end }
+    requires within { end ≤ length bytes.now }
+    requires short { end < 2 ^ 32 - 1 }
+    ensures { IfOk result (λ found. option_map (λ items. items.items) found ≡ option_map (kept what_in) (items_in bytes.now start end)) }
+{
+    match items(alloc, bytes, start, end)? {
+        Some(mut found) => {
+            keep(&mut found);
+            Ok(Some(found))
+        }
+        None => Ok(None),
     }
 }

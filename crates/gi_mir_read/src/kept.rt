@@ -1,16 +1,13 @@
 //! What counts of a line of a block.
 
-ghost use Rattle.std.specs.Prelude.{◌≡◌, ◌≤◌, IfOk, drop, length};
+ghost use Rattle.std.specs.Prelude.{◌≡◌, ◌≤◌, drop, length, take};
 ghost use Rattle.gi_spelling.specs.Items.{what_in};
 ghost use Rattle.gi_spelling.specs.Kept.{is_note, is_probable, kept, turn, turn_alone, turn_of_two, turn_of_three};
 ghost use Rattle.gi_spelling.specs.declared.kept.Next.TheVariants.{Past};
 ghost use Rattle.gi_mir_read.specs.Turns.{first_turn, turn_after};
 
-use crate::list::push;
-use gi_llt::Memory;
 use gi_spelling::kept::{Next, Turn};
 use gi_spelling::token::{Item, What, Word};
-use std::alloc::Global;
 
 /// The token is kept or not, and so many that follow are passed over.
 fn past(keeps: bool, count: usize) -> Turn
@@ -121,7 +118,7 @@ fn turn_after(next: Next, items: &[Item]) -> Turn
 }
 
 /// The tokens from a place on.
-fn from_place(items: &[Item], place: usize) -> &[Item]
+pub(crate) fn from_place(items: &[Item], place: usize) -> &[Item]
     requires { place ≤ length items.now }
     ensures { result.now ≡ drop place items.now }
 {
@@ -129,18 +126,28 @@ fn from_place(items: &[Item], place: usize) -> &[Item]
     rest
 }
 
-/// The tokens that count of a line of a block.
-pub(crate) fn kept(alloc: Global, items: &[Item]) -> Result<Vec<Item>, Memory>
-    ensures { IfOk result (λ found. found.items ≡ kept what_in items.now) }
+/// Moves the tokens that count to the front, in their order, and answers how many they are.
+fn gather(items: &mut [Item]) -> usize
+    ensures within { result ≤ length items.new }
+    ensures kept { take result items.new ≡ kept what_in items.old }
 {
-    let mut found = Vec::new(alloc);
+    let mut count = 0;
     let mut next = Next::Past(0);
-    for (place, item) in items.iter().enumerate() {
+    for place in 0..items.len() {
         let turn = turn_after(next, from_place(items, place));
         if turn.keeps {
-            push(&mut found, *item)?;
+            items[count] = items[place];
+            count += 1;
         }
         next = turn.next;
     }
-    Ok(found)
+    count
+}
+
+/// Keeps the tokens that count of a line of a block.
+pub(crate) fn keep(items: &mut Vec<Item>)
+    ensures { items.new.items ≡ kept what_in items.old.items }
+{
+    let count = gather(items.as_mut_slice());
+    items.truncate(count);
 }

@@ -1,7 +1,12 @@
 //! Reading Machine IR: from a text to the module that it spells, or to its first line that spells nothing.
 #![tactic(auto)]
 
+mod block;
+mod definition;
 mod document_lines;
+mod entry;
+mod faults;
+mod instr;
 mod ir;
 mod items;
 mod kept;
@@ -9,9 +14,12 @@ mod keys;
 mod line_bytes;
 mod lines;
 mod list;
+mod memory;
 mod number;
 mod parts;
 mod sections;
+mod source;
+mod split;
 mod stop;
 mod values;
 mod what;

@@ -3,6 +3,7 @@ pub mod BlockLines
 pub mod Blocks
 pub mod Documents
 pub mod InstrPieces
+pub mod NamedLemmas
 pub mod PrintExamples
 pub mod SpellingExamples
 pub mod StatedLines

@@ -5,7 +5,7 @@
 --       liveins: $x10, $x11
 --       instructions
 use Rattle.std.specs.Prelude.{ℕ, zero, suc, Bool, true, false, not, ◌&&◌, List, [], ◌∷◌, ◌++◌, Option, Some, None, Ok, Err, map, filter, filter_map, flat_map, fold, find, option_map, nat_eq, ◌==◌, if◌then◌else◌, unwrap_or}
-use Rattle.std.specs.List.{list_all, list_any}
+use Rattle.std.specs.List.{list_any}
 use Rattle.std.specs.Option.{option_map_or}
 use Rattle.gi_llt.specs.declared.Llt.{Llt}
 use Rattle.gi_mir.specs.declared.operand.Kind.{Kind}
@@ -25,6 +25,7 @@ use Rattle.gi_spelling.specs.declared.written.Fault.{Fault}
 use Rattle.gi_spelling.specs.declared.written.ListKind.{ListKind}
 use Rattle.gi_spelling.specs.declared.written.ListKind.TheVariants.{Successors, Liveins}
 use Rattle.gi_spelling.specs.declared.written.Fault.TheVariants as fault
+use Rattle.gi_spelling.specs.declared.written.Shown.{Shown}
 use Rattle.gi_spelling.specs.declared.written.Wrong.{Wrong}
 use Rattle.gi_spelling.specs.Lines.{Line, Section, Sections, sections_of}
 use Rattle.gi_spelling.specs.Items.{kept_items}
@@ -188,12 +189,7 @@ with_list place lists Liveins items = with_liveins place lists (read_liveins ite
 
 -- ══ The lines under a head ══
 
--- the types that the uses of a line show
-pub record Shown : Type 0 where
-  pub line : ℕ
-  pub types : List (Reg × Llt)
-
--- what is read of a block so far: its lists, its instructions and the types that each shows, whether one has been
+-- what is read of a block so far: its lists, its instructions and the types that their uses show, whether one has been
 -- read, and what is wrong
 pub record Body : Type 0 where
   pub lists : Lists
@@ -227,9 +223,13 @@ typed_use other = None
 abbrev pub shown_types : WrittenData → List (Reg × Llt)
 shown_types written = filter_map typed_use written.sources
 
+-- a type that a use on a line shows
+abbrev pub shown_at : ℕ → Reg × Llt → Shown
+shown_at line shown = record { line = line; reg = shown.0; ty = shown.1 }
+
 abbrev pub with_resolved : Body → Line → WrittenData → Option InstrData → Body
 with_resolved body line written None = with_wrong body line fault.Syntax
-with_resolved body line written (Some instr) = record body { instrs = body.instrs ++ (instr ∷ []); shown = body.shown ++ (record { line = line.number; types = shown_types written } ∷ []) }
+with_resolved body line written (Some instr) = record body { instrs = body.instrs ++ (instr ∷ []); shown = body.shown ++ map (shown_at line.number) (shown_types written) }
 
 abbrev pub with_written : (text : List ℕ) → Tables → Body → Line → Read WrittenData → Body
 with_written text tables body line (Ok written) = with_resolved body line written (resolved tables written line.number)
@@ -295,11 +295,8 @@ has_type (Some own) ty = same_type own ty
 abbrev pub type_of_register : List (ℕ × Kind) → Reg → Option Llt
 type_of_register kinds reg = option_map_or type_of_kind (first_kind kinds reg) None
 
-abbrev pub is_shown_right : List (ℕ × Kind) → Reg × Llt → Bool
-is_shown_right kinds shown = has_type (type_of_register kinds shown.0) shown.1
-
 abbrev pub shown_wrong : List (ℕ × Kind) → Shown → Option Wrong
-shown_wrong kinds shown = if list_all (is_shown_right kinds) shown.types then None else Some (wrong shown.line fault.Syntax)
+shown_wrong kinds shown = if has_type (type_of_register kinds shown.reg) shown.ty then None else Some (wrong shown.line fault.Syntax)
 
 abbrev pub shown_wrongs : List Body → List Wrong
 shown_wrongs bodies = filter_map (shown_wrong (kinds_in bodies)) (flat_map (λ body. body.shown) bodies)

@@ -102,6 +102,14 @@ pub struct Wrong {
     pub fault: Fault,
 }
 
+/// A type that a use shows, and the line that it stands on.
+#[derive(Clone, Copy, Debug, PartialEq, Eq)]
+pub struct Shown {
+    pub line: u32,
+    pub reg: Reg,
+    pub ty: Llt,
+}
+
 /// What stands behind the key of a list: nothing, `[]` or something else.
 #[derive(Clone, Copy, Debug, PartialEq, Eq)]
 pub enum ListValue {
@@ -122,6 +130,13 @@ pub enum EntryState {
     /// In a value that is passed over, so many brackets deep.
     Passing(usize),
     AtEnd,
+}
+
+/// An entry as far as it is read.
+#[derive(Clone, Copy, Debug, PartialEq, Eq)]
+pub struct Entry {
+    pub state: EntryState,
+    pub fields: Fields,
 }
 
 /// Whether an entry is one of `registers` or one of `stack`.

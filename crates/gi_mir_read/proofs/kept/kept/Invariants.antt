@@ -1,8 +1,0 @@
-use Rattle.std.proofs.Common.{◌≡◌, ◌++◌, drop}
-use Rattle.gi_spelling.specs.Items.{what_in}
-use Rattle.gi_spelling.specs.Kept.{kept, kept_past}
-use Rattle.gi_mir_read.proofs.kept.kept.Given as goal
-
--- the tokens so far, before those that count of what is left
-abbrev pub invariant-loop-place : goal.invariant-loop-place
-invariant-loop-place l = l.found.items ++ kept_past what_in l.next (drop l.place l.items) ≡ kept what_in l.items
