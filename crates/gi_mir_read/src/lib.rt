@@ -17,6 +17,7 @@ mod list;
 mod memory;
 mod number;
 mod parts;
+mod registers;
 mod sections;
 mod source;
 mod split;
