@@ -16,6 +16,7 @@ mod lines;
 mod list;
 mod memory;
 mod number;
+mod objects;
 mod parts;
 mod registers;
 mod sections;
