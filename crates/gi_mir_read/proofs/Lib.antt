@@ -10,3 +10,4 @@ pub mod TableLemmas
 pub mod KeyLemmas
 pub mod CountLemmas
 pub mod TextLemmas
+pub mod GroupLemmas

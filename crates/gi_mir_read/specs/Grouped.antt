@@ -1,5 +1,5 @@
 -- An entry of `stack` by its lines.
-use Rattle.std.specs.Prelude.{ℕ, zero, suc, List, [], ◌∷◌, Option, Some, if◌then◌else◌}
+use Rattle.std.specs.Prelude.{ℕ, suc, List, [], ◌∷◌, Option, Some, if◌then◌else◌}
 use Rattle.gi_spelling.specs.declared.token.Item.{Item}
 use Rattle.gi_spelling.specs.Documents.{Group, ends_entry, joined}
 use Rattle.gi_spelling.specs.Items.{items_of_line}

@@ -1,12 +1,13 @@
 //! The entries of `stack`, each of which goes on over lines up to one with a closing brace.
 
-ghost use Rattle.std.specs.Prelude.{◌≡◌, ◌≢◌, ◌-◌, ◌<◌, ◌≤◌, ◌^◌, ◌++◌, [], ◌∷◌, Ok, Some, All, IfOk, OnOk, fold, length, option_map};
+ghost use Rattle.std.specs.Prelude.{◌≡◌, ℕ, List, ◌-◌, ◌<◌, ◌≤◌, ◌^◌, ◌++◌, [], ◌∷◌, Ok, Some, All, IfOk, OnOk, fold, length, option_map};
 ghost use Rattle.std.specs.List.{list_any};
 ghost use Rattle.std.specs.Option.{option_to_list};
 ghost use Rattle.gi_spelling.specs.Documents.{brace_by, ends_entry, groups_of, lower, object_at, object_by, object_wrong, object_wrongs, objects_from};
 ghost use Rattle.gi_mir_read.specs.Grouped.{group_at, group_size, items_in_group, last_in};
 ghost use Rattle.gi_mir_read.specs.Placed.{IsLineIn, lines_at};
 
+use crate::document_lines::last_number;
 use crate::entry::read_entry;
 use crate::lines::Line;
 use crate::list::push;
@@ -45,6 +46,7 @@ fn group_size(alloc: Global, text: &[u8], lines: &[Line]) -> Result<usize, Memor
     requires within { All (IsLineIn text.now) lines.now }
     requires short { length text.now < 2 ^ 32 - 1 }
     ensures size { IfOk result (λ size. size ≡ group_size text.now (lines_at text.now lines.now)) }
+    ensures some { IfOk result (λ size. 0 < length lines.now → 0 < size) }
     ensures within { IfOk result (λ size. size ≤ length lines.now) }
 {
     for (place, line) in lines.iter().enumerate() {
@@ -129,4 +131,82 @@ fn object_at(
         },
         None => Ok(None),
     }
+}
+
+/// Adds the object of an entry.
+fn append_object(objects: &mut Vec<StackObject>, object: Option<StackObject>) -> Result<(), Memory>
+    ensures { OnOk result (objects.new.items ≡ objects.old.items ++ option_to_list object) }
+{
+    match object {
+        Some(object) => push(objects, object),
+        None => Ok(()),
+    }
+}
+
+/// The stack objects, in order.
+pub(crate) fn objects(
+    alloc: Global,
+    text: &[u8],
+    lines: &[Line],
+) -> Result<Vec<StackObject>, Memory>
+    requires within { All (IsLineIn text.now) lines.now }
+    requires short { length text.now < 2 ^ 32 - 1 }
+    ensures { IfOk result (λ objects. objects.items ≡ objects_from 0 (groups_of text.now (lines_at text.now lines.now))) }
+{
+    let mut objects = Vec::new(alloc);
+    let mut rest = lines;
+    let mut place = 0;
+    while !rest.is_empty() {
+        let size = group_size(alloc, text, rest)?;
+        let (group, later) = rest.split_at(size);
+        let object = object_at(alloc, text, place, group)?;
+        append_object(&mut objects, object)?;
+        rest = later;
+        place += 1;
+    }
+    Ok(objects)
+}
+
+/// The number of the last of these lines.
+fn last_in(lines: &[Line]) -> u32
+    ensures { (text : List ℕ) → result ≡ last_in (lines_at text lines.now) }
+{
+    match lines {
+        [] => 0,
+        [first, more @ ..] => last_number(*first, more),
+    }
+}
+
+/// Notes an entry of these lines that is no object.
+fn note_object(object: Option<StackObject>, lines: &[Line], lowest: &mut Lowest)
+    ensures { (text : List ℕ) → lowest.new ≡ fold lower lowest.old (object_wrong (last_in (lines_at text lines.now)) object) }
+{
+    match object {
+        Some(_) => {}
+        None => lowest.note(last_in(lines), Fault::Syntax),
+    }
+}
+
+/// Notes each entry that is no object of its place.
+pub(crate) fn note_objects(
+    alloc: Global,
+    text: &[u8],
+    lines: &[Line],
+    lowest: &mut Lowest,
+) -> Result<(), Memory>
+    requires within { All (IsLineIn text.now) lines.now }
+    requires short { length text.now < 2 ^ 32 - 1 }
+    ensures { OnOk result (lowest.new ≡ fold lower lowest.old (object_wrongs 0 (groups_of text.now (lines_at text.now lines.now)))) }
+{
+    let mut rest = lines;
+    let mut place = 0;
+    while !rest.is_empty() {
+        let size = group_size(alloc, text, rest)?;
+        let (group, later) = rest.split_at(size);
+        let object = object_at(alloc, text, place, group)?;
+        note_object(object, group, lowest);
+        rest = later;
+        place += 1;
+    }
+    Ok(())
 }
