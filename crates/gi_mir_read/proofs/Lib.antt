@@ -11,3 +11,4 @@ pub mod KeyLemmas
 pub mod CountLemmas
 pub mod TextLemmas
 pub mod GroupLemmas
+pub mod EntryLemmas

@@ -4,6 +4,7 @@
 mod block;
 mod definition;
 mod document_lines;
+mod entries;
 mod entry;
 mod faults;
 mod instr;
