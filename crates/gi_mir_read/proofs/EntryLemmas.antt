@@ -1,6 +1,6 @@
 -- What is wrong with the entries of a document, entry by entry.
-use Rattle.std.proofs.Common.{◌≡◌, ℕ, List, [], ◌∷◌, ◌++◌, refl, sym, ap, ◌∙◌, subst, append_assoc}
-use Rattle.std.specs.Prelude.{Option, fold}
+use Rattle.std.proofs.Common.{◌≡◌, ℕ, true, false, List, [], ◌∷◌, ◌++◌, refl, sym, ap, ◌∙◌, subst, append_assoc}
+use Rattle.std.specs.Prelude.{Option, Some, None, Result, Ok, Err, OnOk, is_some, fold}
 use Rattle.std.proofs.lemmas.Grind.{fold-append}
 use Rattle.std.proofs.lemmas.List.{append-nil}
 use Rattle.gi_spelling.specs.declared.written.Wrong.{Wrong}
@@ -38,3 +38,15 @@ pub all_noted : (text : List ℕ) (all left : List lines.Section) (old now : Opt
 all_noted text all left old now firsts none so_far =
     let same : so_far.earlier ≡ all = sym (append-nil so_far.earlier) ∙ ap (λ xs. so_far.earlier ++ xs) (sym none) ∙ so_far.split in
     (subst (λ (xs : List lines.Section). AreFirsts text xs firsts) same so_far.are, ap (λ xs. fold lower now (entries_wrongs text so_far.earlier xs)) (sym none) ∙ so_far.noted)
+
+pub some_is : {X : Type 0} (o : Option X) → true ≡ is_some o → (x : X) × (o ≡ Some x)
+some_is None is = cc
+some_is (Some x) is = (x, refl)
+
+pub none_is : {X : Type 0} (o : Option X) → false ≡ is_some o → o ≡ None
+none_is None is = refl
+none_is (Some x) is = cc
+
+pub on_ok : {X E : Type 0} (r : Result X E) (P Q : Type 0) → (P → Q) → OnOk r P → OnOk r Q
+on_ok (Ok x) P Q then p = then p
+on_ok (Err e) P Q then p = tt

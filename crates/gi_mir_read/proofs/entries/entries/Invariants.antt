@@ -1,9 +1,6 @@
-use Rattle.std.proofs.Common.{◌≡◌, ◌+◌, ◌≤◌, ◌++◌, [], List, length}
-use Rattle.std.specs.Prelude.{All, fold}
-use Rattle.gi_spelling.specs.Documents.{entries_wrongs, lower}
-use Rattle.gi_spelling.specs.Lines.{Section}
+use Rattle.std.proofs.Common.{◌≡◌, [], length}
+use Rattle.std.specs.Prelude.{All}
 use Rattle.gi_mir_read.specs.declared.sections.Mark.TheVariants.{Entry}
-use Rattle.gi_mir_read.specs.Keyed.{AreFirsts}
 use Rattle.gi_mir_read.specs.Placed.{IsLineIn}
 use Rattle.gi_mir_read.specs.Sectioned.{sections_in}
 use Rattle.gi_mir_read.proofs.EntryLemmas.{IsNotedUpTo}
