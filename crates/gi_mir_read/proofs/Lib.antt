@@ -4,6 +4,7 @@ pub mod RunCuts
 pub mod SectionCuts
 pub mod PartCuts
 pub mod KeptLemmas
+pub mod NamingLemmas
 pub mod NumberLemmas
 pub mod SplitLemmas
 pub mod TableLemmas
@@ -12,3 +13,8 @@ pub mod CountLemmas
 pub mod TextLemmas
 pub mod GroupLemmas
 pub mod EntryLemmas
+pub mod ConstantLemmas
+pub mod EachLemmas
+pub mod FirstLemmas
+pub mod FormedLemmas
+pub mod MeantLemmas

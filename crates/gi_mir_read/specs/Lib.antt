@@ -10,3 +10,5 @@ pub mod Turns
 pub mod Keyed
 pub mod Texts
 pub mod Grouped
+pub mod Numbered
+pub mod Meant

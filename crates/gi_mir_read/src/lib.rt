@@ -1,7 +1,9 @@
 //! Reading Machine IR: from a text to the module that it spells, or to its first line that spells nothing.
 #![tactic(auto)]
 
+mod access;
 mod block;
+mod constant;
 mod definition;
 mod document_lines;
 mod entries;
@@ -16,14 +18,18 @@ mod line_bytes;
 mod lines;
 mod list;
 mod memory;
+mod naming;
 mod number;
+mod numbering;
 mod objects;
 mod parts;
 mod registers;
+mod resolve;
 mod sections;
 mod source;
 mod split;
 mod stop;
+mod tables;
 mod values;
 mod what;
 mod word;
