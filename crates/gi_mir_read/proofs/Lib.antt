@@ -9,6 +9,10 @@ pub mod NumberLemmas
 pub mod SplitLemmas
 pub mod TableLemmas
 pub mod KeyLemmas
+pub mod CountLemmas
+pub mod TextLemmas
+pub mod GroupLemmas
+pub mod EntryLemmas
 pub mod ConstantLemmas
 pub mod EachLemmas
 pub mod FirstLemmas

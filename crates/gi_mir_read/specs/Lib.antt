@@ -8,5 +8,7 @@ pub mod Splits
 pub mod Stops
 pub mod Turns
 pub mod Keyed
+pub mod Texts
+pub mod Grouped
 pub mod Numbered
 pub mod Meant
