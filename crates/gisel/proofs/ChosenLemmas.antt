@@ -1,7 +1,7 @@
 -- What the first of several words sets.
-use Rattle.std.proofs.Common.{◌≡◌, ℕ, ◌-◌, ◌≤◌, Bool, true, false, List, [], ◌∷◌, Some, Result, length, take, drop, get_or, map, refl, ap, ap₂, sym, ◌∙◌, arith, if◌then◌else◌}
+use Rattle.std.proofs.Common.{◌≡◌, ℕ, ◌-◌, ◌≤◌, Bool, true, false, List, [], ◌∷◌, Some, length, take, drop, get_or, map, refl, ap, ap₂, sym, ◌∙◌, arith, if◌then◌else◌}
 use Rattle.std.proofs.lemmas.List.{take_all}
-use Rattle.gisel.specs.Options.{Choice, takes_next, with_setting, setting_at, first_setting, chosen, chosen_then}
+use Rattle.gisel.specs.Options.{Choice, takes_next, with_setting, setting_at, first_setting, chosen}
 use Rattle.gisel.specs.declared.options.Setting.{Setting}
 
 -- all but the first

@@ -314,13 +314,7 @@ fn file_name(name: Option<&str>) -> Option<&str>
     ensures { option_copied result ≡ file_name (option_copied name.entry) }
 {
     match name {
-        Some(name) => {
-            if name == "-" {
-                None
-            } else {
-                Some(name)
-            }
-        }
+        Some(name) => { if name == "-" { None } else { Some(name) } }
         None => None,
     }
 }
@@ -360,3 +354,6 @@ impl<'a> Options<'a> {
         })
     }
 }
+
+#[cfg(test)]
+mod tests;
