@@ -2,6 +2,7 @@ pub mod AddRuns
 pub mod BodyLemmas
 pub mod BuildLemmas
 pub mod ClassedRuns
+pub mod ChosenLemmas
 pub mod CompileLaws
 pub mod DigitsLemmas
 pub mod FrontLemmas
