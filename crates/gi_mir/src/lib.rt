@@ -17,6 +17,7 @@ mod place;
 pub mod routine;
 pub mod row;
 pub mod stage;
+#[cfg(test)]
 mod table_tests;
 pub mod types;
 pub mod typing;

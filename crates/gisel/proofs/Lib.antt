@@ -1,8 +1,8 @@
 pub mod AddRuns
 pub mod BodyLemmas
 pub mod BuildLemmas
-pub mod ClassedRuns
 pub mod ChosenLemmas
+pub mod ClassedRuns
 pub mod CompileLaws
 pub mod DigitsLemmas
 pub mod FrontLemmas
