@@ -1,9 +1,8 @@
 -- Lists of ids in layout order.
-use Rattle.std.proofs.Common.{◌≡◌, ◌≢◌, ℕ, zero, suc, ◌+◌, ◌<◌, ◌≤◌, Bool, true, false, not, ◌&&◌, ◌||◌, cond, List, [], ◌∷◌, ◌++◌, Option, Some, None, ◌⊎◌, inl, inr, ⊎_elim, length, take, drop, get_or, set, refl, sym, subst, ap, ◌∙◌, arith, eqb-true, eq-eqb}
-use Rattle.std.specs.Prelude.{insert, slice_get, ◌==◌, map, filter}
+use Rattle.std.proofs.Common.{◌≡◌, ℕ, zero, suc, ◌<◌, ◌≤◌, Bool, true, false, not, ◌||◌, cond, List, [], ◌∷◌, ◌++◌, length, take, drop, get_or, set, refl, ap, arith, eq-eqb}
+use Rattle.std.specs.Prelude.{insert, ◌==◌, map}
 use Rattle.std.specs.List.{list_any}
-use Rattle.std.specs.List.Sorted.{IsPartitionedBy, IsPartitionPoint}
-use Rattle.std.proofs.lemmas.Bool.Decides.{nat_tests}
+use Rattle.std.specs.List.Sorted.{IsPartitionPoint}
 use Rattle.gi_mir.specs.declared.block.InstrId.{InstrId}
 use Rattle.gi_mir.specs.Mentions.{has_at, noted, without}
 

@@ -1,10 +1,8 @@
 -- Where the instructions stand, and what an edit does to their places.
 use Rattle.std.proofs.Common.{◌≡◌, ℕ, zero, suc, ◌+◌, ◌<◌, ◌≤◌, ◌≢◌, Bool, true, false, not, ◌||◌, cond, List, [], ◌∷◌, ◌++◌, Option, Some, None, ◌⊎◌, ⊎_elim, ◌↔◌, length, take, drop, get_or, set, refl, sym, subst, ap, ◌∙◌, arith, eqb-true, eq-eqb}
-use Rattle.std.specs.Prelude.{insert, remove, slice_get, option_map, ◌==◌, IsTrue, Contains, map, unwrap_or}
-use Rattle.std.specs.List.{list_any, position_or_len, sum_by}
+use Rattle.std.specs.Prelude.{insert, remove, slice_get, ◌==◌, IsTrue, Contains, map}
+use Rattle.std.specs.List.{list_any, sum_by}
 use Rattle.std.proofs.lemmas.Bool.{cases_eq}
-use Rattle.std.proofs.lemmas.Bool.Decides.{nat_tests}
-use Rattle.std.proofs.lemmas.Option.{slice_get_within, get_or_from_slice_get, slice_get-get_or}
 use Rattle.std.proofs.lemmas.List.{get_or-set_same, get_or-set_other, length-set}
 use Rattle.std.proofs.lemmas.List.Sums.{sum_by-cons, get_or-le-sum_by}
 use Rattle.std.proofs.Math.Seq.{take-append_seam, take-length, drop-length}

@@ -1,10 +1,9 @@
 -- The lists of those that mention a register, as one instruction in layout changes.
-use Rattle.std.proofs.Common.{◌≡◌, ◌≢◌, ℕ, zero, suc, ◌+◌, ◌<◌, ◌≤◌, Bool, true, false, not, ◌&&◌, ◌||◌, cond, List, [], ◌∷◌, ◌++◌, Option, Some, None, ◌⊎◌, inl, inr, ⊎_elim, length, take, drop, get_or, set, refl, sym, subst, ap, ◌∙◌, arith, add-one, eqb-true, eq-eqb, append_assoc}
-use Rattle.std.specs.Prelude.{slice_get, option_map, insert, remove, ◌==◌, map, filter, nat_lt}
+use Rattle.std.proofs.Common.{◌≡◌, ◌≢◌, ℕ, zero, suc, ◌+◌, ◌<◌, ◌≤◌, Bool, true, false, not, ◌&&◌, ◌||◌, cond, List, [], ◌∷◌, ◌++◌, Option, Some, ◌⊎◌, inl, inr, ⊎_elim, length, take, drop, get_or, set, refl, sym, ap, ◌∙◌, arith, eq-eqb, append_assoc}
+use Rattle.std.specs.Prelude.{slice_get, option_map, insert, remove, ◌==◌, map, filter}
 use Rattle.std.specs.List.{list_any}
 use Rattle.std.specs.Option.{option_map_or}
 use Rattle.std.specs.List.Sorted.{IsPartitionedBy}
-use Rattle.std.proofs.lemmas.Bool.{cases_eq}
 use Rattle.std.proofs.lemmas.Bool.Decides.{nat_tests, eqb_tells}
 use Rattle.std.proofs.lemmas.List.{map-append, get_or-drop, take-append-drop}
 use Rattle.std.proofs.lemmas.Option.{slice_get_within}
@@ -15,8 +14,8 @@ use Rattle.gi_mir.specs.declared.operand.Operand.{Operand}
 use Rattle.gi_mir.specs.declared.place.Place.{Place}
 use Rattle.gi_mir.specs.Data.{InstrData, BlockData}
 use Rattle.gi_mir.specs.Edit.{empty_block, all_instrs, changed_at, block_changed_at}
-use Rattle.gi_mir.specs.Places.{place, comes_before, nth_id, id_in, HasPlaces}
-use Rattle.gi_mir.specs.Mentions.{is_mention, mentions, instr_id, mentioning, precedes, noted, without, listed, HasSameLists, IsSorted, Lacks, IsNoted, IsForgotten}
+use Rattle.gi_mir.specs.Places.{place, comes_before, id_in, HasPlaces}
+use Rattle.gi_mir.specs.Mentions.{is_mention, mentions, instr_id, mentioning, precedes, noted, without, listed, IsSorted, Lacks, IsNoted, IsForgotten}
 use Rattle.gi_mir.proofs.Lists.{without-fresh}
 
 -- ---- what holds of each element

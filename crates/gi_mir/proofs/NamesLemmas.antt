@@ -1,5 +1,5 @@
 -- The names of a map's keys: where a name stands, and a name that is added.
-use Rattle.std.proofs.Common.{◌≡◌, ℕ, ◌+◌, ◌<◌, ◌≤◌, Bool, true, false, not, List, [], ◌∷◌, ◌++◌, Option, Some, None, ◌⊎◌, ⊎_elim, cond, length, map, nat_lt, position, refl, ap, ◌∙◌, sym, arith, ltb-true}
+use Rattle.std.proofs.Common.{◌≡◌, ℕ, ◌+◌, ◌<◌, ◌≤◌, Bool, true, false, not, List, [], ◌∷◌, ◌++◌, Some, None, ◌⊎◌, ⊎_elim, cond, length, map, nat_lt, position, refl, ap, ◌∙◌, sym, arith, ltb-true}
 use Rattle.std.specs.Prelude.{String, string_bytes, bytes_eq}
 use Rattle.std.specs.List.{prefix_len, position_or_len}
 use Rattle.std.proofs.Math.Seq.{get_or-append_seam}

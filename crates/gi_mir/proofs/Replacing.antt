@@ -1,10 +1,9 @@
 -- Uses that are replaced one instruction after another, in layout order.
-use Rattle.std.proofs.Common.{◌≡◌, ◌≢◌, ℕ, zero, suc, ◌+◌, ◌-◌, ◌<◌, ◌≤◌, Bool, true, false, not, ◌&&◌, ◌||◌, cond, List, [], ◌∷◌, ◌++◌, Option, Some, None, ◌⊎◌, inl, inr, ⊎_elim, length, take, drop, get_or, set, refl, sym, subst, ap, ap₂, ◌∙◌, arith, eq-eqb, eqb-true, max, true≢false}
+use Rattle.std.proofs.Common.{◌≡◌, ◌≢◌, ℕ, zero, suc, ◌+◌, ◌-◌, ◌<◌, ◌≤◌, Bool, true, false, not, ◌&&◌, ◌||◌, cond, List, [], ◌∷◌, ◌++◌, Option, Some, ◌⊎◌, inl, inr, ⊎_elim, length, take, drop, get_or, set, refl, sym, ap, ap₂, ◌∙◌, arith, eq-eqb, eqb-true, max, true≢false}
 use Rattle.std.proofs.lemmas.Bool.Decides.{nat_tests}
 use Rattle.std.specs.Prelude.{slice_get, option_map, ◌==◌, map, filter}
 use Rattle.std.specs.List.{list_any}
 use Rattle.std.proofs.lemmas.List.{map-append, take-map, length-append}
-use Rattle.std.proofs.lemmas.Option.{slice_get_within}
 use Rattle.std.proofs.Math.Seq.{map-set_same}
 use Rattle.gi_mir.specs.declared.block.InstrId.{InstrId}
 use Rattle.gi_mir.specs.declared.mentions.Mentions.{Mentions}
@@ -19,8 +18,8 @@ use Rattle.gi_mir.specs.Tables.{IsTabled, IsFirstMention}
 use Rattle.gi_mir.specs.Uses.{operand_replaced, with_reg_replaced, instr_replaced, entry_replaced, block_replaced, frame_of, ArePartlyReplaced}
 use Rattle.gi_mir.proofs.FormedLemmas.{changed_at-suc}
 use Rattle.gi_mir.proofs.Keys.{mentions-use}
-use Rattle.gi_mir.proofs.Located.{get_or-within, id_in-within}
-use Rattle.gi_mir.proofs.Mentioned.{Each, Each-weaker, IsSplit, IsListedAs, IsSplit-at, IsListedAs-with, IsListedAs-forgotten, mentioning-parts, mentioning-append, ahead, behind, all-split-at, all-changed, Each-mentioning}
+use Rattle.gi_mir.proofs.Located.{id_in-within}
+use Rattle.gi_mir.proofs.Mentioned.{Each, Each-weaker, IsSplit, IsSplit-at, IsListedAs-forgotten, mentioning-parts, mentioning-append, ahead, behind, all-split-at, all-changed, Each-mentioning}
 use Rattle.gi_mir.proofs.Replaced.{mentions-replaced, entry_replaced-without, uses-replaced, replaced-twice}
 use Rattle.gi_mir.proofs.Tabled.{entry_of, after_note, IsTabled-changed}
 

@@ -1,11 +1,10 @@
 -- What is written down beside the blocks stays right under each edit.
-use Rattle.std.proofs.Common.{◌≡◌, ◌≢◌, ℕ, zero, suc, ◌+◌, ◌<◌, ◌≤◌, Bool, true, false, not, ◌&&◌, ◌||◌, List, [], ◌∷◌, ◌++◌, Option, Some, None, ◌⊎◌, inl, inr, ⊎_elim, length, take, drop, get_or, set, refl, sym, subst, ap, ◌∙◌, arith, eqb-true}
+use Rattle.std.proofs.Common.{◌≡◌, ℕ, zero, suc, ◌+◌, ◌<◌, ◌≤◌, Bool, true, false, not, ◌&&◌, ◌||◌, List, [], ◌∷◌, ◌++◌, Option, Some, None, ◌⊎◌, inl, inr, ⊎_elim, length, get_or, set, refl, sym, subst, ap, ◌∙◌, arith, eqb-true}
 use Rattle.std.specs.Prelude.{insert, remove, slice_get, option_map}
 use Rattle.std.specs.List.{list_any}
 use Rattle.std.specs.Option.{option_map_or}
 use Rattle.std.proofs.lemmas.Bool.Decides.{nat_tests}
-use Rattle.std.proofs.lemmas.Option.{slice_get_past}
-use Rattle.std.proofs.lemmas.List.{get_or-set_same, length-set, length-append, set-get_or}
+use Rattle.std.proofs.lemmas.List.{get_or-set_same, length-append, set-get_or}
 use Rattle.gi_mir.specs.declared.block.InstrId.{InstrId}
 use Rattle.gi_mir.specs.declared.mentions.Mentions.{Mentions}
 use Rattle.gi_mir.specs.declared.operand.Kind.{Kind}
@@ -14,14 +13,14 @@ use Rattle.gi_mir.specs.declared.operand.Operand.TheVariants as operand
 use Rattle.gi_mir.specs.declared.place.Place.{Place}
 use Rattle.gi_mir.specs.Data.{InstrData, BlockData}
 use Rattle.gi_mir.specs.Edit.{HeadData, block_with, empty_block, all_instrs, block_changed_at, changed_at, of_kind, with_kind, with_operand}
-use Rattle.gi_mir.specs.Ids.{uses_among, uses_in, AreOwnIds}
-use Rattle.gi_mir.specs.Mentions.{is_mention, is_mentioned, mention_of, operands_of, operands_at, mentions, instr_id, mentioning, precedes, listed, HasSameLists, IsNoted, IsForgotten, IsSorted, Lacks}
-use Rattle.gi_mir.specs.Places.{place, comes_before, body_at, id_in, with_inserted, with_removed, HasPlaces, HasGivenIds, HasDistinctIds, IsRenumbered}
+use Rattle.gi_mir.specs.Ids.{AreOwnIds}
+use Rattle.gi_mir.specs.Mentions.{is_mention, is_mentioned, mention_of, operands_of, operands_at, mentions, mentioning, precedes, listed, HasSameLists, IsNoted, IsForgotten, IsSorted, Lacks}
+use Rattle.gi_mir.specs.Places.{place, comes_before, body_at, id_in, with_inserted, with_removed, HasPlaces, IsRenumbered}
 use Rattle.gi_mir.specs.Tables.{IsTabled}
-use Rattle.gi_mir.proofs.Live.{or_left, or_right}
+use Rattle.gi_mir.proofs.Live.{or_right}
 use Rattle.gi_mir.proofs.FormedLemmas.{changed_at-suc}
-use Rattle.gi_mir.proofs.IdsLemmas.{AreOwnIds-set, AreOwnIds-inserted, AreOwnIds-removed, AreOwnIds-with_block, uses_among-remove, uses_among-changed_at}
-use Rattle.gi_mir.proofs.Located.{get_or-within, HasPlaces-inserted, HasPlaces-removed, HasPlaces-changed, HasPlaces-push, HasPlaces-with_block, HasGivenIds-in, HasDistinctIds-in, uses_of-id_in}
+use Rattle.gi_mir.proofs.IdsLemmas.{AreOwnIds-set, AreOwnIds-inserted, AreOwnIds-removed, AreOwnIds-with_block, uses_among-changed_at}
+use Rattle.gi_mir.proofs.Located.{get_or-within, HasPlaces-inserted, HasPlaces-removed, HasPlaces-changed, HasPlaces-push, HasPlaces-with_block, uses_of-id_in}
 use Rattle.gi_mir.proofs.Mentioned.{IsSplit, IsListedAs, IsSplit-new, IsSplit-at, IsListedAs-with, IsListedAs-without, IsListedAs-noted, IsListedAs-forgotten, IsSorted-as, Lacks-as, mentions-with, mentions-without, ahead, behind, all-split, all-split-at, all-inserted, all-removed, all-changed}
 
 -- ---- lists that say the same

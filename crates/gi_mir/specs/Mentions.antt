@@ -1,11 +1,10 @@
 -- Which instructions mention a register, and how the lists of them change.
-use Rattle.std.specs.Prelude.{◌≡◌, ◌≢◌, ℕ, ◌+◌, ◌*◌, Bool, true, false, not, List, [], ◌∷◌, Option, Some, None, ◌==◌, nat_eq, nat_lt, ◌&&◌, ◌||◌, map, filter, slice_get, if◌then◌else◌}
+use Rattle.std.specs.Prelude.{◌≡◌, ◌≢◌, ℕ, ◌+◌, ◌*◌, Bool, true, false, not, List, [], ◌∷◌, Option, Some, None, ◌==◌, nat_eq, map, filter, slice_get, if◌then◌else◌}
 use Rattle.std.specs.List.{list_any}
 use Rattle.std.specs.List.Sorted.{IsPartitionedBy}
 use Rattle.std.specs.Option.{option_map_or}
 use Rattle.indexmap.specs.IndexMap.{get}
 use Rattle.gi_mir.specs.Data.{InstrData, BlockData}
-use Rattle.gi_mir.specs.Edit.{all_instrs}
 use Rattle.gi_mir.specs.declared.block.InstrId.{InstrId}
 use Rattle.gi_mir.specs.declared.mentions.Mentions.{Mentions}
 use Rattle.gi_mir.specs.declared.operand.Operand.{Operand}

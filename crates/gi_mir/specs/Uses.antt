@@ -1,5 +1,5 @@
 -- A register whose uses become those of another.
-use Rattle.std.specs.Prelude.{◌≡◌, ℕ, ◌+◌, max, List, [], Bool, ◌==◌, map, take, drop, if◌then◌else◌}
+use Rattle.std.specs.Prelude.{◌≡◌, ℕ, ◌+◌, max, List, ◌==◌, map, take, drop, if◌then◌else◌}
 use Rattle.std.specs.List.{list_any}
 use Rattle.gi_mir.specs.Data.{InstrData, BlockData, FunctionData}
 use Rattle.gi_mir.specs.Edit.{HeadData, head_of, ids_of, all_instrs, uses}

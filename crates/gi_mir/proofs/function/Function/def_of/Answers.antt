@@ -1,5 +1,5 @@
 -- The first of those that are listed.
-use Rattle.std.proofs.Common.{◌≡◌, ◌∙◌, ap, List, ℕ}
+use Rattle.std.proofs.Common.{◌≡◌, ◌∙◌, ap, List}
 use Rattle.std.specs.Prelude.{option_map, slice_get}
 use Rattle.gi_mir.specs.declared.block.InstrId.{InstrId}
 use Rattle.gi_mir.specs.Edit.{all_instrs, definition_in}

@@ -1,5 +1,5 @@
 -- A live instruction stands at its place, and what stands at a place is live.
-use Rattle.std.proofs.Common.{◌≡◌, ◌∙◌, ap, sym, subst, Some, None, get_or}
+use Rattle.std.proofs.Common.{◌∙◌, ap, sym, subst, get_or}
 use Rattle.std.specs.Prelude.{slice_get}
 use Rattle.gi_mir.specs.Data.{FunctionData}
 use Rattle.gi_mir.specs.Edit.{has_at, empty_block}

@@ -1,6 +1,5 @@
 -- The place of a live instruction is written down.
-use Rattle.std.proofs.Common.{rules, ◌≡◌, ◌<◌, ◌∙◌, Some, ap, sym, subst, length, arith, get_or}
-use Rattle.std.specs.Prelude.{slice_get}
+use Rattle.std.proofs.Common.{rules, ◌≡◌, ◌<◌, ◌∙◌, ap, subst, length}
 use Rattle.std.proofs.lemmas.Option.{slice_get_within, get_or_from_slice_get}
 use Rattle.gi_mir.specs.Data.{FunctionData}
 use Rattle.gi_mir.specs.Edit.{home_of, place_in_block, home_block}

@@ -1,10 +1,10 @@
 -- The place of the instruction that is named is written down.
-use Rattle.std.proofs.Common.{rules, ◌≡◌, ◌<◌, ◌∙◌, Some, ap, sym, subst, length, arith}
-use Rattle.std.specs.Prelude.{Contains, IfSome}
+use Rattle.std.proofs.Common.{rules, ◌<◌, ◌∙◌, ap, subst, length, arith}
+use Rattle.std.specs.Prelude.{Contains}
 use Rattle.std.proofs.lemmas.Option.{slice_get_within, get_or_from_slice_get}
 use Rattle.gi_mir.specs.Data.{FunctionData}
-use Rattle.gi_mir.specs.Edit.{block_at, ids_of, place_of}
-use Rattle.gi_mir.specs.Places.{place, HasPlaces}
+use Rattle.gi_mir.specs.Edit.{block_at, ids_of}
+use Rattle.gi_mir.specs.Places.{HasPlaces}
 use Rattle.gi_mir.proofs.Located.{place-named, place-named-within, has_instr-Contains}
 use Rattle.gi_mir.proofs.function.Function.spot.Goals as goal
 

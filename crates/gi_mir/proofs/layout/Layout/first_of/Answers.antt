@@ -5,7 +5,7 @@ use Rattle.std.proofs.lemmas.Option.{slice_get_within, get_or_from_slice_get}
 use Rattle.gi_mir.specs.declared.block.InstrId.{InstrId}
 use Rattle.gi_mir.specs.declared.place.Place.{Place}
 use Rattle.gi_mir.specs.Edit.{all_instrs}
-use Rattle.gi_mir.specs.Mentions.{listed, mentioning}
+use Rattle.gi_mir.specs.Mentions.{mentioning}
 use Rattle.gi_mir.specs.Tables.{IsFirstMention}
 use Rattle.gi_mir.proofs.Replacing.{first_mention}
 use Rattle.gi_mir.proofs.layout.Layout.first_of.Goals as goal

@@ -1,5 +1,5 @@
 -- The ids are distinct still, those from the place on are numbered anew, and the new one is listed.
-use Rattle.std.proofs.Common.{rules, ◌≡◌, ◌∙◌, ◌+◌, ◌++◌, ◌∷◌, [], ap, set, sym, subst, length, length-set, length-append, ℕ, List}
+use Rattle.std.proofs.Common.{rules, ◌≡◌, ◌∙◌, ◌+◌, ◌++◌, ◌∷◌, [], ap, set, sym, subst, length, length-set, length-append, List}
 use Rattle.gi_mir.specs.declared.operand.Operand.{Operand}
 use Rattle.gi_mir.specs.Data.{BlockData}
 use Rattle.gi_mir.specs.Mentions.{IsNoted, precedes}

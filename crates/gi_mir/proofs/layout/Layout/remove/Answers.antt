@@ -1,6 +1,5 @@
 -- The ids are distinct still, and those behind the place are numbered anew.
 use Rattle.std.proofs.Common.{◌∙◌, ap, set, subst, length, length-set, List}
-use Rattle.gi_mir.specs.Ids.{AreOwnIds}
 use Rattle.gi_mir.specs.declared.operand.Operand.{Operand}
 use Rattle.gi_mir.specs.Data.{BlockData}
 use Rattle.gi_mir.specs.Edit.{empty_block, entry_at}

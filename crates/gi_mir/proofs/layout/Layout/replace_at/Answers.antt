@@ -1,5 +1,5 @@
 -- The new use is noted first, and the old one taken out.
-use Rattle.std.proofs.Common.{◌≡◌, ◌<◌, ◌∙◌, ap, set, sym, subst, length}
+use Rattle.std.proofs.Common.{◌∙◌}
 use Rattle.gi_mir.specs.Edit.{empty_block}
 use Rattle.gi_mir.specs.Places.{body_at}
 use Rattle.gi_mir.proofs.Located.{get_or-within, nth_id-within}

@@ -1,12 +1,8 @@
 -- One more instruction is replaced each time, until there is no use.
-use Rattle.std.proofs.Common.{◌≡◌, ◌<◌, ◌∙◌, ap, sym, subst, length, List, ℕ}
-use Rattle.std.specs.Prelude.{map}
+use Rattle.std.proofs.Common.{◌∙◌, sym, subst, List}
 use Rattle.gi_mir.specs.Data.{BlockData}
-use Rattle.gi_mir.specs.Mentions.{use_key, listed}
-use Rattle.gi_mir.specs.Places.{with_changed_at}
-use Rattle.gi_mir.specs.Tables.{IsTabled, IsFirstMention}
-use Rattle.gi_mir.specs.Uses.{instr_replaced, block_replaced}
-use Rattle.gi_mir.proofs.Replacing.{IsReplacing, IsReplacing-step, replaced-smaller, blocks_without}
+use Rattle.gi_mir.specs.Tables.{IsTabled}
+use Rattle.gi_mir.proofs.Replacing.{IsReplacing-step, replaced-smaller, blocks_without}
 use Rattle.gi_mir.proofs.layout.Layout.replace_reg.Goals as goal
 
 pub loop-id-smaller : goal.loop-id-smaller

@@ -1,9 +1,7 @@
 -- The new mention is noted first, and the old one taken out where it was the last.
-use Rattle.std.proofs.Common.{rules, ◌≡◌, ◌<◌, ◌∙◌, ap, set, sym, subst, length, length-set, List, Bool, true, false, not}
-use Rattle.gi_mir.specs.declared.place.Place.{Place}
+use Rattle.std.proofs.Common.{◌∙◌, ap, sym}
 use Rattle.gi_mir.specs.Data.{InstrData, BlockData}
 use Rattle.gi_mir.specs.Edit.{empty_block, with_operand, block_changed_at}
-use Rattle.gi_mir.specs.Mentions.{IsSorted, IsNoted, precedes}
 use Rattle.gi_mir.specs.Places.{body_at, nth_id}
 use Rattle.gi_mir.proofs.Located.{get_or-within, nth_id-changed_at, nth_id-within}
 use Rattle.gi_mir.proofs.Tabled.{IsSorted-at, IsTabled-set_operand-last, IsTabled-set_operand-more}

@@ -1,8 +1,8 @@
 -- A name that is added wasn't there.
-use Rattle.std.proofs.Common.{rules, ◌≡◌, ◌<◌, ◌+◌, ◌∙◌, sym, ap, arith, length, None, ◌++◌, ◌∷◌, [], List, ℕ}
+use Rattle.std.proofs.Common.{rules, ◌≡◌, ◌∙◌, sym, ap, arith, length, ◌++◌, ◌∷◌, [], List, ℕ}
 use Rattle.std.specs.Prelude.{string_bytes}
-use Rattle.std.proofs.lemmas.List.{length-map, length-append}
-use Rattle.gi_mir.specs.Names.{texts_of, number_of}
+use Rattle.std.proofs.lemmas.List.{length-append}
+use Rattle.gi_mir.specs.Names.{texts_of}
 use Rattle.gi_mir.proofs.NamesLemmas.{AreDistinct-append, length-texts_of}
 use Rattle.gi_mir.proofs.names.Names.number.Goals as goal
 
