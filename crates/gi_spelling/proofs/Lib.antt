@@ -14,3 +14,4 @@ pub mod ReadLines
 pub mod WrittenPieces
 pub mod WrittenParts
 pub mod WrittenLines
+pub mod Numerals
