@@ -15,3 +15,5 @@ pub mod WrittenPieces
 pub mod WrittenParts
 pub mod WrittenLines
 pub mod Numerals
+pub mod PlacedLines
+pub mod KeptLines
