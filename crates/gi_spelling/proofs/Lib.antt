@@ -17,3 +17,4 @@ pub mod WrittenLines
 pub mod Numerals
 pub mod PlacedLines
 pub mod KeptLines
+pub mod SpelledLines
