@@ -15,3 +15,7 @@ pub mod TokenLists
 pub mod WrittenLines
 pub mod WrittenParts
 pub mod WrittenPieces
+pub mod Numerals
+pub mod PlacedLines
+pub mod KeptLines
+pub mod SpelledLines

@@ -39,7 +39,7 @@ definition_no_comma (definition.Full reg (kind.Banked ty)) = refl
 definition_no_comma (definition.Full reg kind.Class) = refl
 definition_no_comma (definition.Physical number) = refl
 
-definition_no_equals : (d : Definition) → list_all no_equals (definition_whats d) ≡ true
+pub definition_no_equals : (d : Definition) → list_all no_equals (definition_whats d) ≡ true
 definition_no_equals (definition.Bare reg) = refl
 definition_no_equals (definition.Typed reg ty) = refl
 definition_no_equals (definition.Full reg (kind.Generic ty)) = refl
@@ -56,7 +56,7 @@ definition_quiet (definition.Full reg kind.Class) = refl
 definition_quiet (definition.Physical number) = refl
 
 -- a test of all tokens of a list
-all_both : (test : What → Bool) (first second : List What) → list_all test first ≡ true → list_all test second ≡ true → list_all test (first ++ second) ≡ true
+pub all_both : (test : What → Bool) (first second : List What) → list_all test first ≡ true → list_all test second ≡ true → list_all test (first ++ second) ≡ true
 all_both test [] second a b = b
 all_both test (w ∷ ws) second a b =
     let parts = and_parts (test w) (list_all test ws) a in
@@ -208,7 +208,7 @@ pub record ReadsFlags (flags : Flags) (items : List Item) (later : List What) : 
   pub behind : map what_in (read_flags items).rest ≡ later
   pub at : name_places (read_flags items).rest ≡ name_places items
 
-flags_read : (flags : Flags) (op : Opcode) (items : List Item) (more : List What) → map what_in items ≡ flags_whats flags ++ (word_what (word.Opcode op) ∷ more)
+pub flags_read : (flags : Flags) (op : Opcode) (items : List Item) (more : List What) → map what_in items ≡ flags_whats flags ++ (word_what (word.Opcode op) ∷ more)
     → ReadsFlags flags items (word_what (word.Opcode op) ∷ more)
 flags_read flags op items more e =
     let last = word_what (word.Opcode op) ∷ more in
