@@ -1,6 +1,7 @@
 //! Reading Machine IR: from a text to the module that it spells, or to its first line that spells nothing.
 #![tactic(auto)]
 
+mod block;
 mod definition;
 mod faults;
 mod instr;
@@ -17,6 +18,7 @@ mod sections;
 mod source;
 mod split;
 mod stop;
+mod told;
 mod values;
 mod what;
 mod word;
