@@ -3,6 +3,7 @@
 
 mod block;
 mod definition;
+mod entry;
 mod faults;
 mod instr;
 mod items;
