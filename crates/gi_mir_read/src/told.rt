@@ -1,11 +1,11 @@
 //! The lines of a function's blocks that say something.
 
-ghost use Rattle.std.specs.Prelude.{◌≡◌, ◌-◌, ◌<◌, ◌^◌, [], ◌++◌, All, IfOk, OnOk, Some, filter, filter_map, length, option_map};
+ghost use Rattle.std.specs.Prelude.{◌≡◌, ℕ, ◌-◌, ◌<◌, ◌≤◌, ◌^◌, List, [], ◌++◌, All, IfOk, IfSome, OnOk, MatchOption, Some, filter, length, option_map, position};
 ghost use Rattle.std.specs.List.{cons_option};
 ghost use Rattle.gi_spelling.specs.Blocks.{is_told};
 ghost use Rattle.gi_spelling.specs.Items.{kept_items};
 ghost use Rattle.gi_mir_read.specs.Placed.{IsLineIn, line_at, lines_at};
-ghost use Rattle.gi_mir_read.specs.Blocked.{IsToldIn, told_by, told_lines_at, told_of};
+ghost use Rattle.gi_mir_read.specs.Blocked.{IsCutAtBlock, IsNextBlock, IsToldIn, begins_block, blocks_of, told_by, told_lines_at, told_of};
 
 use crate::block::head_number;
 use crate::instr::is_debug_line;
@@ -85,4 +85,46 @@ pub(crate) fn told_lines(
         add(&mut told, told_of(alloc, text, *line)?)?;
     }
     Ok(told)
+}
+
+/// The place of the first line that begins a block.
+fn head_place(told: &[Told]) -> Option<usize>
+    ensures place { result ≡ position begins_block told.now }
+    ensures within { IfSome result (λ place. place < length told.now) }
+{
+    told.iter().position(|line| line.head.is_some())
+}
+
+/// The lines before the first block, and the lines from that on.
+pub(crate) fn cut_at_block(told: &[Told]) -> (&[Told], &[Told])
+    ensures cut { (text : List ℕ) → All (IsToldIn text) told.now → IsCutAtBlock text told.now result.0.now result.1.now }
+    ensures shorter { length result.1.now ≤ length told.now }
+{
+    match head_place(told) {
+        Some(place) => told.split_at(place),
+        None => (told, &[]),
+    }
+}
+
+/// The lines of a block: the line that begins it, and the lines under that.
+#[derive(Clone, Copy, Debug)]
+pub(crate) struct BlockLines<'a> {
+    pub head: Told,
+    pub under: &'a [Told],
+}
+
+/// The first block of lines that begin with one, and the lines behind it.
+pub(crate) fn next_block<'a>(told: &'a [Told]) -> Option<(BlockLines<'a>, &'a [Told])>
+    ensures next { (text : List ℕ) → All (IsToldIn text) told.now → (blocks_of text told.now).before ≡ []
+        → MatchOption result ((blocks_of text told.now).sections ≡ []) (λ p. IsNextBlock text told.now p.0.head p.0.under.now p.1.now) }
+    ensures shorter { IfSome result (λ p. length p.1.now < length told.now) }
+{
+    match told {
+        [] => None,
+        [head, rest @ ..] => {
+            let (under, later) = cut_at_block(rest);
+            let block = BlockLines { head: *head, under };
+            Some((block, later))
+        }
+    }
 }
