@@ -10,3 +10,4 @@ pub mod TableLemmas
 pub mod KeyLemmas
 pub mod ToldLemmas
 pub mod ToldCuts
+pub mod FirstLemmas

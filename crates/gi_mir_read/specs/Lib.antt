@@ -9,3 +9,4 @@ pub mod Stops
 pub mod Turns
 pub mod Keyed
 pub mod Blocked
+pub mod Numbered

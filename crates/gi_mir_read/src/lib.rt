@@ -14,6 +14,7 @@ mod lines;
 mod list;
 mod memory;
 mod number;
+mod numbering;
 mod parts;
 mod sections;
 mod source;
