@@ -11,3 +11,4 @@ pub mod KeyLemmas
 pub mod ToldLemmas
 pub mod ToldCuts
 pub mod FirstLemmas
+pub mod NoteLemmas

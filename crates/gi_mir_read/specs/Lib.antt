@@ -10,3 +10,4 @@ pub mod Turns
 pub mod Keyed
 pub mod Blocked
 pub mod Numbered
+pub mod Noted

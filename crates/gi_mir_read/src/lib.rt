@@ -13,6 +13,7 @@ mod line_bytes;
 mod lines;
 mod list;
 mod memory;
+mod notes;
 mod number;
 mod numbering;
 mod parts;

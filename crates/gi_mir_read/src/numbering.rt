@@ -15,11 +15,7 @@ use std::collections::HashMap;
 use std::marker::Model;
 
 /// Notes a value under a number, unless one stands there.
-fn note_first<V: Copy>(
-    firsts: &mut HashMap<u32, V>,
-    number: u32,
-    value: V,
-) -> Result<(), Memory>
+fn note_first<V: Copy>(firsts: &mut HashMap<u32, V>, number: u32, value: V) -> Result<(), Memory>
     ensures { OnOk result ((key : ℕ) → get nat_eq firsts.new key ≡ or_else (get nat_eq firsts.old key) (last_of number value key)) }
 {
     if firsts.contains_key(&number) {

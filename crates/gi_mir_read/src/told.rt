@@ -70,11 +70,7 @@ fn add(told: &mut Vec<Told>, found: Option<Told>) -> Result<(), Memory>
 }
 
 /// The lines that say something.
-pub(crate) fn told_lines(
-    alloc: Global,
-    text: &[u8],
-    lines: &[Line],
-) -> Result<Vec<Told>, Memory>
+pub(crate) fn told_lines(alloc: Global, text: &[u8], lines: &[Line]) -> Result<Vec<Told>, Memory>
     requires lines { All (IsLineIn text.now) lines.now }
     requires short { length text.now < 2 ^ 32 - 1 }
     ensures told { IfOk result (λ told. told_lines_at text.now told.items ≡ filter (is_told text.now) (lines_at text.now lines.now)) }
