@@ -4,11 +4,13 @@ pub mod RunCuts
 pub mod SectionCuts
 pub mod PartCuts
 pub mod KeptLemmas
+pub mod NamingLemmas
 pub mod NumberLemmas
 pub mod SplitLemmas
 pub mod TableLemmas
 pub mod KeyLemmas
 pub mod ToldLemmas
 pub mod ToldCuts
+pub mod ConstantLemmas
 pub mod FirstLemmas
 pub mod NoteLemmas

@@ -2,6 +2,7 @@
 #![tactic(auto)]
 
 mod block;
+mod constant;
 mod definition;
 mod entry;
 mod faults;
@@ -14,6 +15,7 @@ mod lines;
 mod list;
 mod memory;
 mod notes;
+mod naming;
 mod number;
 mod numbering;
 mod parts;
