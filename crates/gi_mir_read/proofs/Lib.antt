@@ -14,3 +14,4 @@ pub mod ToldCuts
 pub mod ConstantLemmas
 pub mod FirstLemmas
 pub mod NoteLemmas
+pub mod BodyLemmas

@@ -11,3 +11,5 @@ pub mod Keyed
 pub mod Blocked
 pub mod Numbered
 pub mod Noted
+pub mod Bodies
+pub mod Meant

@@ -2,6 +2,7 @@
 #![tactic(auto)]
 
 mod block;
+mod body;
 mod constant;
 mod definition;
 mod entry;
@@ -19,10 +20,12 @@ mod naming;
 mod number;
 mod numbering;
 mod parts;
+mod resolve;
 mod sections;
 mod source;
 mod split;
 mod stop;
+mod tables;
 mod told;
 mod values;
 mod what;
