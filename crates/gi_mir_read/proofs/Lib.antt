@@ -12,6 +12,9 @@ pub mod KeyLemmas
 pub mod ToldLemmas
 pub mod ToldCuts
 pub mod ConstantLemmas
+pub mod EachLemmas
 pub mod FirstLemmas
 pub mod NoteLemmas
 pub mod BodyLemmas
+pub mod FormedLemmas
+pub mod MeantLemmas

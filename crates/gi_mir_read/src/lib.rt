@@ -1,6 +1,7 @@
 //! Reading Machine IR: from a text to the module that it spells, or to its first line that spells nothing.
 #![tactic(auto)]
 
+mod access;
 mod block;
 mod body;
 mod constant;
