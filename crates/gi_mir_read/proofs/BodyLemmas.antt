@@ -11,8 +11,9 @@ use Rattle.gi_mir.specs.declared.operand.Operand.TheVariants as operand
 use Rattle.gi_spelling.specs.declared.token.Item.{Item}
 use Rattle.gi_spelling.specs.declared.written.Fault.{Fault}
 use Rattle.gi_spelling.specs.declared.written.Fault.TheVariants as fault
-use Rattle.gi_spelling.specs.Blocks.{Body, begun, shown_at, shown_types, typed_use, with_instr_line, with_resolved, with_wrong, with_written, wrong}
+use Rattle.gi_spelling.specs.Blocks.{Body, begun, shown_at, shown_types, typed_use, with_instr_line, with_line, with_resolved, with_wrong, with_written, wrong}
 use Rattle.gi_spelling.specs.Documents.{lower}
+use Rattle.gi_spelling.specs.Items.{kept_items}
 use Rattle.gi_spelling.specs.Lines.{Line}
 use Rattle.gi_spelling.specs.Named.{Extends, IsNamedInstr, IsNamedOperand}
 use Rattle.gi_spelling.specs.Reading.{read_instr}
@@ -92,28 +93,39 @@ module _ (text : List ℕ) (before : NotesData) where
 
 module _ (text : List ℕ) (old new : List (List ℕ)) (body : BodyData) (notes : NotesData) (line : Line) (written : WrittenData) (grows : Extends old new) where
   -- what a written instruction means is kept
-  pub reads-meant : (meaning : Option InstrData) (instr : InstrData) → IsMeantInstr text new meaning instr
-      → Reads text old new (λ spelled. with_resolved spelled line written meaning) body notes (with_instr body instr) (with_notes notes line.number written.sources instr.operands)
-  reads-meant meaning instr meant = record {
+  pub reads-meant : (meaning : Option InstrData) (instr : InstrData) (after : BodyData) (later : NotesData) → IsMeantInstr text new meaning instr
+      → after ≡ with_instr body instr → later ≡ with_notes notes line.number written.sources instr.operands
+      → Reads text old new (λ spelled. with_resolved spelled line written meaning) body notes after later
+  reads-meant meaning instr after later meant is_after is_later = record {
     grown = grows;
     kept = λ before spelled read.
-        rw meant.is (read-kept text before new spelled body notes line written meant.meant instr meant.named (read-grown text before old new spelled body notes grows read));
+        rw (meant.is, is_after, is_later) (read-kept text before new spelled body notes line written meant.meant instr meant.named (read-grown text before old new spelled body notes grows read));
   }
 
   -- it means nothing
-  pub reads-none : (meaning : Option InstrData) → meaning ≡ None
-      → Reads text old new (λ spelled. with_resolved spelled line written meaning) body notes body (with_lowest notes (lower notes.lowest (wrong line.number fault.Syntax)))
-  reads-none meaning none = record {
+  pub reads-none : (meaning : Option InstrData) (later : NotesData) → meaning ≡ None → later ≡ with_lowest notes (lower notes.lowest (wrong line.number fault.Syntax))
+      → Reads text old new (λ spelled. with_resolved spelled line written meaning) body notes body later
+  reads-none meaning later none is_later = record {
     grown = grows;
-    kept = λ before spelled read. rw none (read-wrong text before new spelled body notes line fault.Syntax (read-grown text before old new spelled body notes grows read));
+    kept = λ before spelled read. rw (none, is_later) (read-wrong text before new spelled body notes line fault.Syntax (read-grown text before old new spelled body notes grows read));
   }
 
 -- an instruction by how it is written
-pub reads-written : (text : List ℕ) (tables : Tables) (old new : List (List ℕ)) (body after : BodyData) (notes later : NotesData) (line : Line) (items : List Item) (written : WrittenData)
-    → read_instr items ≡ Ok written
-    → Reads text old new (λ spelled. with_resolved spelled line written (resolved tables written line.number)) (record body { begun = true }) notes after later
+pub reads-written : (text : List ℕ) (tables : Tables) (old new : List (List ℕ)) (body started after : BodyData) (notes later : NotesData) (line : Line) (items : List Item) (written : WrittenData)
+    → started ≡ record body { begun = true } → read_instr items ≡ Ok written
+    → Reads text old new (λ spelled. with_resolved spelled line written (resolved tables written line.number)) started notes after later
     → Reads text old new (λ spelled. with_instr_line text tables spelled line (Some items)) body notes after later
-reads-written text tables old new body after notes later line items written is reads = record {
+reads-written text tables old new body started after notes later line items written begins is reads = record {
   grown = reads.grown;
-  kept = λ before spelled read. rw is (reads.kept before (begun spelled) (read-begun text before old spelled body notes read));
+  kept = λ before spelled read. rw is (reads.kept before (begun spelled) (rw begins (read-begun text before old spelled body notes read)));
+}
+
+-- a line without tokens
+pub reads-blank : (text : List ℕ) (tables : Tables) (place : ℕ) (names : List (List ℕ)) (body after : BodyData) (notes later : NotesData) (line : Line)
+    → kept_items text line ≡ None
+    → Reads text names names (λ spelled. with_instr_line text tables spelled line None) body notes after later
+    → Reads text names names (λ spelled. with_line text tables place spelled line) body notes after later
+reads-blank text tables place names body after notes later line none reads = record {
+  grown = reads.grown;
+  kept = λ before spelled read. rw (none, none) (reads.kept before spelled read);
 }

@@ -189,7 +189,14 @@ impl Body {
         ensures { OnOk result (Reads site.entry.text.now names.old names.new
             (λ spelled. with_resolved spelled (line_at site.entry.text.now line) written.now (resolved site.entry.tables.now written.now line.number)) self.old notes.old self.new notes.new) }
     {
-        match resolve(site.alloc, site.text, names, site.tables, written, line.number)? {
+        match resolve(
+            site.alloc,
+            site.text,
+            names,
+            site.tables,
+            written,
+            line.number,
+        )? {
             Some(instr) => self.keep(notes, line.number, written, instr)?,
             None => notes.note(line.number, Fault::Syntax),
         }
