@@ -3,6 +3,7 @@
 
 mod access;
 mod block;
+mod body;
 mod constant;
 mod definition;
 mod document_lines;
@@ -21,6 +22,7 @@ mod lines;
 mod list;
 mod memory;
 mod naming;
+mod notes;
 mod number;
 mod numbering;
 mod objects;
@@ -32,6 +34,7 @@ mod source;
 mod split;
 mod stop;
 mod tables;
+mod told;
 mod values;
 mod what;
 mod word;
