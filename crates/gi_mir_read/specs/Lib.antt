@@ -1,8 +1,11 @@
+pub mod Blocked
+pub mod Bodies
 pub mod Depths
 pub mod Flagged
 pub mod Grouped
 pub mod Keyed
 pub mod Meant
+pub mod Noted
 pub mod Numbered
 pub mod Parted
 pub mod Placed
@@ -12,9 +15,3 @@ pub mod Splits
 pub mod Stops
 pub mod Texts
 pub mod Turns
-pub mod Keyed
-pub mod Blocked
-pub mod Numbered
-pub mod Noted
-pub mod Bodies
-pub mod Meant

@@ -4,10 +4,14 @@ pub mod Blocks
 pub mod Documents
 pub mod InstrPieces
 pub mod ItemParts
+pub mod KeptLines
 pub mod NamedLemmas
+pub mod Numerals
+pub mod PlacedLines
 pub mod PrintExamples
 pub mod ReadLines
 pub mod ReadPieces
+pub mod SpelledLines
 pub mod SpellingExamples
 pub mod StatedLines
 pub mod Texts
@@ -15,7 +19,3 @@ pub mod TokenLists
 pub mod WrittenLines
 pub mod WrittenParts
 pub mod WrittenPieces
-pub mod Numerals
-pub mod PlacedLines
-pub mod KeptLines
-pub mod SpelledLines
