@@ -1,7 +1,6 @@
 pub mod AddRuns
 pub mod BodyLemmas
 pub mod BuildLemmas
-pub mod ChosenLemmas
 pub mod ClassedRuns
 pub mod CompileLaws
 pub mod DigitsLemmas
@@ -12,7 +11,6 @@ pub mod LineLemmas
 pub mod LinesLemmas
 pub mod MachineSums
 pub mod NormalForms
-pub mod OptionLemmas
 pub mod ReadLemmas
 pub mod RefusedLemmas
 pub mod SelectFits

@@ -7,7 +7,6 @@ pub mod Header
 pub mod Lines
 pub mod Next
 pub mod NormalForm
-pub mod Options
 pub mod Promise
 pub mod Reading
 pub mod Refused

@@ -10,7 +10,6 @@ mod laws;
 mod line;
 mod lines;
 mod normal_form;
-mod options;
 mod read;
 mod refusal;
 mod select;
