@@ -145,7 +145,7 @@ colons_split (item ∷ items) rest e = chosen (is_colon item.what && begins_with
   where
     chosen : (found : Bool) → (is_colon item.what && begins_with_colon items) ≡ found
         → ((split_at_colons items).after ≡ Some rest
-          → (first second : Item) × (first.what ≡ what.Colon) × (second.what ≡ what.Colon) × (items ≡ (split_at_colons items).before ++ (first ∷ second ∷ rest)))
+        → (first second : Item) × (first.what ≡ what.Colon) × (second.what ≡ what.Colon) × (items ≡ (split_at_colons items).before ++ (first ∷ second ∷ rest)))
         → (if found then record { before = []; after = Some (without_first items) } else onto_split item (split_at_colons items)).after ≡ Some rest
         → (first second : Item) × (first.what ≡ what.Colon) × (second.what ≡ what.Colon)
         × (item ∷ items ≡ (if found then record { before = []; after = Some (without_first items) } else onto_split item (split_at_colons items)).before ++ (first ∷ second ∷ rest))

@@ -142,9 +142,9 @@ pub record IsOperand (typed : Bool) (part : List Item) (s : Source) (more later 
 other_operand : (typed : Bool) (s : Source) (part : List Item) (more later : List ℕ) → is_global s ≡ false → map what_in part ≡ source_whats s
     → name_places part ++ more ≡ later → IsOperand typed part s more later
 other_operand typed s part more later none e at = record {
-    read = other_read typed s part e none;
-    behind = sym (ap (λ places. places ++ more) (quiet_places part (source_whats s) e (source_quiet s none))) ∙ at;
-  }
+  read = other_read typed s part e none;
+  behind = sym (ap (λ places. places ++ more) (quiet_places part (source_whats s) e (source_quiet s none))) ∙ at;
+}
 
 operand_read : (typed : Bool) (s : Source) (part : List Item) (sources : List Source) (more : List ℕ) → map what_in part ≡ source_whats s
     → name_places part ++ more ≡ filter_map place_of_source (s ∷ sources) → IsOperand typed part s more (filter_map place_of_source sources)
