@@ -19,7 +19,7 @@ pub mod row;
 pub mod stage;
 #[cfg(test)]
 mod table_tests;
-pub mod types;
-pub mod typing;
 #[cfg(test)]
 mod tests;
+pub mod types;
+pub mod typing;
