@@ -28,6 +28,7 @@ mod resolve;
 mod sections;
 mod source;
 mod split;
+mod stated;
 mod stop;
 mod tables;
 mod values;
