@@ -18,3 +18,4 @@ pub mod EachLemmas
 pub mod FirstLemmas
 pub mod FormedLemmas
 pub mod MeantLemmas
+pub mod ReadLemmas
