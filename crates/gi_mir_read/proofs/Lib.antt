@@ -19,3 +19,4 @@ pub mod FirstLemmas
 pub mod FormedLemmas
 pub mod MeantLemmas
 pub mod ReadLemmas
+pub mod DocumentLemmas
