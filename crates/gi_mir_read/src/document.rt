@@ -37,6 +37,7 @@ fn function_of(
         → is_utf8 (read_document text.now sections).name ≡ true → lowest.new ≡ None → IsReadAs text.now names.new (read_document text.now sections) f) }
     ensures grown { Extends names.old names.new }
 {
+    // In work: the name, the keys, the stack objects and the blocks are put together here.
     let _alloc = alloc;
     let _text = text.len();
     let _names = names.count();
