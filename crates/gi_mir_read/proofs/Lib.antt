@@ -22,3 +22,5 @@ pub mod TableLemmas
 pub mod TextLemmas
 pub mod ToldCuts
 pub mod ToldLemmas
+pub mod ReadLemmas
+pub mod DocumentLemmas
