@@ -18,3 +18,4 @@ pub mod NoteLemmas
 pub mod BodyLemmas
 pub mod FormedLemmas
 pub mod MeantLemmas
+pub mod NamedBlocks

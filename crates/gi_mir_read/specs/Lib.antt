@@ -13,3 +13,4 @@ pub mod Numbered
 pub mod Noted
 pub mod Bodies
 pub mod Meant
+pub mod Implied

@@ -4,6 +4,7 @@
 mod access;
 mod block;
 mod body;
+mod building;
 mod constant;
 mod definition;
 mod entry;
@@ -26,6 +27,7 @@ mod sections;
 mod source;
 mod split;
 mod stop;
+mod successors;
 mod tables;
 mod told;
 mod values;
