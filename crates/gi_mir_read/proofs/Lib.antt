@@ -19,3 +19,4 @@ pub mod BodyLemmas
 pub mod FormedLemmas
 pub mod MeantLemmas
 pub mod NamedBlocks
+pub mod BlockLemmas

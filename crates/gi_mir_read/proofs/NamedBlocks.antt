@@ -6,7 +6,7 @@ use Rattle.std.specs.Option.{option_map_or, unwrap_or}
 use Rattle.std.proofs.lemmas.List.{length-set}
 use Rattle.std.proofs.lemmas.List.Elements.{All-rest}
 use Rattle.gi_mir.specs.Formed.{is_formed}
-use Rattle.gi_mir_read.specs.Bodies.{AreFormed}
+use Rattle.gi_mir_read.specs.Bodies.{AreFormed, BodyData, spelled_by}
 use Rattle.gi_mir.specs.Data.{InstrData, BlockData, FunctionData}
 use Rattle.gi_mir.specs.Edit.{HeadData, above_registers, block_at, block_with, block_with_instr, empty_block, register_above, with_block, with_instr}
 use Rattle.gi_mir.specs.declared.operand.Operand.{Operand}
@@ -16,7 +16,7 @@ use Rattle.gi_spelling.specs.Documents.{head_of_body, successors_of, with_body, 
 use Rattle.gi_spelling.specs.Named.{IsNamedBlock, IsNamedEntry, IsNamedFunction, IsNamedInstr, IsNamedOperand}
 use Rattle.gi_mir.specs.Row.{is_unconditional_op}
 use Rattle.gi_spelling.specs.Resolved.{block_place}
-use Rattle.gi_mir_read.specs.Implied.{implied_by, runs_past, with_branch, with_target}
+use Rattle.gi_mir_read.specs.Implied.{head_by, implied_by, runs_past, with_branch, with_target}
 use Rattle.gi_spelling.specs.Printed.{falls_through, implied_successors, is_branch_op, with_branches, with_place, with_targets}
 
 zip_push : {A B : Type 0} (R : A → B → Type 0) (xs : List A) (ys : List B) (x : A) (y : B) → AllZip R xs ys → R x y → AllZip R (xs ++ x ∷ []) (ys ++ y ∷ [])
@@ -190,3 +190,16 @@ inserted place f g i left rest whole is put within formed so_far =
     ( subst (λ h. place < length h.blocks) (sym put) kept
     , record { all = All-rest (λ instr. is_formed instr ≡ true) i rest left is formed.all }
     , ap (λ h. fold (with_last place) h rest) put ∙ sym (ap (fold (with_last place) f) is) ∙ so_far )
+
+-- a block that has been read is the last of its function
+pub head-is : (numbers : List ℕ) (place : ℕ) (body : BodyData) → head_by numbers place body.lists body.instrs ≡ head_of_body numbers place (spelled_by body)
+head-is numbers place body =
+    let made : List ℕ → HeadData = λ implied. record { successors = option_map_or (λ those. map (block_place numbers) those) body.lists.successors implied; liveins = unwrap_or body.lists.liveins [] } in
+    ap made (sym (implied-is place (length numbers) body.instrs))
+
+pub body-added : (numbers : List ℕ) (place : ℕ) (body whole : BodyData) (head : HeadData) (f g h : FunctionData) → place ≡ length f.blocks → body ≡ whole
+    → head ≡ head_by numbers place body.lists body.instrs → g ≡ with_block f head → h ≡ fold (with_last place) g body.instrs → h ≡ with_body numbers f (spelled_by whole)
+body-added numbers place body whole head f g h placed same made added inserted =
+    let at : BodyData → ℕ → FunctionData = λ b n. fold (with_last n) (with_block f (head_of_body numbers n (spelled_by b))) b.instrs in
+    inserted ∙ ap (λ start. fold (with_last place) start body.instrs) (added ∙ ap (with_block f) (made ∙ head-is numbers place body))
+    ∙ ap (at body) placed ∙ ap (λ b. at b (length f.blocks)) same

@@ -14,3 +14,4 @@ pub mod Noted
 pub mod Bodies
 pub mod Meant
 pub mod Implied
+pub mod ReadBlocks

@@ -3,6 +3,7 @@
 
 mod access;
 mod block;
+mod blocks;
 mod body;
 mod building;
 mod constant;
