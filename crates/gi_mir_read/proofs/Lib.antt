@@ -24,3 +24,12 @@ pub mod ToldCuts
 pub mod ToldLemmas
 pub mod ReadLemmas
 pub mod DocumentLemmas
+pub mod ConstantLemmas
+pub mod EachLemmas
+pub mod FirstLemmas
+pub mod NoteLemmas
+pub mod BodyLemmas
+pub mod FormedLemmas
+pub mod MeantLemmas
+pub mod NamedBlocks
+pub mod BlockLemmas

@@ -15,3 +15,11 @@ pub mod Splits
 pub mod Stops
 pub mod Texts
 pub mod Turns
+pub mod Keyed
+pub mod Blocked
+pub mod Numbered
+pub mod Noted
+pub mod Bodies
+pub mod Meant
+pub mod Implied
+pub mod ReadBlocks

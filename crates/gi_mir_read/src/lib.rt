@@ -3,7 +3,9 @@
 
 mod access;
 mod block;
+mod blocks;
 mod body;
+mod building;
 mod constant;
 mod definition;
 mod document;
@@ -37,6 +39,7 @@ mod source;
 mod split;
 mod stated;
 mod stop;
+mod successors;
 mod tables;
 mod told;
 mod values;
