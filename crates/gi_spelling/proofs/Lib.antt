@@ -18,3 +18,4 @@ pub mod Numerals
 pub mod PlacedLines
 pub mod KeptLines
 pub mod SpelledLines
+pub mod Zips
