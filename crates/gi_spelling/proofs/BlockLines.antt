@@ -177,7 +177,7 @@ instrs_stop kinds names (instr ∷ instrs) named =
     ap not (instr_no_list kinds names instr parts.0)
 
 -- the line of a block's head
-head_apart : (place : ℕ) → IsApart (block_head_pieces place)
+pub head_apart : (place : ℕ) → IsApart (block_head_pieces place)
 head_apart place = (decimal_words place, refl, (refl, refl, tt))
 
 abbrev pub head_line : ℕ → List ℕ
@@ -208,10 +208,10 @@ colon_ended (cell ∷ cells) = refl
 listed_after : (cells : List (List Piece)) → AllSafe cells → IsApart (mark 58 ∷ sources_pieces cells)
 listed_after cells safe = (refl, colon_ended cells, subst IsApart (append-nil (sources_pieces cells)) (sources_apart cells safe [] tt refl))
 
-successors_apart : (successors : List ℕ) → IsApart (successors_pieces successors)
+pub successors_apart : (successors : List ℕ) → IsApart (successors_pieces successors)
 successors_apart successors = (refl, refl, listed_after (block_pieces successors) (blocks_safe successors))
 
-liveins_apart : (liveins : List ℕ) → IsApart (liveins_pieces liveins)
+pub liveins_apart : (liveins : List ℕ) → IsApart (liveins_pieces liveins)
 liveins_apart liveins = (refl, refl, listed_after (physical_pieces liveins) (physicals_safe liveins))
 
 abbrev pub successors_line : List ℕ → List ℕ

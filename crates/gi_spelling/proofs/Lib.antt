@@ -19,3 +19,4 @@ pub mod PlacedLines
 pub mod KeptLines
 pub mod SpelledLines
 pub mod Zips
+pub mod PrintedTokens
