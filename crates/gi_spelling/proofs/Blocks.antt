@@ -34,11 +34,11 @@ lists_no_head true successors (number ∷ numbers) = ((successors_listed success
 lists_no_head false successors [] = tt
 lists_no_head false successors (number ∷ numbers) = ((liveins_listed (number ∷ numbers)).no_head, tt)
 
-a_list : (line : List ℕ) (is_successors : Bool) → IsListLine line is_successors → is_list_line line ≡ true
+pub a_list : (line : List ℕ) (is_successors : Bool) → IsListLine line is_successors → is_list_line line ≡ true
 a_list line true listed = or_left (lists (codes "successors") line) (lists (codes "liveins") line) listed.one
 a_list line false listed = or_right (lists (codes "successors") line) (lists (codes "liveins") line) listed.other
 
-lists_listed : (stated : Bool) (successors liveins : List ℕ) → list_all is_list_line (stated_lists stated successors liveins) ≡ true
+pub lists_listed : (stated : Bool) (successors liveins : List ℕ) → list_all is_list_line (stated_lists stated successors liveins) ≡ true
 lists_listed true successors [] = both_true (a_list _ true (successors_listed successors)) refl
 lists_listed true successors (number ∷ numbers) =
     both_true (a_list _ true (successors_listed successors)) (both_true (a_list _ false (liveins_listed (number ∷ numbers))) refl)

@@ -20,3 +20,4 @@ pub mod KeptLines
 pub mod SpelledLines
 pub mod Zips
 pub mod PrintedTokens
+pub mod BlockSpells
