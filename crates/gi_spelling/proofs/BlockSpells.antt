@@ -333,7 +333,7 @@ tells_line text line bytes both = both.placed
 tells_list : (text : List ℕ) (line : Line) (bytes : List ℕ) → TellsLine text line bytes → states_list text line ≡ is_list_line bytes
 tells_list text line bytes both = both.tells.list line both.placed
 
-tells_head : (text : List ℕ) (line : Line) (bytes : List ℕ) → TellsLine text line bytes → is_head_line text line ≡ is_block_head bytes
+pub tells_head : (text : List ℕ) (line : Line) (bytes : List ℕ) → TellsLine text line bytes → is_head_line text line ≡ is_block_head bytes
 tells_head text line bytes both = both.tells.head line both.placed
 
 headed_by : (items : List Item) (w : What) → map what_in items ≡ w ∷ what.Colon ∷ [] → is_head (Some items) ≡ true

@@ -21,3 +21,4 @@ pub mod SpelledLines
 pub mod Zips
 pub mod PrintedTokens
 pub mod BlockSpells
+pub mod TextSpells
