@@ -22,3 +22,4 @@ pub mod Zips
 pub mod PrintedTokens
 pub mod BlockSpells
 pub mod TextSpells
+pub mod StatedSpells
