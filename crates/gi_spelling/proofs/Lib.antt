@@ -23,3 +23,4 @@ pub mod PrintedTokens
 pub mod BlockSpells
 pub mod TextSpells
 pub mod StatedSpells
+pub mod SignedNumbers
