@@ -24,3 +24,4 @@ pub mod BlockSpells
 pub mod TextSpells
 pub mod StatedSpells
 pub mod SignedNumbers
+pub mod StatedTexts

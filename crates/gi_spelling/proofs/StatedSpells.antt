@@ -73,7 +73,7 @@ integer_32 = rw decimal_32 refl
 physical_10 : what_of (lexeme Physical (36 ∷ 120 ∷ decimal 10)) ≡ what.Physical 10
 physical_10 = physical_is 10 refl
 
-stated_whats : (kinds : ℕ → Kind) (names : List (List ℕ)) (line : ℕ) (s : StatedInstr) → is_small kinds s
+pub stated_whats : (kinds : ℕ → Kind) (names : List (List ℕ)) (line : ℕ) (s : StatedInstr) → is_small kinds s
     → whats (piece_lexemes (instr_pieces kinds names (stated_instr s line))) ≡ whats_of (stated_written s)
 unfolding opcode_of
 stated_whats kinds names line (CopyIn reg physical) small = rw (register_is reg small.0, scalar_32, physical_is physical small.1) refl
