@@ -19,3 +19,14 @@ pub mod TokenLists
 pub mod WrittenLines
 pub mod WrittenParts
 pub mod WrittenPieces
+pub mod Numerals
+pub mod PlacedLines
+pub mod KeptLines
+pub mod SpelledLines
+pub mod Zips
+pub mod PrintedTokens
+pub mod BlockSpells
+pub mod TextSpells
+pub mod StatedSpells
+pub mod SignedNumbers
+pub mod StatedTexts
