@@ -1,4 +1,5 @@
 pub mod RunLemmas
+pub mod NextLemmas
 pub mod NumberLemmas
 pub mod StepLemmas
 pub mod CutLemmas
