@@ -8,3 +8,4 @@ pub mod NumberLemmas
 pub mod SplitLemmas
 pub mod TableLemmas
 pub mod KeyLemmas
+pub mod TripleLemmas

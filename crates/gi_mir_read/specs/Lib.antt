@@ -7,3 +7,4 @@ pub mod Splits
 pub mod Stops
 pub mod Turns
 pub mod Keyed
+pub mod Triples

@@ -17,7 +17,10 @@ mod sections;
 mod source;
 mod split;
 mod stop;
+mod triples;
 mod values;
 mod what;
 mod word;
 mod wrongs;
+
+pub use triples::triple;
