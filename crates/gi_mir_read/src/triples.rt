@@ -97,3 +97,6 @@ pub fn triple(module: &Module) -> Option<(usize, Token)>
         None => None,
     }
 }
+
+#[cfg(test)]
+mod tests;
