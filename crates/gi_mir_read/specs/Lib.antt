@@ -8,3 +8,4 @@ pub mod Stops
 pub mod Turns
 pub mod Keyed
 pub mod Triples
+pub mod Sizes

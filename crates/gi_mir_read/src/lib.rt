@@ -14,6 +14,7 @@ mod memory;
 mod number;
 mod parts;
 mod sections;
+mod sizes;
 mod source;
 mod split;
 mod stop;
