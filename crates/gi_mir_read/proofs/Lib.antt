@@ -1,6 +1,8 @@
+pub mod BlockLemmas
 pub mod BodyLemmas
 pub mod ConstantLemmas
 pub mod CountLemmas
+pub mod DocumentLemmas
 pub mod EachLemmas
 pub mod EntryLemmas
 pub mod FirstLemmas
@@ -11,10 +13,12 @@ pub mod KeyLemmas
 pub mod LineCuts
 pub mod LineTests
 pub mod MeantLemmas
+pub mod NamedBlocks
 pub mod NamingLemmas
 pub mod NoteLemmas
 pub mod NumberLemmas
 pub mod PartCuts
+pub mod ReadLemmas
 pub mod RunCuts
 pub mod SectionCuts
 pub mod SplitLemmas
@@ -22,14 +26,4 @@ pub mod TableLemmas
 pub mod TextLemmas
 pub mod ToldCuts
 pub mod ToldLemmas
-pub mod ReadLemmas
-pub mod DocumentLemmas
-pub mod ConstantLemmas
-pub mod EachLemmas
-pub mod FirstLemmas
-pub mod NoteLemmas
-pub mod BodyLemmas
-pub mod FormedLemmas
-pub mod MeantLemmas
-pub mod NamedBlocks
-pub mod BlockLemmas
+pub mod TripleLemmas

@@ -19,8 +19,6 @@ mod items;
 mod kept;
 mod keys;
 mod line_bytes;
-#[cfg(test)]
-mod line_tests;
 mod lines;
 mod list;
 mod memory;
@@ -35,6 +33,7 @@ mod refusal;
 mod registers;
 mod resolve;
 mod sections;
+mod sizes;
 mod source;
 mod split;
 mod stated;
@@ -42,9 +41,14 @@ mod stop;
 mod successors;
 mod tables;
 mod told;
+mod triples;
 mod values;
 mod what;
 mod word;
 mod wrongs;
 
 pub use read::read_mir;
+pub use triples::triple;
+
+#[cfg(test)]
+mod line_tests;
