@@ -52,10 +52,10 @@ pub record IsLeft (text : List ℕ) (tables : Tables) (names : List (List ℕ)) 
 
 abbrev pub notes_after : (text : List ℕ) → Tables → List Section → NotesData → NotesData
 notes_after text tables sections notes = record {
-    kinds = fold with_defined notes.kinds (instrs_in (bodies_from text tables 0 sections));
-    shown = notes.shown ++ shown_in (bodies_from text tables 0 sections);
-    lowest = fold lower notes.lowest (wrongs_from text tables [] 0 sections);
-  }
+  kinds = fold with_defined notes.kinds (instrs_in (bodies_from text tables 0 sections));
+  shown = notes.shown ++ shown_in (bodies_from text tables 0 sections);
+  lowest = fold lower notes.lowest (wrongs_from text tables [] 0 sections);
+}
 
 -- the blocks are read
 pub record ReadsBlocks (text : List ℕ) (tables : Tables) (old_names new_names : List (List ℕ)) (sections : List Section) (old new : FunctionData) (old_notes new_notes : NotesData) : Type 0 where
