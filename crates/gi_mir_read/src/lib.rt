@@ -15,6 +15,8 @@ mod items;
 mod kept;
 mod keys;
 mod line_bytes;
+#[cfg(test)]
+mod line_tests;
 mod lines;
 mod list;
 mod memory;
