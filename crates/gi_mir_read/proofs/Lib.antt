@@ -11,6 +11,10 @@ pub mod TableLemmas
 pub mod KeyLemmas
 pub mod ToldLemmas
 pub mod ToldCuts
+pub mod CountLemmas
+pub mod TextLemmas
+pub mod GroupLemmas
+pub mod EntryLemmas
 pub mod ConstantLemmas
 pub mod EachLemmas
 pub mod FirstLemmas
@@ -20,3 +24,5 @@ pub mod FormedLemmas
 pub mod MeantLemmas
 pub mod NamedBlocks
 pub mod BlockLemmas
+pub mod ReadLemmas
+pub mod DocumentLemmas

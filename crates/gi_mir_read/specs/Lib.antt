@@ -9,6 +9,8 @@ pub mod Stops
 pub mod Turns
 pub mod Keyed
 pub mod Blocked
+pub mod Texts
+pub mod Grouped
 pub mod Numbered
 pub mod Noted
 pub mod Bodies
