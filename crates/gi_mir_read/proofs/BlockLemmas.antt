@@ -43,6 +43,13 @@ body-long numbers f body =
     let one : length (with_block f head).blocks ≡ suc (length f.blocks) = omega (arith, length-append f.blocks (record { successors = head.successors; liveins = head.liveins; instrs = [] } ∷ [])) in
     last-long (length f.blocks) (with_block f head) body.instrs ∙ one
 
+last-name : (place : ℕ) (f : FunctionData) (instrs : List InstrData) → (fold (with_last place) f instrs).name ≡ f.name
+last-name place f [] = refl
+last-name place f (i ∷ instrs) = last-name place (with_last place f i) instrs
+
+body-name : (numbers : List ℕ) (f : FunctionData) (body : Body) → (with_body numbers f body).name ≡ f.name
+body-name numbers f body = last-name (length f.blocks) (with_block f (head_of_body numbers (length f.blocks) body)) body.instrs
+
 module _ (text : List ℕ) (tables : Tables) (old new : List (List ℕ)) (place : ℕ) (head : Told) (under : List Told) where
   -- a block is read
   pub reads-block : (f g : FunctionData) (notes middle later : NotesData) (empty body : BodyData) → place ≡ length f.blocks
@@ -65,6 +72,7 @@ module _ (text : List ℕ) (tables : Tables) (old new : List (List ℕ)) (place 
       let spelled : Body = body_of text tables place (section_of text head under) in
       record {
         grown = reads.grown;
+        name = ap (λ h. h.name) added ∙ body-name tables.blocks f (spelled_by body);
         placed = ap (λ h. length h.blocks) added ∙ body-long tables.blocks f (spelled_by body) ∙ ap suc (sym placed);
         named = λ h named.
             subst (IsNamedFunction text new (with_body tables.blocks h spelled)) (sym added)
@@ -235,6 +243,7 @@ all-read text tables old new told outer rest f g fresh notes later before after 
     let later_is : later ≡ notes_after text tables sections start = reads.notes ∙ ap (λ those. notes_after text tables those notes) cut.back ∙ ap (notes_after text tables sections) notes_is in
     record {
       grown = reads.grown;
+      name = reads.name;
       named = λ h named. subst (λ those. IsNamedFunction text new (fold (with_body tables.blocks) h (bodies_from text tables 0 those)) g) cut.back (reads.named h named);
       lowest =
           ends ∙ ap (λ n. fold (with_shown n.kinds) n.lowest n.shown) later_is

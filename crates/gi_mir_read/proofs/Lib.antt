@@ -1,3 +1,4 @@
+pub mod BeginningLemmas
 pub mod BlockLemmas
 pub mod BodyLemmas
 pub mod ConstantLemmas
@@ -42,6 +43,7 @@ pub mod BodyLemmas
 pub mod FormedLemmas
 pub mod MeantLemmas
 pub mod NamedBlocks
+pub mod BeginningLemmas
 pub mod BlockLemmas
 pub mod ReadLemmas
 pub mod DocumentLemmas

@@ -14,10 +14,10 @@ use Rattle.gi_mir.specs.declared.operand.Operand.TheVariants as operand
 use Rattle.gi_spelling.specs.Blocks.{Body, Lists}
 use Rattle.gi_spelling.specs.Documents.{head_of_body, successors_of, with_body, with_last, without_ids}
 use Rattle.gi_spelling.specs.Named.{IsNamedBlock, IsNamedEntry, IsNamedFunction, IsNamedInstr, IsNamedOperand}
-use Rattle.gi_mir.specs.Row.{is_unconditional_op}
+use Rattle.gi_mir.specs.Row.{is_branch_op, is_unconditional_op}
 use Rattle.gi_spelling.specs.Resolved.{block_place}
 use Rattle.gi_mir_read.specs.Implied.{head_by, implied_by, runs_past, with_branch, with_target}
-use Rattle.gi_spelling.specs.Printed.{falls_through, implied_successors, is_branch_op, with_branches, with_place, with_targets}
+use Rattle.gi_spelling.specs.Printed.{falls_through, implied_successors, with_branches, with_place, with_targets}
 
 zip_push : {A B : Type 0} (R : A → B → Type 0) (xs : List A) (ys : List B) (x : A) (y : B) → AllZip R xs ys → R x y → AllZip R (xs ++ x ∷ []) (ys ++ y ∷ [])
 zip_push R [] [] x y all last = (last, tt)

@@ -3,12 +3,12 @@ use Rattle.std.specs.Prelude.{ℕ, suc, Bool, true, not, ◌&&◌, List, [], ◌
 use Rattle.std.specs.Option.{option_map_or, unwrap_or}
 use Rattle.gi_mir.specs.Edit.{HeadData}
 use Rattle.gi_mir.specs.Data.{InstrData}
-use Rattle.gi_mir.specs.Row.{is_unconditional_op}
+use Rattle.gi_mir.specs.Row.{is_branch_op, is_unconditional_op}
 use Rattle.gi_mir.specs.declared.operand.Operand.{Operand}
 use Rattle.gi_mir.specs.declared.operand.Operand.TheVariants.{Block}
 use Rattle.gi_spelling.specs.Blocks.{Lists}
 use Rattle.gi_spelling.specs.Resolved.{block_place}
-use Rattle.gi_spelling.specs.Printed.{is_branch_op, with_place}
+use Rattle.gi_spelling.specs.Printed.{with_place}
 
 -- with the block that an operand names
 abbrev pub with_target : List ℕ → Operand → List ℕ

@@ -1,3 +1,4 @@
+pub mod Begun
 pub mod Blocked
 pub mod Bodies
 pub mod Depths

@@ -23,6 +23,7 @@ head_wrongs text tables place line =
 -- a block is read: the function has it at its end, and what is to be known of it at the end is kept
 pub record ReadsBlock (text : List ℕ) (tables : Tables) (old_names new_names : List (List ℕ)) (place : ℕ) (section : Section) (old new : FunctionData) (old_notes new_notes : NotesData) : Type 0 where
   pub grown : Extends old_names new_names
+  pub name : new.name ≡ old.name
   pub placed : length new.blocks ≡ suc place
   pub named : (f : FunctionData) → IsNamedFunction text old_names f old → IsNamedFunction text new_names (with_body tables.blocks f (body_of text tables place section)) new
   pub kinds : new_notes.kinds ≡ fold with_defined old_notes.kinds (body_of text tables place section).instrs
@@ -60,6 +61,7 @@ notes_after text tables sections notes = record {
 -- the blocks are read
 pub record ReadsBlocks (text : List ℕ) (tables : Tables) (old_names new_names : List (List ℕ)) (sections : List Section) (old new : FunctionData) (old_notes new_notes : NotesData) : Type 0 where
   pub grown : Extends old_names new_names
+  pub name : new.name ≡ old.name
   pub named : (f : FunctionData) → IsNamedFunction text old_names f old → IsNamedFunction text new_names (fold (with_body tables.blocks) f (bodies_from text tables 0 sections)) new
   pub notes : new_notes ≡ notes_after text tables sections old_notes
 
@@ -74,5 +76,6 @@ tables_in text classes objects blocks = record { classes = classes; blocks = blo
 -- the blocks of a function are read, and what is wrong with them is noted
 pub record BlocksAreRead (text : List ℕ) (tables : Tables) (blocks : Sections) (old_names new_names : List (List ℕ)) (old new : FunctionData) (old_lowest new_lowest : Option Wrong) : Type 0 where
   pub grown : Extends old_names new_names
+  pub name : new.name ≡ old.name
   pub named : (f : FunctionData) → IsNamedFunction text old_names f old → IsNamedFunction text new_names (fold (with_body tables.blocks) f (bodies_from text tables 0 blocks.sections)) new
   pub lowest : new_lowest ≡ fold lower old_lowest (wrongs_of text tables blocks)

@@ -6,15 +6,17 @@ ghost use Rattle.gi_spelling.specs.Documents.{block_wrongs, document_wrongs, low
 ghost use Rattle.gi_spelling.specs.Lines as spelled;
 ghost use Rattle.gi_spelling.specs.Named.{Extends};
 ghost use Rattle.gi_spelling.specs.Read.{IsReadAs, IsReadFunction, IsRefusal};
-ghost use Rattle.gi_mir_read.specs.Keyed.{AreFirsts};
+ghost use Rattle.gi_mir_read.specs.Keyed.{AreFirsts, AreFirstsIn};
 ghost use Rattle.gi_mir_read.specs.Sectioned.{IsSectionIn, section_at};
 
+use crate::beginning::{add_stack, classes_of, keyed, number_of};
+use crate::blocks::blocks;
 use crate::document_lines::{counted, end_number, note_strays, without_line};
 use crate::entries::entries;
-use crate::keys::Firsts;
+use crate::keys::{Firsts, Key};
 use crate::refusal::settle;
 use crate::sections::{Mark, Section};
-use crate::stated::note_missing;
+use crate::stated::{lines_under_bar, note_missing, value_of};
 use crate::wrongs::Lowest;
 use gi_llt::Memory;
 use gi_mir::function::Function;
@@ -22,7 +24,8 @@ use gi_mir::names::Names;
 use gi_text::TextError;
 use std::alloc::Global;
 
-/// The function of a document with these entries. Nothing is known of it where something is wrong.
+/// The function of a document with these entries. What is wrong with its blocks is noted, and nothing is known of it
+/// where something is wrong.
 fn function_of(
     alloc: Global,
     text: &[u8],
@@ -30,20 +33,30 @@ fn function_of(
     firsts: &Firsts<'_>,
     lowest: &mut Lowest,
 ) -> Result<Function, Memory>
+    requires within { AreFirstsIn text.now firsts.now }
     requires short { length text.now < 2 ^ 32 - 1 }
     ensures noted { OnOk result ((sections : List spelled.Section) → AreFirsts text.now sections firsts.now
         → lowest.new ≡ fold lower lowest.old (block_wrongs text.now (read_document text.now sections))) }
     ensures read { IfOk result (λ f. (sections : List spelled.Section) → AreFirsts text.now sections firsts.now
         → is_utf8 (read_document text.now sections).name ≡ true → lowest.new ≡ None → IsReadAs text.now names.new (read_document text.now sections) f) }
-    ensures grown { Extends names.old names.new }
+    ensures grown { OnOk result (Extends names.old names.new) }
 {
-    // In work: the name, the keys, the stack objects and the blocks are put together here.
-    let _alloc = alloc;
-    let _text = text.len();
-    let _names = names.count();
-    let _firsts = firsts;
-    let _lowest = lowest.found();
-    Err(Memory)
+    let number = number_of(names, value_of(text, firsts, Key::Name))?;
+    let mut function = keyed(alloc, text, firsts, number)?;
+    let objects = add_stack(alloc, text, firsts, &mut function)?;
+    let classes = classes_of(alloc, text, firsts)?;
+    let lines = lines_under_bar(alloc, text, firsts, Key::Body)?;
+    blocks(
+        alloc,
+        text,
+        names,
+        &mut function,
+        classes,
+        objects,
+        lines,
+        lowest,
+    )?;
+    Ok(function)
 }
 
 /// The function of a document. What is wrong is noted, and nothing is known of the function where something is.
@@ -58,7 +71,7 @@ fn noted_document(
     requires short { length text.now < 2 ^ 32 - 1 }
     ensures noted { OnOk result (lowest.new ≡ fold lower lowest.old (document_wrongs text.now (section_at text.now document.entry))) }
     ensures read { IfOk result (λ f. lowest.new ≡ None → IsReadFunction text.now names.new (section_at text.now document.entry) f) }
-    ensures grown { Extends names.old names.new }
+    ensures grown { OnOk result (Extends names.old names.new) }
 {
     let (lines, rest) = Mark::End.cut(text, document.under);
     let counted = counted(alloc, text, lines)?;
@@ -83,7 +96,7 @@ pub(crate) fn document(
     ensures right { OnOk result (lowest (document_wrongs text.now (section_at text.now document.entry)) ≡ None) }
     ensures read { IfOk result (IsReadFunction text.now names.new (section_at text.now document.entry)) }
     ensures refused { IfErr result (IsRefusal (lowest (document_wrongs text.now (section_at text.now document.entry)))) }
-    ensures grown { Extends names.old names.new }
+    ensures grown { OnOk result (Extends names.old names.new) }
 {
     let mut found = Lowest::new();
     match noted_document(alloc, text, names, document, &mut found) {

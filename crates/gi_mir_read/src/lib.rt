@@ -2,6 +2,7 @@
 #![tactic(auto)]
 
 mod access;
+mod beginning;
 mod block;
 mod blocks;
 mod body;

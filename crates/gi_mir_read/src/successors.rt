@@ -1,8 +1,8 @@
 //! The successors of a block.
 
 ghost use Rattle.std.specs.Prelude.{◌≡◌, ◌<◌, not, fold, map, IfOk, OnOk};
-ghost use Rattle.gi_mir.specs.Row.{is_unconditional_op};
-ghost use Rattle.gi_spelling.specs.Printed.{is_branch_op, with_place};
+ghost use Rattle.gi_mir.specs.Row.{is_branch_op, is_unconditional_op};
+ghost use Rattle.gi_spelling.specs.Printed.{with_place};
 ghost use Rattle.gi_spelling.specs.Resolved.{block_place};
 ghost use Rattle.gi_mir_read.specs.Implied.{implied_by, runs_past, with_branch, with_target};
 

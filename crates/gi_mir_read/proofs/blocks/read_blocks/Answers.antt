@@ -1,3 +1,4 @@
+use Rattle.std.proofs.Common.{◌∙◌}
 use Rattle.gi_mir.specs.Data.{FunctionData}
 use Rattle.gi_spelling.proofs.NamedLemmas.{extends_more}
 use Rattle.gi_mir_read.specs.Blocked.{IsNextBlock, blocks_of, section_of}
@@ -18,6 +19,7 @@ loop-block-preserved c =
       within = next.later_within;
       headed = next.headed;
       grown = extends_more c.args.names.now c.loop-block.names c.read_block.new.names now.grown reads.grown;
+      name = reads.name ∙ now.name;
       left = more-left text tables c.loop-block.names c.read_block.new.names c.block_count-place.result section later here c.loop-block.function c.read_block.new.function c.loop-block.notes c.read_block.new.notes
           _ c.block_count-place.ensures.count next.sections now.left reads;
       named = λ f named. more-function text tables c.loop-block.names c.read_block.new.names c.block_count-place.result section later here c.loop-block.function c.read_block.new.function c.loop-block.notes c.read_block.new.notes

@@ -14,6 +14,7 @@ invariant-loop-block l = record {
   within : All (IsToldIn l.text) l.rest;
   headed : (blocks_of l.text l.rest).before ≡ [];
   grown : Extends l.fn.names l.names;
+  name : l.function.name ≡ l.fn.function.name;
   left : AreLeft l.text l.tables (length l.function.blocks) (blocks_of l.text l.rest).sections l.notes (notes_after l.text l.tables (blocks_of l.text l.told).sections l.fn.notes);
   named : (f : FunctionData) → IsNamedFunction l.text l.fn.names f l.fn.function
       → IsLeft l.text l.tables l.names (length l.function.blocks) (blocks_of l.text l.rest).sections l.function (fold (with_body l.tables.blocks) f (bodies_from l.text l.tables 0 (blocks_of l.text l.told).sections));

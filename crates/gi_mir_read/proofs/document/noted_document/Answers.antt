@@ -82,3 +82,6 @@ returns-clause-read c = λ none.
     nothing_noted (entry_wrongs_of c) (ap (λ (w : Option Wrong). fold lower w (entry_wrongs_of c)) (sym first) ∙ sym (noted_entries c) ∙ second) in
     c.in_ok-function.ensures.read (entries_of (section_at c.args.text.now c.args.document)) (firsts_are c)
     (name_is_text c.args.text.now [] (entries_of (section_at c.args.text.now c.args.document)) entries_right) third
+
+pub function_of-requires-clause-within : goal.function_of-requires-clause-within
+function_of-requires-clause-within c = record { within = c.in_ok-firsts.ensures.firsts.within }

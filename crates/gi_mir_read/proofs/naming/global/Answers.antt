@@ -1,5 +1,6 @@
 use Rattle.std.proofs.Common.{refl, ◌∙◌}
-use Rattle.gi_mir_read.proofs.NamingLemmas.{IsNumberOf, name-number}
+use Rattle.gi_mir_read.specs.Begun.{IsNumberOf}
+use Rattle.gi_mir_read.proofs.NamingLemmas.{name-number}
 use Rattle.gi_mir_read.proofs.naming.global.Goals as goal
 
 pub returns-clause-named : goal.returns-clause-named
