@@ -120,3 +120,6 @@ pub fn read_mir(alloc: Global, text: &[u8]) -> Result<Module, TextError>
         Err(_) => Err(TextError::Memory),
     }
 }
+
+#[cfg(test)]
+mod tests;
