@@ -1,19 +1,23 @@
 //! What passes the limits of what is handled.
 
-ghost use Rattle.std.specs.Prelude.{◌≡◌, ◌≤◌, ◌<◌, ◌^◌, ◌⊎◌, ◌&&◌, ℕ, Some, length};
+ghost use Rattle.std.specs.Prelude.{◌≡◌, ◌≤◌, ◌<◌, ◌^◌, ◌⊎◌, ℕ, None, Some, length, if◌then◌else◌};
 ghost use Rattle.std.specs.List.{list_any};
-ghost use Rattle.gi_mir.specs.Registers.{kind_of, type_of_kind};
+ghost use Rattle.gi_mir.specs.Registers.{kind_in_instrs, kind_in_operand, kind_in_operands, kind_of, type_of_kind};
+ghost use Rattle.gi_mir.specs.Row.{rows_of};
 ghost use Rattle.gi_mir.specs.Types.{is_any};
-ghost use Rattle.gi_spelling.specs.Printed.{forms_after, is_typed_by};
-ghost use Rattle.gi_mir_read.specs.Sizes.{above, count_faults, forms_behind, is_before, is_copy, is_extension, is_physical, is_physical_copy, is_right_result, is_right_source, is_word, lower, lowest_after, memory_faults, number_faults, object_faults, operand_faults, operands_faults, register_faults, result_bits, results_after, sources_after, told_number, type_faults, width_unless};
+ghost use Rattle.gi_spelling.specs.Printed.{first_row, forms_after, is_typed_by, is_typed_form, source_forms};
+ghost use Rattle.gi_mir_read.specs.Sizes.{above, count_faults, forms_behind, is_before, is_copy, is_definition_form, is_extension, is_physical, is_physical_copy, is_right_result, is_right_source, is_word, lower, lowest_after, memory_faults, number_faults, object_faults, operand_faults, operands_faults, register_faults, result_bits, results_after, sources_after, told_number, type_faults, width_unless};
 
 use gi_llt::{Llt, Target, width};
 use gi_mir::accepted::{
     is_constant_type, is_in_register, is_memory_type, is_result_type, is_source_type,
 };
+use gi_mir::block::Numbered;
+use gi_mir::function::Function;
 use gi_mir::instr::Instr;
 use gi_mir::opcode::Opcode;
-use gi_mir::operand::{Kind, MemOp, Operand};
+use gi_mir::operand::{Kind, MemOp, Operand, Reg};
+use gi_mir::row::Form;
 use gi_mir::types::{is_any, is_pointer, is_register, scalar_bits};
 
 /// A fault of a line: its line, its place among the kinds of faults, and the number that is told.
@@ -271,3 +275,193 @@ fn with_register(lowest: Option<Fault>, line: u32, operand: Operand) -> Option<F
         _ => lowest,
     }
 }
+
+/// The kind of a register, if an operand defines it.
+fn kind_in_operand(operand: Operand, reg: Reg) -> Option<Kind>
+    ensures { result ≡ kind_in_operand reg.0 operand }
+{
+    match operand {
+        Operand::Def(defined, kind) => {
+            if defined.0 == reg.0 {
+                Some(kind)
+            } else {
+                None
+            }
+        }
+        _ => None,
+    }
+}
+
+/// The kind of a register at its first definition among operands.
+fn kind_in_operands(operands: &[Operand], reg: Reg) -> Option<Kind>
+    ensures { result ≡ kind_in_operands reg.0 operands.now }
+{
+    for operand in operands {
+        if let Some(kind) = kind_in_operand(*operand, reg) {
+            return Some(kind);
+        }
+    }
+    None
+}
+
+/// The kind of a register at its first definition among instructions.
+fn kind_in_instrs(instrs: &[Numbered], reg: Reg) -> Option<Kind>
+    ensures { result ≡ kind_in_instrs reg.0 instrs.now }
+{
+    for instr in instrs {
+        if let Some(kind) = kind_in_operands(instr.instr.operands.as_slice(), reg) {
+            return Some(kind);
+        }
+    }
+    None
+}
+
+/// The kind of a register at its first definition in layout.
+fn kind_of(f: &Function, reg: Reg) -> Kind
+    ensures { result ≡ kind_of f.now reg.0 }
+{
+    for block in 0..f.block_count() {
+        if let Some(kind) = kind_in_instrs(f.instrs(block), reg) {
+            return kind;
+        }
+    }
+    Kind::Class
+}
+
+/// Whether a form is one of a definition.
+fn is_definition_form(form: Form) -> bool
+    ensures { result ≡ is_definition_form form }
+{
+    matches!(form, Form::Def | Form::PhysicalDef | Form::Results)
+}
+
+/// The forms of what is no definition.
+fn source_forms(forms: &[Form]) -> &[Form]
+    ensures { result.now ≡ source_forms forms.now }
+{
+    for (place, form) in forms.iter().enumerate() {
+        if !is_definition_form(*form) {
+            return &forms[place..];
+        }
+    }
+    &[]
+}
+
+/// The row that says which uses show a type.
+fn first_row(op: Opcode) -> &'static [Form]
+    ensures { result.now ≡ first_row (rows_of op) }
+{
+    match op.rows().first() {
+        Some(row) => *row,
+        None => &[],
+    }
+}
+
+/// Whether an operand of this form shows its type.
+fn is_typed_form(form: Form) -> bool
+    ensures { result ≡ is_typed_form form }
+{
+    matches!(
+        form,
+        Form::TypedUse | Form::Parts | Form::Entry | Form::EntryBlock
+    )
+}
+
+/// Whether an operand with these forms before it shows its type.
+fn is_typed_by(forms: &[Form]) -> bool
+    ensures { result ≡ is_typed_by forms.now }
+{
+    match forms {
+        [form, ..] => is_typed_form(*form),
+        [] => false,
+    }
+}
+
+/// The forms after an operand: the last one goes on.
+fn forms_after(forms: &[Form]) -> &[Form]
+    ensures { result.now ≡ forms_after forms.now }
+{
+    if forms.len() < 2 { forms } else { &forms[1..] }
+}
+
+/// The forms behind an operand.
+fn forms_behind(forms: &[Form], operand: Operand) -> &[Form]
+    ensures { result.now ≡ forms_behind forms.now operand }
+{
+    match operand {
+        Operand::Def(_, _) | Operand::PhysDef(_) => forms,
+        _ => forms_after(forms),
+    }
+}
+
+/// How many results stand behind an operand.
+fn results_after(results: usize, operand: Operand) -> usize
+    requires { results < 2 ^ 63 }
+    ensures { result ≡ results_after results operand }
+{
+    match operand {
+        Operand::Def(_, _) => results + 1,
+        _ => results,
+    }
+}
+
+/// How many virtual registers that are read stand behind an operand.
+fn sources_after(sources: usize, operand: Operand) -> usize
+    requires { sources < 2 ^ 63 }
+    ensures { result ≡ sources_after sources operand }
+{
+    match operand {
+        Operand::Use(_) => sources + 1,
+        _ => sources,
+    }
+}
+
+/// The type that a use shows, if it shows one.
+fn type_shown(f: &Function, forms: &[Form], reg: Reg) -> Option<Llt>
+    ensures { result ≡ (if is_typed_by forms.now then type_of_kind (kind_of f.now reg.0) else None) }
+{
+    if is_typed_by(forms) {
+        type_of(kind_of(f, reg))
+    } else {
+        None
+    }
+}
+
+/// Where an operand stands: how many results and how many other virtual registers stand before it, and the
+/// forms from it on.
+#[derive(Clone, Copy)]
+struct Standing<'a> {
+    results: usize,
+    sources: usize,
+    forms: &'a [Form],
+}
+
+/// The lowest, where an operand may show what is wrong.
+fn with_operand(
+    lowest: Option<Fault>,
+    target: Target,
+    f: &Function,
+    instr: &Instr,
+    standing: Standing,
+    operand: Operand,
+) -> Option<Fault>
+    requires { (target.xlen ≡ 32) ⊎ (target.xlen ≡ 64) }
+    ensures { result ≡ lowest_after lowest (operand_faults target.xlen (kind_of f.now) instr.now standing.entry.results standing.entry.sources standing.entry.forms.now operand) }
+{
+    match operand {
+        Operand::Def(_, kind) => {
+            with_result(lowest, target, instr, standing.results, type_of(kind))
+        }
+        Operand::Use(reg) => {
+            let ty = type_shown(f, standing.forms, reg);
+            with_source(lowest, target, instr, standing.sources, ty)
+        }
+        Operand::Constant(bits, _) => {
+            let is_right = is_constant_type(target, instr.op, bits);
+            with_width(lowest, is_right, instr.line, bits)
+        }
+        Operand::Int(k) => with_number(lowest, target, instr, k),
+        _ => lowest,
+    }
+}
+
