@@ -9,3 +9,4 @@ pub mod SplitLemmas
 pub mod TableLemmas
 pub mod KeyLemmas
 pub mod TripleLemmas
+pub mod SizeLemmas

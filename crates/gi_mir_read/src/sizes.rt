@@ -1,12 +1,12 @@
 //! What passes the limits of what is handled.
 
-ghost use Rattle.std.specs.Prelude.{◌≡◌, ◌≤◌, ◌<◌, ◌^◌, ◌⊎◌, ℕ, None, Some, length, if◌then◌else◌};
+ghost use Rattle.std.specs.Prelude.{◌≡◌, ◌≤◌, ◌<◌, ◌^◌, ◌⊎◌, ℕ, ◌+◌, None, Some, flat_map, length, if◌then◌else◌};
 ghost use Rattle.std.specs.List.{list_any};
 ghost use Rattle.gi_mir.specs.Registers.{kind_in_instrs, kind_in_operand, kind_in_operands, kind_of, type_of_kind};
 ghost use Rattle.gi_mir.specs.Row.{rows_of};
 ghost use Rattle.gi_mir.specs.Types.{is_any};
-ghost use Rattle.gi_spelling.specs.Printed.{first_row, forms_after, is_typed_by, is_typed_form, source_forms};
-ghost use Rattle.gi_mir_read.specs.Sizes.{above, count_faults, forms_behind, is_before, is_copy, is_definition_form, is_extension, is_physical, is_physical_copy, is_right_result, is_right_source, is_word, lower, lowest_after, memory_faults, number_faults, object_faults, operand_faults, operands_faults, register_faults, result_bits, results_after, sources_after, told_number, type_faults, width_unless};
+ghost use Rattle.gi_spelling.specs.Printed.{definitions_of, first_row, is_definition, sources_of, forms_after, is_typed_by, is_typed_form, source_forms};
+ghost use Rattle.gi_mir_read.specs.Sizes.{above, blocks_faults, count_after, count_faults, counted, forms_behind, is_before, is_copy, is_definition_form, is_extension, is_physical, is_physical_copy, is_right_result, is_right_source, instr_faults, instrs_faults, is_word, lower, lowest_after, memory_faults, number_faults, object_faults, operand_faults, operands_faults, parts_of, register_faults, result_bits, results_after, sources_after, told_number, type_faults, width_unless};
 
 use gi_llt::{Llt, Target, width};
 use gi_mir::accepted::{
@@ -463,5 +463,159 @@ fn with_operand(
         Operand::Int(k) => with_number(lowest, target, instr, k),
         _ => lowest,
     }
+}
+
+/// The lowest, where operands may show what is wrong, by the forms of those that are no definition.
+fn with_operands(
+    lowest: Option<Fault>,
+    target: Target,
+    f: &Function,
+    instr: &Instr,
+    forms: &[Form],
+    operands: &[Operand],
+) -> Option<Fault>
+    requires { (target.xlen ≡ 32) ⊎ (target.xlen ≡ 64) }
+    ensures { result ≡ lowest_after lowest (operands_faults target.xlen (kind_of f.now) instr.now 0 0 forms.now operands.now) }
+{
+    let mut lowest = lowest;
+    let mut results = 0;
+    let mut sources = 0;
+    let mut forms = forms;
+    for operand in operands {
+        let standing = Standing {
+            results,
+            sources,
+            forms,
+        };
+        lowest = with_operand(lowest, target, f, instr, standing, *operand);
+        results = results_after(results, *operand);
+        sources = sources_after(sources, *operand);
+        forms = forms_behind(forms, *operand);
+    }
+    lowest
+}
+
+/// The lowest, where the number of a register may be too great.
+fn with_registers(lowest: Option<Fault>, line: u32, operands: &[Operand]) -> Option<Fault>
+    ensures { result ≡ lowest_after lowest (flat_map (register_faults line) operands.now) }
+{
+    let mut lowest = lowest;
+    for operand in operands {
+        lowest = with_register(lowest, line, *operand);
+    }
+    lowest
+}
+
+/// The operands so far and so many more, counted to one above the limit.
+fn count_after(before: u32, count: usize) -> u32
+    requires { before ≤ 262145 }
+    ensures after { result ≡ count_after before count }
+    ensures within { result ≤ 262145 }
+{
+    if count < 262_145 {
+        (before + count as u32).min(262_145)
+    } else {
+        262_145
+    }
+}
+
+/// The lowest, where a function may pass the limit of its operands at an instruction.
+fn with_count(lowest: Option<Fault>, line: u32, before: u32, count: usize) -> Option<Fault>
+    requires { before ≤ 262145 }
+    ensures { result ≡ lowest_after lowest (count_faults line before count) }
+{
+    if before <= 262_144 {
+        with_limit(lowest, line, 1, 262_144, u64::from(count_after(before, count)))
+    } else {
+        lowest
+    }
+}
+
+/// Whether an operand stands before `=`.
+fn is_definition(operand: Operand) -> bool
+    ensures { result ≡ is_definition operand }
+{
+    matches!(operand, Operand::Def(_, _) | Operand::PhysDef(_))
+}
+
+/// How many definitions the operands begin with.
+fn definition_count(operands: &[Operand]) -> usize
+    ensures definitions { result ≡ length (definitions_of operands.now) }
+    ensures sources { length operands.now ≡ result + length (sources_of operands.now) }
+{
+    for (place, operand) in operands.iter().enumerate() {
+        if !is_definition(*operand) {
+            return place;
+        }
+    }
+    operands.len()
+}
+
+/// How many parts a merge or an unmerge has.
+fn parts_of(op: Opcode, operands: &[Operand]) -> usize
+    ensures { result ≡ parts_of op operands.now }
+{
+    match op {
+        Opcode::GenericMergeValues => operands.len() - definition_count(operands),
+        Opcode::GenericUnmergeValues => definition_count(operands),
+        _ => 0,
+    }
+}
+
+/// The lowest, where an instruction may have a fault, with so many operands before it in its function.
+fn with_instr(
+    lowest: Option<Fault>,
+    target: Target,
+    f: &Function,
+    before: u32,
+    instr: &Instr,
+) -> Option<Fault>
+    requires target { (target.xlen ≡ 32) ⊎ (target.xlen ≡ 64) }
+    requires before { before ≤ 262145 }
+    ensures { result ≡ lowest_after lowest (instr_faults target.xlen (kind_of f.now) before instr.now) }
+{
+    let operands = instr.operands.as_slice();
+    let forms = source_forms(first_row(instr.op));
+    let shown = with_operands(lowest, target, f, instr, forms, operands);
+    let in_memory = with_memory(shown, target, instr, instr.mem);
+    let in_count = with_count(in_memory, instr.line, before, operands.len());
+    let in_registers = with_registers(in_count, instr.line, operands);
+    with_limit(in_registers, instr.line, 5, 16, parts_of(instr.op, operands) as u64)
+}
+
+/// The lowest, where instructions may have faults, and how many operands stand behind them.
+fn with_instrs(
+    lowest: Option<Fault>,
+    target: Target,
+    f: &Function,
+    before: u32,
+    instrs: &[Numbered],
+) -> (Option<Fault>, u32)
+    requires target { (target.xlen ≡ 32) ⊎ (target.xlen ≡ 64) }
+    requires before { before ≤ 262145 }
+    ensures lowest { result.0 ≡ lowest_after lowest (instrs_faults target.xlen (kind_of f.now) before instrs.now) }
+    ensures counted { result.1 ≡ counted before instrs.now }
+    ensures within { result.1 ≤ 262145 }
+{
+    let mut lowest = lowest;
+    let mut count = before;
+    for instr in instrs {
+        lowest = with_instr(lowest, target, f, count, &instr.instr);
+        count = count_after(count, instr.instr.operands.len());
+    }
+    (lowest, count)
+}
+
+/// The lowest, where the blocks of a function may have faults.
+fn with_blocks(lowest: Option<Fault>, target: Target, f: &Function) -> Option<Fault>
+    requires target { (target.xlen ≡ 32) ⊎ (target.xlen ≡ 64) }
+    ensures { result ≡ lowest_after lowest (blocks_faults target.xlen (kind_of f.now) 0 f.now.blocks) }
+{
+    let mut lowest = lowest;
+    let mut count = 0;
+    for block in 0..f.block_count() {
+        (lowest, count) = with_instrs(lowest, target, f, count, f.instrs(block));
+    }
+    lowest
 }
 
