@@ -9,7 +9,7 @@
 --     rank 6     size of a stack object          1048576
 --     rank 7     alignment of a stack object        4096
 --     rank 8     alignment of a memory operand      4096
-use Rattle.std.specs.Prelude.{◌≡◌, ℕ, suc, ◌+◌, ◌*◌, ℤ, pos, negsuc, min, Bool, true, false, not, ◌&&◌, ◌||◌, List, [], ◌∷◌, ◌++◌, Option, Some, None, Result, Ok, Err, length, flat_map, fold, ⊤, nat_lt, nat_le, ◌==◌, if◌then◌else◌}
+use Rattle.std.specs.Prelude.{◌≡◌, ℕ, suc, ◌+◌, ◌*◌, ℤ, pos, negsuc, min, Bool, true, false, not, ◌&&◌, ◌||◌, List, [], ◌∷◌, ◌++◌, Option, Some, None, Result, Ok, Err, length, flat_map, fold, unwrap_or, ⊤, nat_lt, nat_le, ◌==◌, if◌then◌else◌}
 use Rattle.std.specs.List.{list_any}
 use Rattle.std.specs.Option.{option_map_or}
 use Rattle.gi_llt.specs.declared.Llt.{Llt}
@@ -161,13 +161,22 @@ count_after before count = min (before + count) 262145
 abbrev pub count_faults : (line before count : ℕ) → List Fault
 count_faults line before count = if nat_le before 262144 then above line 1 262144 (before + count) else []
 
+-- what an instruction shows, its memory operand, and its numbers
+abbrev pub shown_faults : ℕ → (kinds : ℕ → Kind) → InstrData → List Fault
+shown_faults x kinds instr = operands_faults x kinds instr 0 0 (source_forms (first_row (rows_of instr.op))) instr.operands
+
+abbrev pub access_faults : ℕ → InstrData → List Fault
+access_faults x instr = memory_faults x instr instr.mem
+
+abbrev pub numbers_of : (before line : ℕ) → Opcode → List Operand → List Fault
+numbers_of before line op operands =
+    count_faults line before (length operands) ++ (flat_map (register_faults line) operands ++ above line 5 16 (parts_of op operands))
+
+abbrev pub numbers_faults : (before : ℕ) → InstrData → List Fault
+numbers_faults before instr = numbers_of before instr.line instr.op instr.operands
+
 abbrev pub instr_faults : ℕ → (kinds : ℕ → Kind) → (before : ℕ) → InstrData → List Fault
-instr_faults x kinds before instr =
-    operands_faults x kinds instr 0 0 (source_forms (first_row (rows_of instr.op))) instr.operands
-    ++ (memory_faults x instr instr.mem
-    ++ (count_faults instr.line before (length instr.operands)
-    ++ (flat_map (register_faults instr.line) instr.operands
-    ++ above instr.line 5 16 (parts_of instr.op instr.operands))))
+instr_faults x kinds before instr = shown_faults x kinds instr ++ (access_faults x instr ++ numbers_faults before instr)
 
 -- ══ A function, and a module ══
 
@@ -185,14 +194,14 @@ blocks_faults x kinds before [] = []
 blocks_faults x kinds before (block ∷ blocks) =
     instrs_faults x kinds before block.instrs ++ blocks_faults x kinds (counted before block.instrs) blocks
 
-abbrev pub line_or : List (ℕ × InstrData) → ℕ → ℕ
-line_or [] later = later
-line_or (instr ∷ instrs) later = (instr.1).line
+abbrev pub line_of : List (ℕ × InstrData) → Option ℕ
+line_of [] = None
+line_of (instr ∷ instrs) = Some (instr.1).line
 
 -- the line of the first instruction in layout, and 1 without one
 abbrev pub first_line : List BlockData → ℕ
 first_line [] = 1
-first_line (block ∷ blocks) = line_or block.instrs (first_line blocks)
+first_line (block ∷ blocks) = unwrap_or (line_of block.instrs) (first_line blocks)
 
 abbrev pub object_faults : (line : ℕ) → StackObject → List Fault
 object_faults line object = above line 6 1048576 object.size ++ above line 7 4096 object.align

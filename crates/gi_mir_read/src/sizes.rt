@@ -6,7 +6,7 @@ ghost use Rattle.gi_mir.specs.Registers.{kind_in_instrs, kind_in_operand, kind_i
 ghost use Rattle.gi_mir.specs.Row.{rows_of};
 ghost use Rattle.gi_mir.specs.Types.{is_any};
 ghost use Rattle.gi_spelling.specs.Printed.{definitions_of, first_row, is_definition, sources_of, forms_after, is_typed_by, is_typed_form, source_forms};
-ghost use Rattle.gi_mir_read.specs.Sizes.{above, blocks_faults, count_after, count_faults, counted, forms_behind, is_before, is_copy, is_definition_form, is_extension, is_physical, is_physical_copy, is_right_result, is_right_source, instr_faults, instrs_faults, is_word, lower, lowest_after, memory_faults, number_faults, object_faults, operand_faults, operands_faults, parts_of, register_faults, result_bits, results_after, sources_after, told_number, type_faults, width_unless};
+ghost use Rattle.gi_mir_read.specs.Sizes.{above, access_faults, blocks_faults, count_after, count_faults, counted, error_of, first_line, forms_behind, function_faults, functions_faults, head_faults, line_of, is_before, is_copy, is_definition_form, is_extension, is_physical, is_physical_copy, is_right_result, is_right_source, instr_faults, instrs_faults, is_word, lower, lowest_after, memory_faults, number_faults, numbers_faults, numbers_of, object_faults, objects_faults, operand_faults, operands_faults, parts_of, register_faults, result_bits, results_after, shown_faults, sources_after, told_number, type_faults, width_unless};
 
 use gi_llt::{Llt, Target, width};
 use gi_mir::accepted::{
@@ -16,7 +16,8 @@ use gi_mir::block::Numbered;
 use gi_mir::function::Function;
 use gi_mir::instr::Instr;
 use gi_mir::opcode::Opcode;
-use gi_mir::operand::{Kind, MemOp, Operand, Reg};
+use gi_mir::operand::{Kind, MemOp, Operand, Reg, StackObject};
+use gi_text::SizeError;
 use gi_mir::row::Form;
 use gi_mir::types::{is_any, is_pointer, is_register, scalar_bits};
 
@@ -562,6 +563,47 @@ fn parts_of(op: Opcode, operands: &[Operand]) -> usize
     }
 }
 
+/// The lowest, where an instruction may show what is wrong.
+fn with_shown(lowest: Option<Fault>, target: Target, f: &Function, instr: &Instr) -> Option<Fault>
+    requires { (target.xlen ≡ 32) ⊎ (target.xlen ≡ 64) }
+    ensures { result ≡ lowest_after lowest (shown_faults target.xlen (kind_of f.now) instr.now) }
+{
+    let forms = source_forms(first_row(instr.op));
+    with_operands(lowest, target, f, instr, forms, instr.operands.as_slice())
+}
+
+/// The lowest, where an instruction may have a wrong memory operand.
+fn with_access(lowest: Option<Fault>, target: Target, instr: &Instr) -> Option<Fault>
+    requires { (target.xlen ≡ 32) ⊎ (target.xlen ≡ 64) }
+    ensures { result ≡ lowest_after lowest (access_faults target.xlen instr.now) }
+{
+    with_memory(lowest, target, instr, instr.mem)
+}
+
+/// The lowest, where operands may be too many or have too great numbers.
+fn with_numbers_of(
+    lowest: Option<Fault>,
+    before: u32,
+    line: u32,
+    op: Opcode,
+    operands: &[Operand],
+) -> Option<Fault>
+    requires { before ≤ 262145 }
+    ensures { result ≡ lowest_after lowest (numbers_of before line op operands.now) }
+{
+    let in_count = with_count(lowest, line, before, operands.len());
+    let in_registers = with_registers(in_count, line, operands);
+    with_limit(in_registers, line, 5, 16, parts_of(op, operands) as u64)
+}
+
+/// The same for those of an instruction.
+fn with_numbers(lowest: Option<Fault>, before: u32, instr: &Instr) -> Option<Fault>
+    requires { before ≤ 262145 }
+    ensures { result ≡ lowest_after lowest (numbers_faults before instr.now) }
+{
+    with_numbers_of(lowest, before, instr.line, instr.op, instr.operands.as_slice())
+}
+
 /// The lowest, where an instruction may have a fault, with so many operands before it in its function.
 fn with_instr(
     lowest: Option<Fault>,
@@ -574,13 +616,27 @@ fn with_instr(
     requires before { before ≤ 262145 }
     ensures { result ≡ lowest_after lowest (instr_faults target.xlen (kind_of f.now) before instr.now) }
 {
-    let operands = instr.operands.as_slice();
-    let forms = source_forms(first_row(instr.op));
-    let shown = with_operands(lowest, target, f, instr, forms, operands);
-    let in_memory = with_memory(shown, target, instr, instr.mem);
-    let in_count = with_count(in_memory, instr.line, before, operands.len());
-    let in_registers = with_registers(in_count, instr.line, operands);
-    with_limit(in_registers, instr.line, 5, 16, parts_of(instr.op, operands) as u64)
+    let shown = with_shown(lowest, target, f, instr);
+    let in_memory = with_access(shown, target, instr);
+    with_numbers(in_memory, before, instr)
+}
+
+/// The lowest, where an instruction may have a fault, and how many operands stand behind it.
+fn with_numbered(
+    lowest: Option<Fault>,
+    target: Target,
+    f: &Function,
+    before: u32,
+    numbered: &Numbered,
+) -> (Option<Fault>, u32)
+    requires target { (target.xlen ≡ 32) ⊎ (target.xlen ≡ 64) }
+    requires before { before ≤ 262145 }
+    ensures lowest { result.0 ≡ lowest_after lowest (instr_faults target.xlen (kind_of f.now) before numbered.now.1) }
+    ensures counted { result.1 ≡ count_after before (length numbered.now.1.operands) }
+    ensures within { result.1 ≤ 262145 }
+{
+    let lowest = with_instr(lowest, target, f, before, &numbered.instr);
+    (lowest, count_after(before, numbered.instr.operands.len()))
 }
 
 /// The lowest, where instructions may have faults, and how many operands stand behind them.
@@ -600,8 +656,7 @@ fn with_instrs(
     let mut lowest = lowest;
     let mut count = before;
     for instr in instrs {
-        lowest = with_instr(lowest, target, f, count, &instr.instr);
-        count = count_after(count, instr.instr.operands.len());
+        (lowest, count) = with_numbered(lowest, target, f, count, instr);
     }
     (lowest, count)
 }
@@ -619,3 +674,92 @@ fn with_blocks(lowest: Option<Fault>, target: Target, f: &Function) -> Option<Fa
     lowest
 }
 
+/// The line of the first of some instructions.
+fn line_of(instrs: &[Numbered]) -> Option<u32>
+    ensures { result ≡ line_of instrs.now }
+{
+    match instrs {
+        [first, ..] => Some(first.instr.line),
+        [] => None,
+    }
+}
+
+/// The line of the first instruction of a function in layout, and 1 without one.
+fn first_line(f: &Function) -> u32
+    ensures { result ≡ first_line f.now.blocks }
+{
+    for block in 0..f.block_count() {
+        if let Some(line) = line_of(f.instrs(block)) {
+            return line;
+        }
+    }
+    1
+}
+
+/// The lowest, where a stack object may pass its limits.
+fn with_object(lowest: Option<Fault>, line: u32, object: StackObject) -> Option<Fault>
+    ensures { result ≡ lowest_after lowest (object_faults line object) }
+{
+    let in_size = with_limit(lowest, line, 6, 1_048_576, object.size);
+    with_limit(in_size, line, 7, 4096, object.align)
+}
+
+/// The lowest, where stack objects may pass their limits.
+fn with_objects(lowest: Option<Fault>, line: u32, objects: &[StackObject]) -> Option<Fault>
+    ensures { result ≡ lowest_after lowest (objects_faults line objects.now) }
+{
+    let mut lowest = lowest;
+    for object in objects {
+        lowest = with_object(lowest, line, *object);
+    }
+    lowest
+}
+
+/// The lowest, where the counts of a function may pass their limits, with so many functions before it.
+fn with_head(lowest: Option<Fault>, line: u32, place: usize, f: &Function) -> Option<Fault>
+    requires { place < 2 ^ 63 }
+    ensures { result ≡ lowest_after lowest (head_faults line place f.now) }
+{
+    let in_blocks = with_limit(lowest, line, 2, 65_535, u64::from(f.block_count()));
+    let in_place = with_limit(in_blocks, line, 3, 65_535, place as u64 + 1);
+    with_objects(in_place, line, f.stack())
+}
+
+/// The lowest, where a function may have faults, with so many functions before it.
+fn with_function(lowest: Option<Fault>, target: Target, place: usize, f: &Function) -> Option<Fault>
+    requires target { (target.xlen ≡ 32) ⊎ (target.xlen ≡ 64) }
+    requires place { place < 2 ^ 63 }
+    ensures { result ≡ lowest_after lowest (function_faults target.xlen place f.now) }
+{
+    let in_head = with_head(lowest, first_line(f), place, f);
+    with_blocks(in_head, target, f)
+}
+
+/// The lowest fault of functions.
+fn lowest_fault(target: Target, functions: &[Function]) -> Option<Fault>
+    requires target { (target.xlen ≡ 32) ⊎ (target.xlen ≡ 64) }
+    ensures { result ≡ lowest_after None (functions_faults target.xlen 0 functions.now) }
+{
+    let mut lowest = None;
+    for (place, f) in functions.iter().enumerate() {
+        lowest = with_function(lowest, target, place, f);
+    }
+    lowest
+}
+
+/// A fault as it is told.
+fn error_of(fault: Fault) -> SizeError
+    ensures { result ≡ error_of fault }
+{
+    if fault.rank == 0 {
+        SizeError::Width {
+            line: fault.line,
+            bits: fault.number as u16,
+        }
+    } else {
+        SizeError::Limit {
+            line: fault.line,
+            number: u64::from(fault.number),
+        }
+    }
+}
