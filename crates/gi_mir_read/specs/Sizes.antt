@@ -9,7 +9,7 @@
 --     rank 6     size of a stack object          1048576
 --     rank 7     alignment of a stack object        4096
 --     rank 8     alignment of a memory operand      4096
-use Rattle.std.specs.Prelude.{◌≡◌, ℕ, suc, ◌+◌, ◌*◌, ℤ, pos, negsuc, min, Bool, true, false, not, ◌&&◌, ◌||◌, List, [], ◌∷◌, ◌++◌, Option, Some, None, Result, Ok, Err, length, flat_map, fold, unwrap_or, ⊤, nat_lt, nat_le, ◌==◌, if◌then◌else◌}
+use Rattle.std.specs.Prelude.{◌≡◌, ℕ, suc, ◌+◌, ◌*◌, ℤ, pos, negsuc, min, Bool, true, false, not, ◌&&◌, ◌||◌, List, [], ◌∷◌, ◌++◌, Option, Some, None, Result, Ok, Err, length, flat_map, fold, option_map, unwrap_or, nat_lt, nat_le, ◌==◌, if◌then◌else◌}
 use Rattle.std.specs.List.{list_any}
 use Rattle.std.specs.Option.{option_map_or}
 use Rattle.gi_llt.specs.declared.Llt.{Llt}
@@ -47,11 +47,11 @@ abbrev pub lowest_after : Option Fault → List Fault → Option Fault
 lowest_after lowest faults = fold lower lowest faults
 
 abbrev pub width_fault : (line bits : ℕ) → Fault
-width_fault line bits = record { line = line; rank = 0; number = bits }
+width_fault line bits = record { line = line; rank = 0; error = Width line bits }
 
 -- a number that passes its limit
 abbrev pub above : (line rank limit number : ℕ) → List Fault
-above line rank limit number = if nat_lt limit number then record { line = line; rank = rank; number = limit } ∷ [] else []
+above line rank limit number = if nat_lt limit number then record { line = line; rank = rank; error = Limit line limit } ∷ [] else []
 
 -- ══ Types ══
 
@@ -221,14 +221,9 @@ abbrev pub functions_faults : (x place : ℕ) → List FunctionData → List Fau
 functions_faults x place [] = []
 functions_faults x place (f ∷ functions) = function_faults x place f ++ functions_faults x (place + 1) functions
 
-abbrev pub error_of : Fault → SizeError
-error_of fault =
-    if fault.rank == 0 then Width fault.line fault.number else Limit fault.line fault.number
+abbrev pub told : Fault → SizeError
+told fault = fault.error
 
--- the fault that is told, if there is one
-abbrev pub size_fault : ℕ → ModuleData → Option Fault
-size_fault x m = lowest_after None (functions_faults x 0 m.functions)
-
-abbrev pub checked : Option Fault → Result ⊤ SizeError
-checked None = Ok tt
-checked (Some fault) = Err (error_of fault)
+-- what is told of a module, where there is a fault
+abbrev pub size_fault : (x : ℕ) → ModuleData → Option SizeError
+size_fault x m = option_map told (lowest_after None (functions_faults x 0 m.functions))

@@ -24,4 +24,5 @@ mod what;
 mod word;
 mod wrongs;
 
+pub use sizes::check_sizes;
 pub use triples::triple;

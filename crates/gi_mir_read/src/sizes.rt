@@ -1,12 +1,12 @@
 //! What passes the limits of what is handled.
 
-ghost use Rattle.std.specs.Prelude.{◌≡◌, ◌≤◌, ◌<◌, ◌^◌, ◌⊎◌, ℕ, ◌+◌, None, Some, flat_map, length, if◌then◌else◌};
+ghost use Rattle.std.specs.Prelude.{◌≡◌, ◌≤◌, ◌<◌, ◌^◌, ◌⊎◌, ℕ, ◌+◌, None, Some, flat_map, length, if◌then◌else◌, OnOk, IfErr};
 ghost use Rattle.std.specs.List.{list_any};
 ghost use Rattle.gi_mir.specs.Registers.{kind_in_instrs, kind_in_operand, kind_in_operands, kind_of, type_of_kind};
 ghost use Rattle.gi_mir.specs.Row.{rows_of};
 ghost use Rattle.gi_mir.specs.Types.{is_any};
 ghost use Rattle.gi_spelling.specs.Printed.{definitions_of, first_row, is_definition, sources_of, forms_after, is_typed_by, is_typed_form, source_forms};
-ghost use Rattle.gi_mir_read.specs.Sizes.{above, access_faults, blocks_faults, count_after, count_faults, counted, error_of, first_line, forms_behind, function_faults, functions_faults, head_faults, line_of, is_before, is_copy, is_definition_form, is_extension, is_physical, is_physical_copy, is_right_result, is_right_source, instr_faults, instrs_faults, is_word, lower, lowest_after, memory_faults, number_faults, numbers_faults, numbers_of, object_faults, objects_faults, operand_faults, operands_faults, parts_of, register_faults, result_bits, results_after, shown_faults, sources_after, told_number, type_faults, width_unless};
+ghost use Rattle.gi_mir_read.specs.Sizes.{above, access_faults, blocks_faults, count_after, count_faults, counted, first_line, forms_behind, function_faults, functions_faults, head_faults, line_of, is_before, is_copy, is_definition_form, is_extension, is_physical, is_physical_copy, is_right_result, is_right_source, instr_faults, instrs_faults, is_word, lower, lowest_after, memory_faults, number_faults, numbers_faults, numbers_of, object_faults, objects_faults, operand_faults, operands_faults, parts_of, register_faults, result_bits, results_after, shown_faults, size_fault, sources_after, told_number, type_faults, width_unless};
 
 use gi_llt::{Llt, Target, width};
 use gi_mir::accepted::{
@@ -15,18 +15,19 @@ use gi_mir::accepted::{
 use gi_mir::block::Numbered;
 use gi_mir::function::Function;
 use gi_mir::instr::Instr;
+use gi_mir::module::Module;
 use gi_mir::opcode::Opcode;
 use gi_mir::operand::{Kind, MemOp, Operand, Reg, StackObject};
 use gi_text::SizeError;
 use gi_mir::row::Form;
 use gi_mir::types::{is_any, is_pointer, is_register, scalar_bits};
 
-/// A fault of a line: its line, its place among the kinds of faults, and the number that is told.
+/// A fault of a line: its line, its place among the kinds of faults, and what is told.
 #[derive(Clone, Copy, Debug, PartialEq, Eq)]
 pub(crate) struct Fault {
     pub line: u32,
     pub rank: u8,
-    pub number: u32,
+    pub error: SizeError,
 }
 
 /// Whether one fault is told before another.
@@ -62,7 +63,10 @@ fn with_limit(lowest: Option<Fault>, line: u32, rank: u8, limit: u32, number: u6
             Fault {
                 line,
                 rank,
-                number: limit,
+                error: SizeError::Limit {
+                    line,
+                    number: u64::from(limit),
+                },
             },
         )
     } else {
@@ -82,7 +86,7 @@ fn with_width(lowest: Option<Fault>, is_right: bool, line: u32, bits: u16) -> Op
             Fault {
                 line,
                 rank: 0,
-                number: u32::from(bits),
+                error: SizeError::Width { line, bits },
             },
         )
     }
@@ -747,19 +751,15 @@ fn lowest_fault(target: Target, functions: &[Function]) -> Option<Fault>
     lowest
 }
 
-/// A fault as it is told.
-fn error_of(fault: Fault) -> SizeError
-    ensures { result ≡ error_of fault }
+/// Nothing where no line of a module passes what is handled, and else the fault of the lowest line that
+/// does.
+pub fn check_sizes(module: &Module, target: Target) -> Result<(), SizeError>
+    requires { (target.xlen ≡ 32) ⊎ (target.xlen ≡ 64) }
+    ensures right { OnOk result (size_fault target.xlen «module».now ≡ None) }
+    ensures fault { IfErr result (λ error. size_fault target.xlen «module».now ≡ Some error) }
 {
-    if fault.rank == 0 {
-        SizeError::Width {
-            line: fault.line,
-            bits: fault.number as u16,
-        }
-    } else {
-        SizeError::Limit {
-            line: fault.line,
-            number: u64::from(fault.number),
-        }
+    match lowest_fault(target, module.functions.as_slice()) {
+        Some(fault) => Err(fault.error),
+        None => Ok(()),
     }
 }
