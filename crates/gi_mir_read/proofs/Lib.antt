@@ -27,3 +27,4 @@ pub mod TextLemmas
 pub mod ToldCuts
 pub mod ToldLemmas
 pub mod TripleLemmas
+pub mod SizeLemmas
