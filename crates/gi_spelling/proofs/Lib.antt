@@ -25,3 +25,4 @@ pub mod TextSpells
 pub mod StatedSpells
 pub mod SignedNumbers
 pub mod StatedTexts
+pub mod ReadWrongs
