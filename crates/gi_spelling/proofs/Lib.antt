@@ -26,3 +26,4 @@ pub mod StatedSpells
 pub mod SignedNumbers
 pub mod StatedTexts
 pub mod ReadWrongs
+pub mod ReadBlocks
