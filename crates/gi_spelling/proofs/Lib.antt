@@ -27,3 +27,4 @@ pub mod SignedNumbers
 pub mod StatedTexts
 pub mod ReadWrongs
 pub mod ReadBlocks
+pub mod ReadHeads

@@ -53,12 +53,12 @@ read_livein_part : (part : List Item) (number : ℕ) → read_livein part ≡ Ok
 read_livein_part [] number e = absurd (cc)
 read_livein_part (item ∷ rest) number e = livein_part item item.what rest number refl e
 
-successors_whats : (items : List Item) (numbers : List ℕ) → read_successors items ≡ Ok numbers → map what_in items ≡ listed_whats (map block_whats numbers)
+pub successors_whats : (items : List Item) (numbers : List ℕ) → read_successors items ≡ Ok numbers → map what_in items ≡ listed_whats (map block_whats numbers)
 successors_whats [] numbers e = settled (λ (numbers : List ℕ). [] ≡ listed_whats (map block_whats numbers)) [] numbers e refl
 successors_whats (item ∷ rest) numbers e =
     (parts_spelled block_whats (λ n. []) (item ∷ rest) numbers (all_ok block_whats (λ n. []) read_block read_block_part (parts_of (item ∷ rest)) numbers e)).same
 
-liveins_whats : (items : List Item) (numbers : List ℕ) → read_liveins items ≡ Ok numbers → map what_in items ≡ listed_whats (map physical_whats numbers)
+pub liveins_whats : (items : List Item) (numbers : List ℕ) → read_liveins items ≡ Ok numbers → map what_in items ≡ listed_whats (map physical_whats numbers)
 liveins_whats items numbers e =
     (parts_spelled physical_whats (λ n. []) items numbers (all_ok physical_whats (λ n. []) read_livein read_livein_part (parts_of items) numbers e)).same
 
@@ -68,7 +68,7 @@ some_read parts part more is [] all empty =
     wrong_zip
 some_read parts part more is (n ∷ numbers) all empty = cc
 
-liveins_some : (items : List Item) (numbers : List ℕ) → read_liveins items ≡ Ok numbers → numbers ≢ []
+pub liveins_some : (items : List Item) (numbers : List ℕ) → read_liveins items ≡ Ok numbers → numbers ≢ []
 liveins_some items numbers e =
     let p = some_parts items in
     some_read (parts_of items) p.0 p.1 p.2 numbers (all_ok physical_whats (λ n. []) read_livein read_livein_part (parts_of items) numbers e)
@@ -85,7 +85,7 @@ pub record ReadsAs (text : List ℕ) (tables : Tables) (fine : Shown → Bool) (
   pub shown : list_all (λ s. fine (shown_at line.number s)) (shown_types written) ≡ true
 
 -- what one line does where it isn't wrong
-data Step (text : List ℕ) (tables : Tables) (place : ℕ) (body : Body) (line : Line) : Type 0 where
+pub data Step (text : List ℕ) (tables : Tables) (place : ℕ) (body : Body) (line : Line) : Type 0 where
   ListStep : (kind : ListKind) (lists : Lists) → list_kind text line ≡ Some kind → body.begun ≡ false → with_list place body.lists kind (listed_in (kept_items text line)) ≡ Some lists
       → with_line text tables place body line ≡ record body { lists = lists } → body.wrongs ≡ [] → Step text tables place body line
   InstrStep : (items : List Item) (written : WrittenData) (instr : InstrData) → list_kind text line ≡ None → kept_items text line ≡ Some items → read_instr items ≡ Ok written
@@ -150,7 +150,7 @@ right_before text tables place [] body e = e
 right_before text tables place (line ∷ lines) body e =
     step_right text tables place body line (step text tables place body line (right_before text tables place lines (with_line text tables place body line) e))
 
-first_step : (text : List ℕ) (tables : Tables) (place : ℕ) (line : Line) (lines : List Line) (body : Body) → (fold (with_line text tables place) body (line ∷ lines)).wrongs ≡ [] → Step text tables place body line
+pub first_step : (text : List ℕ) (tables : Tables) (place : ℕ) (line : Line) (lines : List Line) (body : Body) → (fold (with_line text tables place) body (line ∷ lines)).wrongs ≡ [] → Step text tables place body line
 first_step text tables place line lines body e = step text tables place body line (right_before text tables place lines (with_line text tables place body line) e)
 
 shown_step : (text : List ℕ) (tables : Tables) (place : ℕ) (fine : Shown → Bool) (body : Body) (line : Line) → Step text tables place body line
@@ -160,13 +160,13 @@ shown_step text tables place fine body line (InstrStep items written instr is ke
     let both : list_all fine (body.shown ++ map (shown_at line.number) (shown_types written)) ≡ true = subst (λ (b : Body). list_all fine b.shown ≡ true) whole all in
     (and_parts (list_all fine body.shown) (list_all fine (map (shown_at line.number) (shown_types written))) (sym (list_all-append fine body.shown (map (shown_at line.number) (shown_types written))) ∙ both)).0
 
-shown_before : (text : List ℕ) (tables : Tables) (place : ℕ) (fine : Shown → Bool) (lines : List Line) (body : Body) → (fold (with_line text tables place) body lines).wrongs ≡ []
+pub shown_before : (text : List ℕ) (tables : Tables) (place : ℕ) (fine : Shown → Bool) (lines : List Line) (body : Body) → (fold (with_line text tables place) body lines).wrongs ≡ []
     → list_all fine (fold (with_line text tables place) body lines).shown ≡ true → list_all fine body.shown ≡ true
 shown_before text tables place fine [] body e all = all
 shown_before text tables place fine (line ∷ lines) body e all =
     shown_step text tables place fine body line (first_step text tables place line lines body e) (shown_before text tables place fine lines (with_line text tables place body line) e all)
 
-map_fine : (fine : Shown → Bool) (n : ℕ) (types : List (Reg × Llt)) → list_all fine (map (shown_at n) types) ≡ true → list_all (λ s. fine (shown_at n s)) types ≡ true
+pub map_fine : (fine : Shown → Bool) (n : ℕ) (types : List (Reg × Llt)) → list_all fine (map (shown_at n) types) ≡ true → list_all (λ s. fine (shown_at n s)) types ≡ true
 map_fine fine n [] all = refl
 map_fine fine n (s ∷ types) all =
     let parts = and_parts (fine (shown_at n s)) (list_all fine (map (shown_at n) types)) all in
@@ -180,7 +180,7 @@ pub record ReadsInstrs (text : List ℕ) (tables : Tables) (fine : Shown → Boo
   pub lists : whole.lists ≡ body.lists
   pub no_list : list_all (λ line. not (is_list_line text line)) lines ≡ true
 
-reads_instrs : (text : List ℕ) (tables : Tables) (place : ℕ) (fine : Shown → Bool) (lines : List Line) (body : Body) → body.begun ≡ true → (fold (with_line text tables place) body lines).wrongs ≡ []
+pub reads_instrs : (text : List ℕ) (tables : Tables) (place : ℕ) (fine : Shown → Bool) (lines : List Line) (body : Body) → body.begun ≡ true → (fold (with_line text tables place) body lines).wrongs ≡ []
     → list_all fine (fold (with_line text tables place) body lines).shown ≡ true → ReadsInstrs text tables fine lines body (fold (with_line text tables place) body lines)
 reads_instrs text tables place fine [] body begins e all = record { instrs = []; each = tt; all = sym (append-nil body.instrs); lists = refl; no_list = refl }
 reads_instrs text tables place fine (line ∷ lines) body begins e all =
