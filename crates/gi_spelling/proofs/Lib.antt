@@ -28,3 +28,4 @@ pub mod StatedTexts
 pub mod ReadWrongs
 pub mod ReadBlocks
 pub mod ReadHeads
+pub mod ReadKinds
