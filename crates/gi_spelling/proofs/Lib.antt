@@ -29,3 +29,4 @@ pub mod ReadWrongs
 pub mod ReadBlocks
 pub mod ReadHeads
 pub mod ReadKinds
+pub mod ReadSpells
