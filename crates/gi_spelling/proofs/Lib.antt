@@ -26,3 +26,8 @@ pub mod WrittenLines
 pub mod WrittenParts
 pub mod WrittenPieces
 pub mod Zips
+pub mod ReadWrongs
+pub mod ReadBlocks
+pub mod ReadHeads
+pub mod ReadKinds
+pub mod ReadSpells
