@@ -186,10 +186,11 @@ pub inserted : (place : ℕ) (f g : FunctionData) (i : InstrData) (left rest : L
     → (place < length g.blocks) × AreFormed rest × (fold (with_last place) g rest ≡ whole)
 inserted place f g i left rest whole is put within formed so_far =
     let kept : place < length (slice_set f.blocks place (block_with_instr (block_at f place) None (f.next_id, i))) =
-    omega (arith, length-set f.blocks place (block_with_instr (block_at f place) None (f.next_id, i))) in
-    ( subst (λ h. place < length h.blocks) (sym put) kept
-    , record { all = All-rest (λ instr. is_formed instr ≡ true) i rest left is formed.all }
-    , ap (λ h. fold (with_last place) h rest) put ∙ sym (ap (fold (with_last place) f) is) ∙ so_far )
+    omega (arith, length-set f.blocks place (block_with_instr (block_at f place) None (f.next_id, i))) in (
+      subst (λ h. place < length h.blocks) (sym put) kept,
+      record { all = All-rest (λ instr. is_formed instr ≡ true) i rest left is formed.all },
+      ap (λ h. fold (with_last place) h rest) put ∙ sym (ap (fold (with_last place) f) is) ∙ so_far,
+    )
 
 -- a block that has been read is the last of its function
 pub head-is : (numbers : List ℕ) (place : ℕ) (body : BodyData) → head_by numbers place body.lists body.instrs ≡ head_of_body numbers place (spelled_by body)

@@ -1,14 +1,14 @@
 //! The blocks of a function.
 
 ghost use Rattle.std.specs.Prelude.{◌≡◌, ◌-◌, ◌<◌, ◌^◌, [], ◌∷◌, Some, if◌then◌else◌, All, fold, filter_map, length, map, IfOk, OnOk};
-ghost use Rattle.gi_spelling.specs.Blocks.{is_head, list_kind_in, outer_fault, outer_wrong, wrong};
+ghost use Rattle.gi_spelling.specs.Blocks.{block_numbers, blocks_in, is_head, list_kind_in, outer_fault, outer_wrong, wrong};
 ghost use Rattle.gi_spelling.specs.Documents.{lower};
 ghost use Rattle.gi_spelling.specs.Items.{kept_items};
 ghost use Rattle.gi_spelling.specs.declared.written.Fault.TheVariants as fault;
-ghost use Rattle.gi_mir_read.specs.Blocked.{IsToldIn, head_of, section_of, told_at, told_lines_at};
+ghost use Rattle.gi_mir_read.specs.Blocked.{IsToldIn, blocks_of, head_of, section_of, told_at, told_lines_at};
 ghost use Rattle.gi_mir_read.specs.Noted.{with_lowest};
-ghost use Rattle.gi_mir_read.specs.Placed.{IsLineIn, line_at};
-ghost use Rattle.gi_mir_read.specs.ReadBlocks.{ReadsBlock, head_wrongs};
+ghost use Rattle.gi_mir_read.specs.Placed.{IsLineIn, line_at, lines_at};
+ghost use Rattle.gi_mir_read.specs.ReadBlocks.{BlocksAreRead, ReadsBlock, ReadsBlocks, head_wrongs, tables_in};
 
 use crate::block::{is_head, list_kind};
 use crate::body::{Body, Site};
@@ -136,4 +136,70 @@ fn read_block(
     let mut body = Body::new(site.alloc);
     body.lines(site, names, notes, block.under)?;
     add_body(site.alloc, function, site.tables, count, body)
+}
+
+/// Reads blocks one after the other.
+fn read_blocks(
+    alloc: Global,
+    text: &[u8],
+    tables: &Tables,
+    names: &mut Names,
+    notes: &mut Notes,
+    function: &mut Function,
+    told: &[Told],
+) -> Result<(), Memory>
+    requires told { All (IsToldIn text.now) told.now }
+    requires headed { (blocks_of text.now told.now).before ≡ [] }
+    requires numbered { tables.now.blocks ≡ block_numbers text.now (blocks_of text.now told.now).sections }
+    requires empty { function.old.blocks ≡ [] }
+    requires short { length text.now < 2 ^ 32 - 1 }
+    ensures { OnOk result (ReadsBlocks text.now tables.now names.old names.new (blocks_of text.now told.now).sections function.old function.new notes.old notes.new) }
+{
+    let count = tables.blocks.count()?;
+    let mut rest = told;
+    while let Some((block, later)) = next_block(rest) {
+        let place = function.block_count();
+        let site = Site {
+            alloc,
+            text,
+            tables,
+            place,
+        };
+        read_block(site, count, names, notes, function, block)?;
+        rest = later;
+    }
+    Ok(())
+}
+
+/// Reads the blocks of a function from the lines under `body`, and notes what is wrong with them.
+pub(crate) fn blocks(
+    alloc: Global,
+    text: &[u8],
+    names: &mut Names,
+    function: &mut Function,
+    classes: Classes,
+    objects: u32,
+    lines: &[Line],
+    lowest: &mut Lowest,
+) -> Result<(), Memory>
+    requires lines { All (IsLineIn text.now) lines.now }
+    requires short { length text.now < 2 ^ 32 - 1 }
+    requires empty { function.old.blocks ≡ [] }
+    ensures { OnOk result (BlocksAreRead text.now (tables_in text.now classes objects (blocks_in text.now (lines_at text.now lines.now))) (blocks_in text.now (lines_at text.now lines.now))
+        names.old names.new function.old function.new lowest.old lowest.new) }
+{
+    let told = told_lines(alloc, text, lines)?;
+    let told = told.as_slice();
+    let blocks = numbers_of(alloc, told)?;
+    let tables = Tables {
+        classes,
+        blocks,
+        objects,
+    };
+    let (outer, rest) = cut_at_block(told);
+    let mut notes = Notes::new(alloc, *lowest);
+    note_outers(alloc, text, &mut notes, outer)?;
+    read_blocks(alloc, text, &tables, names, &mut notes, function, rest)?;
+    *lowest = notes.lowest();
+    Ok(())
 }
