@@ -22,6 +22,7 @@ pub mod PartCuts
 pub mod ReadLemmas
 pub mod RunCuts
 pub mod SectionCuts
+pub mod SizeLemmas
 pub mod SplitLemmas
 pub mod TableLemmas
 pub mod TextLemmas

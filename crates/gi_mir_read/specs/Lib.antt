@@ -20,14 +20,3 @@ pub mod Stops
 pub mod Texts
 pub mod Triples
 pub mod Turns
-pub mod Turns
-pub mod Keyed
-pub mod Blocked
-pub mod Texts
-pub mod Grouped
-pub mod Numbered
-pub mod Noted
-pub mod Bodies
-pub mod Meant
-pub mod Implied
-pub mod ReadBlocks

@@ -9,7 +9,7 @@
 --     rank 6     size of a stack object          1048576
 --     rank 7     alignment of a stack object        4096
 --     rank 8     alignment of a memory operand      4096
-use Rattle.std.specs.Prelude.{◌≡◌, ℕ, suc, ◌+◌, ◌*◌, ℤ, pos, negsuc, min, Bool, true, false, not, ◌&&◌, ◌||◌, List, [], ◌∷◌, ◌++◌, Option, Some, None, Result, Ok, Err, length, flat_map, fold, nat_lt, nat_le, ◌==◌, if◌then◌else◌}
+use Rattle.std.specs.Prelude.{◌≡◌, ℕ, suc, ◌+◌, ◌*◌, ℤ, pos, negsuc, min, Bool, true, false, not, ◌&&◌, ◌||◌, List, [], ◌∷◌, ◌++◌, Option, Some, None, Result, Ok, Err, length, flat_map, fold, option_map, unwrap_or, nat_lt, nat_le, ◌==◌, if◌then◌else◌}
 use Rattle.std.specs.List.{list_any}
 use Rattle.std.specs.Option.{option_map_or}
 use Rattle.gi_llt.specs.declared.Llt.{Llt}
@@ -29,6 +29,7 @@ use Rattle.gi_mir.specs.declared.operand.Operand.{Operand}
 use Rattle.gi_mir.specs.declared.operand.Operand.TheVariants.{Def, Use, Phys, PhysDef, Int, Constant}
 use Rattle.gi_mir.specs.declared.operand.StackObject.{StackObject}
 use Rattle.gi_mir.specs.declared.row.Form.{Form}
+use Rattle.gi_mir.specs.declared.row.Form.TheVariants as form
 use Rattle.gi_spelling.specs.Printed.{definitions_of, first_row, forms_after, is_typed_by, source_forms, sources_of}
 use Rattle.gi_mir_read.specs.declared.sizes.Fault.{Fault}
 
@@ -46,11 +47,11 @@ abbrev pub lowest_after : Option Fault → List Fault → Option Fault
 lowest_after lowest faults = fold lower lowest faults
 
 abbrev pub width_fault : (line bits : ℕ) → Fault
-width_fault line bits = record { line = line; rank = 0; number = bits }
+width_fault line bits = record { line = line; rank = 0; error = Width line bits }
 
 -- a number that passes its limit
 abbrev pub above : (line rank limit number : ℕ) → List Fault
-above line rank limit number = if nat_lt limit number then record { line = line; rank = rank; number = limit } ∷ [] else []
+above line rank limit number = if nat_lt limit number then record { line = line; rank = rank; error = Limit line limit } ∷ [] else []
 
 -- ══ Types ══
 
@@ -118,6 +119,12 @@ abbrev pub sources_after : ℕ → Operand → ℕ
 sources_after sources (Use reg) = sources + 1
 sources_after sources _ = sources
 
+abbrev pub is_definition_form : Form → Bool
+is_definition_form form.Def = true
+is_definition_form form.PhysicalDef = true
+is_definition_form form.Results = true
+is_definition_form _ = false
+
 -- a definition takes no form of those of what is none
 abbrev pub forms_behind : List Form → Operand → List Form
 forms_behind forms (Def reg kind) = forms
@@ -147,52 +154,76 @@ memory_faults x instr None = []
 memory_faults x instr (Some memory) =
     type_faults x instr.line (is_memory_type x instr.op) (Some memory.ty) ++ above instr.line 8 4096 memory.align
 
--- the operands of the function are counted up to an instruction; they are told where they pass the limit
+-- the operands of the function are counted, to one above the limit; they are told where they pass it
+abbrev pub count_after : (before count : ℕ) → ℕ
+count_after before count = min (before + count) 262145
+
 abbrev pub count_faults : (line before count : ℕ) → List Fault
 count_faults line before count = if nat_le before 262144 then above line 1 262144 (before + count) else []
 
+-- what an instruction shows, its memory operand, and its numbers
+abbrev pub shown_faults : ℕ → (kinds : ℕ → Kind) → InstrData → List Fault
+shown_faults x kinds instr = operands_faults x kinds instr 0 0 (source_forms (first_row (rows_of instr.op))) instr.operands
+
+abbrev pub access_faults : ℕ → InstrData → List Fault
+access_faults x instr = memory_faults x instr instr.mem
+
+abbrev pub numbers_of : (before line : ℕ) → Opcode → List Operand → List Fault
+numbers_of before line op operands =
+    count_faults line before (length operands) ++ (flat_map (register_faults line) operands ++ above line 5 16 (parts_of op operands))
+
+abbrev pub numbers_faults : (before : ℕ) → InstrData → List Fault
+numbers_faults before instr = numbers_of before instr.line instr.op instr.operands
+
 abbrev pub instr_faults : ℕ → (kinds : ℕ → Kind) → (before : ℕ) → InstrData → List Fault
-instr_faults x kinds before instr =
-    operands_faults x kinds instr 0 0 (source_forms (first_row (rows_of instr.op))) instr.operands
-    ++ (memory_faults x instr instr.mem
-    ++ (count_faults instr.line before (length instr.operands)
-    ++ (flat_map (register_faults instr.line) instr.operands
-    ++ above instr.line 5 16 (parts_of instr.op instr.operands))))
+instr_faults x kinds before instr = shown_faults x kinds instr ++ (access_faults x instr ++ numbers_faults before instr)
 
 -- ══ A function, and a module ══
 
 abbrev pub instrs_faults : ℕ → (kinds : ℕ → Kind) → (before : ℕ) → List (ℕ × InstrData) → List Fault
 instrs_faults x kinds before [] = []
 instrs_faults x kinds before (instr ∷ instrs) =
-    instr_faults x kinds before instr.1 ++ instrs_faults x kinds (before + length (instr.1).operands) instrs
+    instr_faults x kinds before instr.1 ++ instrs_faults x kinds (count_after before (length (instr.1).operands)) instrs
 
-abbrev pub instrs_of : BlockData → List (ℕ × InstrData)
-instrs_of block = block.instrs
+abbrev pub counted : (before : ℕ) → List (ℕ × InstrData) → ℕ
+counted before [] = before
+counted before (instr ∷ instrs) = counted (count_after before (length (instr.1).operands)) instrs
+
+abbrev pub blocks_faults : ℕ → (kinds : ℕ → Kind) → (before : ℕ) → List BlockData → List Fault
+blocks_faults x kinds before [] = []
+blocks_faults x kinds before (block ∷ blocks) =
+    instrs_faults x kinds before block.instrs ++ blocks_faults x kinds (counted before block.instrs) blocks
+
+abbrev pub line_of : List (ℕ × InstrData) → Option ℕ
+line_of [] = None
+line_of (instr ∷ instrs) = Some (instr.1).line
 
 -- the line of the first instruction in layout, and 1 without one
-abbrev pub first_line : List (ℕ × InstrData) → ℕ
+abbrev pub first_line : List BlockData → ℕ
 first_line [] = 1
-first_line (instr ∷ instrs) = (instr.1).line
+first_line (block ∷ blocks) = unwrap_or (line_of block.instrs) (first_line blocks)
 
 abbrev pub object_faults : (line : ℕ) → StackObject → List Fault
 object_faults line object = above line 6 1048576 object.size ++ above line 7 4096 object.align
 
--- the function at a place among the module's
+abbrev pub objects_faults : (line : ℕ) → List StackObject → List Fault
+objects_faults line objects = flat_map (object_faults line) objects
+
+-- the counts of the function at a place among the module's
+abbrev pub head_faults : (line place : ℕ) → FunctionData → List Fault
+head_faults line place f =
+    above line 2 65535 (length f.blocks) ++ (above line 3 65535 (place + 1) ++ objects_faults line f.stack)
+
 abbrev pub function_faults : (x place : ℕ) → FunctionData → List Fault
-function_faults x place f =
-    above (first_line (flat_map instrs_of f.blocks)) 2 65535 (length f.blocks)
-    ++ (above (first_line (flat_map instrs_of f.blocks)) 3 65535 (place + 1)
-    ++ (flat_map (object_faults (first_line (flat_map instrs_of f.blocks))) f.stack
-    ++ instrs_faults x (kind_of f) 0 (flat_map instrs_of f.blocks)))
+function_faults x place f = head_faults (first_line f.blocks) place f ++ blocks_faults x (kind_of f) 0 f.blocks
 
 abbrev pub functions_faults : (x place : ℕ) → List FunctionData → List Fault
 functions_faults x place [] = []
 functions_faults x place (f ∷ functions) = function_faults x place f ++ functions_faults x (place + 1) functions
 
-abbrev pub error_of : Fault → SizeError
-error_of fault =
-    if fault.rank == 0 then Width fault.line fault.number else Limit fault.line fault.number
+abbrev pub told : Fault → SizeError
+told fault = fault.error
 
--- the fault that is told, if there is one
-abbrev pub size_fault : ℕ → ModuleData → Option Fault
-size_fault x m = lowest_after None (functions_faults x 0 m.functions)
+-- what is told of a module, where there is a fault
+abbrev pub size_fault : (x : ℕ) → ModuleData → Option SizeError
+size_fault x m = option_map told (lowest_after None (functions_faults x 0 m.functions))

@@ -49,6 +49,7 @@ mod word;
 mod wrongs;
 
 pub use read::read_mir;
+pub use sizes::check_sizes;
 pub use triples::triple;
 
 #[cfg(test)]

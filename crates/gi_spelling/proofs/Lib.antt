@@ -11,8 +11,13 @@ pub mod Numerals
 pub mod PlacedLines
 pub mod PrintExamples
 pub mod PrintedTokens
+pub mod ReadBlocks
+pub mod ReadHeads
+pub mod ReadKinds
 pub mod ReadLines
 pub mod ReadPieces
+pub mod ReadSpells
+pub mod ReadWrongs
 pub mod SignedNumbers
 pub mod SpelledLines
 pub mod SpellingExamples

@@ -2,6 +2,7 @@
 
 ghost use Rattle.std.specs.Prelude.{◌≡◌, List, ℕ, Ok};
 ghost use Rattle.gi_spelling.specs.Reading.{read_instr};
+ghost use Rattle.gi_spelling.specs.Read.{IsReadModule};
 ghost use Rattle.gi_spelling.specs.Spelling.{AreWritten, Spells};
 ghost use Rattle.gi_spelling.specs.Written.{WrittenData};
 ghost use Rattle.gi_spelling.specs.declared.token.Item.{Item};
@@ -20,6 +21,11 @@ pub fn read_lines_are_written()
 /// A line whose tokens spell something is read as that.
 pub fn written_lines_are_read()
     ensures { (items : List Item) (written : WrittenData) → AreWritten items written → read_instr items ≡ Ok written }
+{}
+
+/// A text spells the module that it is read as.
+pub fn read_text_spells()
+    ensures { (text : List ℕ) (m : ModuleData) → IsReadModule text m → Spells text m }
 {}
 
 /// The printed text of a module spells that module.
