@@ -103,11 +103,7 @@ fn classes(alloc: Global, registers: &[(u32, RegisterClass)]) -> Result<Classes,
 }
 
 /// The classes of the registers of a document.
-pub(crate) fn classes_of(
-    alloc: Global,
-    text: &[u8],
-    firsts: &Firsts<'_>,
-) -> Result<Classes, Memory>
+pub(crate) fn classes_of(alloc: Global, text: &[u8], firsts: &Firsts<'_>) -> Result<Classes, Memory>
     requires within { AreFirstsIn text.now firsts.now }
     requires short { length text.now < 2 ^ 32 - 1 }
     ensures { IfOk result (λ classes. (sections : List spelled.Section) → AreFirsts text.now sections firsts.now → classes ≡ (read_document text.now sections).classes) }

@@ -129,7 +129,10 @@ fn reads_texts(rt: HostRuntime) -> Result<(), Fail> {
             "---\nname: f\nlegalized: true\nregisters:\n  - { id: 0, class: gprb }\nstack:\n  - { id: 0, size: 8,\n      alignment: 4 }\nbody: |\n  bb.3:\n    %0(s32) = G_CONSTANT i32 -1\n    %1:_(p0) = G_FRAME_INDEX %stack.0\n    %2:_(s32) = G_LOAD %1(p0) :: (load (s32), align 1)\n    G_BR %bb.7\n  bb.7:\n    PseudoRET\n...\n",
             "f true false false StackObject { size: 8, align: 4 }\nblock to 1\n11 GenericConstant Def(Reg(0), Banked(Scalar(32))) Constant(32, 4294967295)\n12 GenericFrameIndex Def(Reg(1), Generic(Pointer)) Frame(0)\n13 GenericLoad Def(Reg(2), Generic(Scalar(32))) Use(Reg(1)) MemOp { load: true, ty: Scalar(32), align: 1 }\n14 GenericBranch Block(1)\nblock\n16 PseudoReturn\n",
         ),
-        ("---\nname: f\nname: g\nbody: |\n  bb.0:\n    PseudoRET\n...\n", "Syntax { line: 3 }"),
+        (
+            "---\nname: f\nname: g\nbody: |\n  bb.0:\n    PseudoRET\n...\n",
+            "Syntax { line: 3 }",
+        ),
         (
             "---\nname: f\nbody: |\n  bb.0:\n    %0:_(s32) = COPY $x10\n    $x10 = COPY %0(s64)\n    PseudoRET\n...\n",
             "Syntax { line: 6 }",
