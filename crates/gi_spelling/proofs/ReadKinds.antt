@@ -1,24 +1,23 @@
 -- The kinds of registers and the implied successors look at neither ids nor names.
-use Rattle.std.proofs.Common.{◌≡◌, ℕ, suc, Bool, true, false, List, [], ◌∷◌, ◌++◌, Option, Some, None, map, refl, sym, ap, ◌∙◌, subst, append_assoc, append-nil}
+use Rattle.std.proofs.Common.{◌≡◌, ℕ, Bool, true, false, List, [], ◌∷◌, ◌++◌, Option, Some, None, map, refl, sym, ap, ◌∙◌}
 use Rattle.std.specs.Prelude.{◌==◌, ◌&&◌, not, ⊤, filter_map, flat_map, find, option_map, unwrap_or, if◌then◌else◌}
 use Rattle.std.specs.List.{list_all, cons_option, AllZip}
 use Rattle.std.specs.Option.{option_map_or}
 use Rattle.std.proofs.lemmas.Bool.{and_parts}
 use Rattle.std.proofs.lemmas.List.Folds.{list_all-append}
-use Rattle.gi_llt.specs.declared.Llt.{Llt}
 use Rattle.gi_mir.specs.declared.operand.Kind.{Kind}
 use Rattle.gi_mir.specs.declared.operand.Kind.TheVariants.{Class}
 use Rattle.gi_mir.specs.declared.operand.Operand.{Operand}
 use Rattle.gi_mir.specs.declared.operand.Operand.TheVariants as operand
 use Rattle.gi_mir.specs.declared.operand.Reg.{Reg}
 use Rattle.gi_mir.specs.Data.{InstrData, BlockData, FunctionData}
-use Rattle.gi_mir.specs.Registers.{type_of_kind, first_there, kind_in_operand, kind_in_operands, kind_in_instrs, kind_in_blocks, kind_of}
+use Rattle.gi_mir.specs.Registers.{type_of_kind, first_there, kind_in_operand, kind_in_operands, kind_in_instrs, kind_in_blocks}
 use Rattle.gi_mir.specs.Row.{is_branch_op, is_unconditional_op}
 use Rattle.gi_spelling.specs.declared.written.Fault.TheVariants as fault
 use Rattle.gi_spelling.specs.declared.written.Shown.{Shown}
-use Rattle.gi_spelling.specs.Blocks.{wrong, Body, defined_kind, kinds_in, first_kind, has_type, type_of_register, shown_wrong, shown_wrongs}
+use Rattle.gi_spelling.specs.Blocks.{wrong, Body, defined_kind, kinds_in, has_type, type_of_register, shown_wrong, shown_wrongs}
 use Rattle.gi_spelling.specs.Documents.{without_ids}
-use Rattle.gi_spelling.specs.Named.{IsNamedOperand, IsNamedInstr, IsNamedEntry}
+use Rattle.gi_spelling.specs.Named.{IsNamedOperand, IsNamedEntry}
 use Rattle.gi_spelling.specs.Printed.{with_targets, with_branches, falls_through, with_place, implied_successors}
 use Rattle.gi_spelling.specs.Spelling.{types_in}
 
