@@ -30,3 +30,4 @@ pub mod ReadBlocks
 pub mod ReadHeads
 pub mod ReadKinds
 pub mod ReadSpells
+pub mod SpelledEntries

@@ -91,7 +91,7 @@ any_last : {X : Type 0} (p : X → Bool) (xs : List X) (x : X) → p x ≡ true 
 any_last p [] x e = rw e refl
 any_last p (y ∷ ys) x e = or_right (p y) (list_any p (ys ++ (x ∷ []))) (any_last p ys x e)
 
-same_bytes : (xs ys : List ℕ) → bytes_eq xs ys ≡ true → xs ≡ ys
+pub same_bytes : (xs ys : List ℕ) → bytes_eq xs ys ≡ true → xs ≡ ys
 same_bytes [] [] e = refl
 same_bytes [] (y ∷ ys) e = absurd (cc)
 same_bytes (x ∷ xs) [] e = absurd (cc)
@@ -287,7 +287,7 @@ each_object place (group ∷ groups) e =
 
 -- ══ The name and the body ══
 
-any_filtered : {X : Type 0} (p : X → Bool) (xs : List X) → filter p xs ≡ [] → list_any p xs ≡ false
+pub any_filtered : {X : Type 0} (p : X → Bool) (xs : List X) → filter p xs ≡ [] → list_any p xs ≡ false
 any_filtered p [] e = refl
 any_filtered p (x ∷ xs) e = chosen (p x) e (any_filtered p xs)
   where
