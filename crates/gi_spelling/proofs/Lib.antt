@@ -31,3 +31,5 @@ pub mod ReadHeads
 pub mod ReadKinds
 pub mod ReadSpells
 pub mod SpelledEntries
+pub mod SpelledReads
+pub mod SpelledRight

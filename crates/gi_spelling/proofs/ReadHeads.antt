@@ -84,11 +84,11 @@ adds_liveins zero lists new (Ok numbers) e = chosen (is_there lists.liveins) ref
         record { numbers = numbers; first = refl; own = refl; none = not_there lists.liveins is; there = ap (λ (l : Lists). l.liveins) (sym same); other = ap (λ (l : Lists). l.successors) (sym same) }
 
 -- the lines of a kind, by their first line
-kind_front : (text : List ℕ) (kind own : ListKind) (line : Line) (lines : List Line) → list_kind text line ≡ Some own
+pub kind_front : (text : List ℕ) (kind own : ListKind) (line : Line) (lines : List Line) → list_kind text line ≡ Some own
     → kind_lines text kind (line ∷ lines) ≡ (if is_kind kind (Some own) then line ∷ kind_lines text kind lines else kind_lines text kind lines)
 kind_front text kind own line lines is = rw is (rw is refl)
 
-past_front : (text : List ℕ) (own : ListKind) (line : Line) (lines : List Line) → list_kind text line ≡ Some own → past_run (is_list_line text) (line ∷ lines) ≡ past_run (is_list_line text) lines
+pub past_front : (text : List ℕ) (own : ListKind) (line : Line) (lines : List Line) → list_kind text line ≡ Some own → past_run (is_list_line text) (line ∷ lines) ≡ past_run (is_list_line text) lines
 past_front text own line lines is = rw is refl
 
 list_front : (text : List ℕ) (tables : Tables) (place : ℕ) (fine : Shown → Bool) (line : Line) (lines : List Line) (body whole : Body) (kind : ListKind) (lists : Lists)
