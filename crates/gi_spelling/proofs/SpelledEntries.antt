@@ -1,6 +1,6 @@
 -- Nothing is wrong in the entries of a document that spells a function.
 use Rattle.std.proofs.Common.{◌≡◌, ℕ, suc, ◌≤◌, Bool, true, false, List, [], ◌∷◌, ◌++◌, length, Option, Some, None, Ok, Err, map, refl, sym, ap, ◌∙◌, subst, inl, inr, arith, append_assoc}
-use Rattle.std.specs.Prelude.{◌⊎◌, ◌&&◌, ◌||◌, ◌==◌, not, filter, filter_map, find, bytes_eq, option_map, codes, if◌then◌else◌}
+use Rattle.std.specs.Prelude.{◌&&◌, ◌==◌, filter, filter_map, find, bytes_eq, option_map, codes, if◌then◌else◌}
 use Rattle.std.specs.List.{list_all, list_any, cons_option}
 use Rattle.std.proofs.lemmas.Bool.{and_parts, and_right}
 use Rattle.std.proofs.lemmas.Bool.Decides.{nat_tests}
@@ -12,15 +12,13 @@ use Rattle.gi_spelling.specs.declared.token.What.{What}
 use Rattle.gi_spelling.specs.declared.token.What.TheVariants as what
 use Rattle.gi_spelling.specs.declared.token.Item.{Item}
 use Rattle.gi_spelling.specs.declared.written.Fields.{Fields}
-use Rattle.gi_spelling.specs.declared.written.Fault.TheVariants as fault
 use Rattle.gi_spelling.specs.declared.written.ListValue.TheVariants.{Entries, NoEntries}
 use Rattle.gi_spelling.specs.declared.written.Wrong.{Wrong}
 use Rattle.gi_spelling.specs.Items.{what_in, value_items}
 use Rattle.gi_spelling.specs.Lines.{Line, Section, is_entry, is_entry_of, key_of}
 use Rattle.gi_spelling.specs.Reading.{Read}
-use Rattle.gi_spelling.specs.Blocks.{wrong}
-use Rattle.gi_spelling.specs.Documents.{is_name, name_value, is_true, truth_fault, list_value, is_bar, line_entry, fields_wrong, register_wrongs, register_by, registers_in, Group, groups_of, object_at, objects_from, object_wrong, object_wrongs, onto_there, known_keys, under_wrongs, fault_then, list_wrongs, key_wrongs, is_again, entry_wrongs, entries_wrongs, entry_of, is_key_true, list_under, body_lines, is_missing}
-use Rattle.gi_spelling.specs.Spelling.{word_what, entries_with, value_whats, SpellsTruth, Lists, SpellsName, SpellsBody}
+use Rattle.gi_spelling.specs.Documents.{is_name, name_value, truth_fault, list_value, line_entry, fields_wrong, register_wrongs, register_by, registers_in, Group, object_at, objects_from, object_wrong, object_wrongs, onto_there, known_keys, under_wrongs, fault_then, list_wrongs, key_wrongs, is_again, entry_wrongs, entries_wrongs, list_under}
+use Rattle.gi_spelling.specs.Spelling.{word_what, entries_with, SpellsTruth, Lists, SpellsName, SpellsBody}
 use Rattle.gi_spelling.proofs.ReadWrongs.{any_filtered, same_bytes}
 
 -- ══ The keys that count ══

@@ -1,17 +1,17 @@
 -- Nothing is wrong in the blocks of a document that spells a function.
-use Rattle.std.proofs.Common.{◌≡◌, ℕ, zero, suc, Bool, true, false, List, [], ◌∷◌, ◌++◌, length, Option, Some, None, Result, Ok, Err, map, refl, sym, ap, ◌∙◌, subst, inl, inr, append_assoc, append-nil}
-use Rattle.std.specs.Prelude.{◌⊎◌, ◌≢◌, ◌&&◌, not, ⊤, filter, fold, if◌then◌else◌}
+use Rattle.std.proofs.Common.{◌≡◌, ℕ, zero, suc, Bool, true, false, List, [], ◌∷◌, ◌++◌, Option, Some, None, Ok, map, refl, sym, ap, ◌∙◌, subst, inl, inr, append_assoc, append-nil}
+use Rattle.std.specs.Prelude.{◌⊎◌, ◌≢◌, fold, if◌then◌else◌}
 use Rattle.std.specs.List.{list_all, AllZip}
 use Rattle.std.specs.Option.{option_map_or}
 use Rattle.std.specs.Cmp.Derive.{both_true}
 use Rattle.std.proofs.lemmas.Bool.{and_parts}
 use Rattle.std.proofs.lemmas.List.Folds.{list_all-append}
-use Rattle.gi_llt.specs.Tokens.{run_of, past_run}
+use Rattle.gi_llt.specs.Tokens.{past_run}
 use Rattle.gi_llt.specs.declared.Llt.{Llt}
 use Rattle.gi_mir.specs.declared.operand.MemOp.{MemOp}
 use Rattle.gi_mir.specs.declared.operand.Operand.{Operand}
 use Rattle.gi_mir.specs.declared.operand.Reg.{Reg}
-use Rattle.gi_mir.specs.Data.{InstrData, BlockData}
+use Rattle.gi_mir.specs.Data.{InstrData}
 use Rattle.gi_mir.specs.Formed.{is_formed}
 use Rattle.gi_spelling.specs.declared.token.What.{What}
 use Rattle.gi_spelling.specs.declared.token.What.TheVariants as what
@@ -20,15 +20,15 @@ use Rattle.gi_spelling.specs.declared.written.ListKind.{ListKind}
 use Rattle.gi_spelling.specs.declared.written.ListKind.TheVariants.{Successors, Liveins}
 use Rattle.gi_spelling.specs.declared.written.Shown.{Shown}
 use Rattle.gi_spelling.specs.Items.{what_in, kept_items}
-use Rattle.gi_spelling.specs.Lines.{Line, Section}
+use Rattle.gi_spelling.specs.Lines.{Line}
 use Rattle.gi_spelling.specs.Named.{IsNamedOperand}
-use Rattle.gi_spelling.specs.Reading.{Read, parts_of, read_all, read_instr}
+use Rattle.gi_spelling.specs.Reading.{Read, parts_of, read_all}
 use Rattle.gi_spelling.specs.Resolved.{Tables, each, formed, resolved_definition, resolved_source, resolved_memory, resolved}
 use Rattle.gi_spelling.specs.Written.{WrittenData}
-use Rattle.gi_spelling.specs.Blocks.{list_kind, list_kind_in, listed_in, read_block, read_livein, read_successors, read_liveins, Lists, Body, with_line, with_line_of, has_type, shown_types, shown_at}
+use Rattle.gi_spelling.specs.Blocks.{list_kind, list_kind_in, listed_in, read_block, read_livein, read_successors, read_liveins, Body, with_line, has_type, shown_types, shown_at}
 use Rattle.gi_spelling.specs.Spelling.{listed_whats, block_whats, physical_whats, SpellsInstr, type_at, is_list_line, SpellsSuccessors, SpellsLiveins}
 use Rattle.gi_spelling.proofs.ItemParts.{parts_whats}
-use Rattle.gi_spelling.proofs.WrittenParts.{no_comma, parts_written}
+use Rattle.gi_spelling.proofs.WrittenParts.{parts_written}
 use Rattle.gi_spelling.proofs.WrittenLines.{line_read}
 use Rattle.gi_spelling.proofs.SpelledLines.{line_begins, listless}
 use Rattle.gi_spelling.proofs.ReadHeads.{kind_lines, kind_front, past_front}
@@ -163,12 +163,12 @@ runs_on : (text : List ℕ) (names : List (List ℕ)) (types : ℕ → Option Ll
     → AllZip (IsNamedOperand text names) meant.operands (instr.1).operands → list_all (type_at types) (shown_types written) ≡ true
     → Runs text names types instrs (behind_instr body n written meant) whole → Runs text names types (instr ∷ instrs) body whole
 runs_on text names types instr instrs body whole n written meant operands shown rest = record {
-    right = rest.right;
-    meants = at_line n meant ∷ rest.meants;
-    own = rest.own ∙ append_assoc body.instrs (at_line n meant ∷ []) rest.meants;
-    from = (record { operands = operands }, rest.from);
-    shown = λ fine. rest.shown (list_all-append (fits_type types) body.shown (map (shown_at n) (shown_types written)) ∙ both_true fine (shown_fits types n (shown_types written) shown));
-  }
+  right = rest.right;
+  meants = at_line n meant ∷ rest.meants;
+  own = rest.own ∙ append_assoc body.instrs (at_line n meant ∷ []) rest.meants;
+  from = (record { operands = operands }, rest.from);
+  shown = λ fine. rest.shown (list_all-append (fits_type types) body.shown (map (shown_at n) (shown_types written)) ∙ both_true fine (shown_fits types n (shown_types written) shown));
+}
 
 instrs_run : (text : List ℕ) (names : List (List ℕ)) (tables : Tables) (types : ℕ → Option Llt) (place : ℕ) (lines : List Line) (instrs : List (ℕ × InstrData)) (body : Body) → body.wrongs ≡ []
     → AllZip (SpellsInstr text names tables types) lines instrs → Runs text names types instrs body (fold (with_line text tables place) body lines)
@@ -216,7 +216,7 @@ block_runs text names tables types place (line ∷ lines) instrs body begins rig
 
     chosen : (kind : Option ListKind) → list_kind text line ≡ kind
         → ((b : Body) → b.begun ≡ false → b.wrongs ≡ [] → FitsList text read_successors (kind_lines text Successors lines) b.lists.successors → FitsLiveins text place (kind_lines text Liveins lines) b.lists.liveins
-          → AllZip (SpellsInstr text names tables types) (past_run (is_list_line text) lines) instrs → Runs text names types instrs b (fold (with_line text tables place) b lines))
+        → AllZip (SpellsInstr text names tables types) (past_run (is_list_line text) lines) instrs → Runs text names types instrs b (fold (with_line text tables place) b lines))
         → Runs text names types instrs body (fold (with_line text tables place) (with_line text tables place body line) lines)
     chosen None is later =
         let past : past_run (is_list_line text) (line ∷ lines) ≡ line ∷ lines = rw is refl in

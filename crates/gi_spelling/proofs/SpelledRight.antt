@@ -1,9 +1,9 @@
 -- A text that spells a module isn't refused.
-use Rattle.std.proofs.Common.{◌≡◌, ℕ, zero, suc, Bool, true, false, List, [], ◌∷◌, ◌++◌, length, Option, Some, None, map, refl, sym, ap, ◌∙◌, subst, arith}
-use Rattle.std.specs.Prelude.{◌&&◌, ◌||◌, not, ⊤, nat_eq, filter, filter_map, option_map, flat_map, unwrap_or, codes, if◌then◌else◌}
-use Rattle.std.specs.List.{list_all, list_any, cons_option, AllZip}
+use Rattle.std.proofs.Common.{◌≡◌, ℕ, suc, Bool, true, false, List, [], ◌∷◌, ◌++◌, length, Option, Some, None, map, refl, sym, ap, ◌∙◌, arith}
+use Rattle.std.specs.Prelude.{◌||◌, not, ⊤, nat_eq, filter, filter_map, option_map, flat_map, unwrap_or, codes, if◌then◌else◌}
+use Rattle.std.specs.List.{list_all, list_any, AllZip}
 use Rattle.std.specs.Cmp.Derive.{both_true}
-use Rattle.std.proofs.lemmas.Bool.{and_parts, not-true, eqb-true}
+use Rattle.std.proofs.lemmas.Bool.{and_parts, not-true}
 use Rattle.std.proofs.lemmas.Bool.Decides.{nat_tests}
 use Rattle.std.proofs.lemmas.List.Folds.{list_all-append, list_any-append}
 use Rattle.gi_llt.specs.declared.Llt.{Llt}
@@ -11,20 +11,17 @@ use Rattle.gi_mir.specs.declared.operand.Kind.{Kind}
 use Rattle.gi_mir.specs.declared.operand.Reg.{Reg}
 use Rattle.gi_mir.specs.Data.{InstrData, BlockData, FunctionData, ModuleData}
 use Rattle.gi_spelling.specs.declared.written.Shown.{Shown}
-use Rattle.gi_spelling.specs.declared.written.Fault.TheVariants as fault
-use Rattle.gi_spelling.specs.declared.written.ListKind.TheVariants.{Successors, Liveins}
 use Rattle.gi_spelling.specs.declared.token.Item.{Item}
 use Rattle.gi_spelling.specs.declared.token.What.TheVariants as what
 use Rattle.gi_spelling.specs.Items.{what_in, kept_items, value_items}
 use Rattle.gi_spelling.specs.Lines.{Line, Section, Sections, is_entry_of, parts_of_text, document_entries, document_strays, document_end}
 use Rattle.gi_spelling.specs.Resolved.{Tables}
-use Rattle.gi_spelling.specs.Blocks.{wrong, is_head, head_number, head_faults, number_at, block_numbers, blocks_in, Body, no_body, body_of, bodies_from, wrongs_from, outer_wrong, kinds_in, type_of_register, has_type, shown_wrong, shown_wrongs}
-use Rattle.gi_spelling.specs.Documents.{is_bar, read_document, tables_of, bodies_of, entries_of, list_under, body_lines, register_wrongs, registers_in, groups_of, objects_from, object_wrongs, is_missing, missing_wrongs, block_wrongs, line_wrongs, document_wrongs, entries_wrongs, ir_wrongs, first_wrong, wrong_in}
-use Rattle.gi_spelling.specs.Spelling.{types_in, SpellsInstr, SpellsName, SpellsBody, SpellsBlock, SpellsBlocks, are_distinct, entries_with, SpellsEntries, SpellsDocument, Spells}
+use Rattle.gi_spelling.specs.Blocks.{is_head, head_number, head_faults, number_at, block_numbers, blocks_in, Body, no_body, body_of, bodies_from, wrongs_from, outer_wrong, kinds_in, type_of_register, has_type, shown_wrong, shown_wrongs}
+use Rattle.gi_spelling.specs.Documents.{is_bar, read_document, tables_of, entries_of, body_lines, register_wrongs, registers_in, groups_of, objects_from, object_wrongs, is_missing, missing_wrongs, block_wrongs, line_wrongs, document_wrongs, first_wrong, wrong_in}
+use Rattle.gi_spelling.specs.Spelling.{types_in, SpellsName, SpellsBody, SpellsBlock, SpellsBlocks, are_distinct, entries_with, SpellsEntries, SpellsDocument, Spells}
 use Rattle.gi_spelling.proofs.ReadKinds.{SharesOperands, SameOperands, types_shared}
-use Rattle.gi_spelling.proofs.ReadWrongs.{any_filtered}
-use Rattle.gi_spelling.proofs.SpelledEntries.{KnownKey, NameKey, LegalKey, BankedKey, ChosenKey, RegistersKey, StackKey, BodyKey, key_bytes, Single, entries_right, find_by, truth_single, name_single, body_single, ListRead, list_read, registers_right, objects_right}
-use Rattle.gi_spelling.proofs.SpelledReads.{successors_fit, liveins_fit, ReadFrom, fits_type, Runs, block_runs}
+use Rattle.gi_spelling.proofs.SpelledEntries.{KnownKey, NameKey, LegalKey, BankedKey, ChosenKey, RegistersKey, StackKey, BodyKey, key_bytes, Single, entries_right, find_by, truth_single, name_single, body_single, list_read, registers_right, objects_right}
+use Rattle.gi_spelling.proofs.SpelledReads.{successors_fit, liveins_fit, ReadFrom, fits_type, block_runs}
 
 -- ══ Blocks ══
 

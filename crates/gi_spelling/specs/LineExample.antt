@@ -25,9 +25,9 @@ copy_items =
 
 abbrev pub copy_written : WrittenData
 copy_written = record {
-    definitions = definition.Typed (reg_of 0) (Scalar 32) ∷ [];
-    flags = no_flags;
-    op = Copy;
-    sources = source.Physical 10 ∷ [];
-    memory = None;
-  }
+  definitions = definition.Typed (reg_of 0) (Scalar 32) ∷ [];
+  flags = no_flags;
+  op = Copy;
+  sources = source.Physical 10 ∷ [];
+  memory = None;
+}
