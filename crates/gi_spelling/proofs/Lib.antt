@@ -31,3 +31,6 @@ pub mod WrittenLines
 pub mod WrittenParts
 pub mod WrittenPieces
 pub mod Zips
+pub mod SpelledEntries
+pub mod SpelledReads
+pub mod SpelledRight

@@ -1,14 +1,11 @@
 -- What holds of the lines of a block in which nothing is wrong.
-use Rattle.std.proofs.Common.{◌≡◌, ℕ, zero, suc, Bool, true, false, List, [], ◌∷◌, ◌++◌, length, Option, Some, None, Result, Ok, Err, map, refl, sym, ap, ◌∙◌, subst, inl, inr, append_assoc, append-nil}
-use Rattle.std.specs.Prelude.{◌⊎◌, ◌≢◌, ◌&&◌, ◌||◌, not, filter, flat_map, fold, nat_eq, is_some, ◌==◌, unwrap_or, if◌then◌else◌}
-use Rattle.std.specs.List.{list_all, list_any, AllZip}
-use Rattle.std.specs.Option.{option_map_or}
+use Rattle.std.proofs.Common.{◌≡◌, ℕ, Bool, true, false, List, [], ◌∷◌, ◌++◌, Option, Some, None, Ok, Err, map, refl, sym, ap, ◌∙◌, subst, append_assoc, append-nil}
+use Rattle.std.specs.Prelude.{◌≢◌, not, fold, is_some, if◌then◌else◌}
+use Rattle.std.specs.List.{list_all, AllZip}
 use Rattle.std.specs.Cmp.Derive.{both_true}
-use Rattle.std.proofs.lemmas.Bool.{and_parts, not-true}
+use Rattle.std.proofs.lemmas.Bool.{and_parts}
 use Rattle.std.proofs.lemmas.List.Folds.{list_all-append}
-use Rattle.gi_llt.specs.Tokens.{run_of, past_run}
 use Rattle.gi_llt.specs.declared.Llt.{Llt}
-use Rattle.gi_mir.specs.declared.operand.Kind.{Kind}
 use Rattle.gi_mir.specs.declared.operand.Reg.{Reg}
 use Rattle.gi_mir.specs.Data.{InstrData}
 use Rattle.gi_spelling.specs.declared.token.What.{What}
@@ -17,17 +14,15 @@ use Rattle.gi_spelling.specs.declared.token.Item.{Item}
 use Rattle.gi_spelling.specs.declared.written.Fault.{Fault}
 use Rattle.gi_spelling.specs.declared.written.Fault.TheVariants as fault
 use Rattle.gi_spelling.specs.declared.written.ListKind.{ListKind}
-use Rattle.gi_spelling.specs.declared.written.ListKind.TheVariants.{Successors, Liveins}
 use Rattle.gi_spelling.specs.declared.written.Shown.{Shown}
-use Rattle.gi_spelling.specs.declared.written.Wrong.{Wrong}
 use Rattle.gi_spelling.specs.Items.{what_in, kept_items}
-use Rattle.gi_spelling.specs.Lines.{Line, Section}
-use Rattle.gi_spelling.specs.Reading.{Read, read_instr, parts_of, read_all, at_end}
-use Rattle.gi_spelling.specs.Resolved.{Tables, resolved, block_place}
+use Rattle.gi_spelling.specs.Lines.{Line}
+use Rattle.gi_spelling.specs.Reading.{Read, read_instr, parts_of}
+use Rattle.gi_spelling.specs.Resolved.{Tables, resolved}
 use Rattle.gi_spelling.specs.Written.{WrittenData}
-use Rattle.gi_spelling.specs.Blocks.{wrong, is_there, list_kind, listed_in, block_by, read_block, livein_by, read_livein, read_successors, read_liveins, Lists, no_lists, with_successors, with_liveins, with_list, Body, no_body, with_wrong, stated, with_list_line, begun, shown_types, shown_at, with_resolved, with_written, with_instr_line, with_line_of, with_line, has_type, type_of_register}
-use Rattle.gi_spelling.specs.Spelling.{listed_whats, block_whats, physical_whats, is_list_line, is_kind, States, StatesSuccessors, SpellsSuccessors, SpellsLiveins}
-use Rattle.gi_spelling.proofs.TokenLists.{Tokens, no_tokens, one_more, ended_ok, settled}
+use Rattle.gi_spelling.specs.Blocks.{wrong, list_kind, listed_in, block_by, read_block, livein_by, read_livein, read_successors, read_liveins, Lists, with_list, Body, with_wrong, stated, with_list_line, begun, shown_types, shown_at, with_resolved, with_written, with_instr_line, with_line_of, with_line}
+use Rattle.gi_spelling.specs.Spelling.{listed_whats, block_whats, physical_whats, is_list_line}
+use Rattle.gi_spelling.proofs.TokenLists.{one_more, ended_ok, settled}
 use Rattle.gi_spelling.proofs.ItemParts.{some_parts, IsPart, parts_spelled, all_ok}
 use Rattle.gi_spelling.proofs.ReadWrongs.{append_none}
 

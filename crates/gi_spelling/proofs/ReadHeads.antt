@@ -1,6 +1,6 @@
 -- What holds of the lists and instructions of a block in which nothing is wrong.
-use Rattle.std.proofs.Common.{◌≡◌, ℕ, zero, suc, Bool, true, false, List, [], ◌∷◌, ◌++◌, Option, Some, None, Result, Ok, Err, map, refl, sym, ap, ◌∙◌, subst, inl, inr, append_assoc, append-nil}
-use Rattle.std.specs.Prelude.{◌⊎◌, ◌≢◌, ◌&&◌, not, filter, fold, is_some, unwrap_or, if◌then◌else◌}
+use Rattle.std.proofs.Common.{◌≡◌, ℕ, zero, suc, Bool, true, false, List, [], ◌∷◌, ◌++◌, Option, Some, None, Ok, Err, map, refl, sym, ap, ◌∙◌, subst, inl, inr, append_assoc, append-nil}
+use Rattle.std.specs.Prelude.{◌⊎◌, filter, fold, unwrap_or, if◌then◌else◌}
 use Rattle.std.specs.List.{list_all, AllZip}
 use Rattle.std.specs.Option.{option_map_or}
 use Rattle.std.proofs.lemmas.Bool.{and_parts}
@@ -11,12 +11,12 @@ use Rattle.gi_spelling.specs.declared.token.Item.{Item}
 use Rattle.gi_spelling.specs.declared.written.ListKind.{ListKind}
 use Rattle.gi_spelling.specs.declared.written.ListKind.TheVariants.{Successors, Liveins}
 use Rattle.gi_spelling.specs.declared.written.Shown.{Shown}
-use Rattle.gi_spelling.specs.Items.{what_in, kept_items}
-use Rattle.gi_spelling.specs.Lines.{Line, Section}
+use Rattle.gi_spelling.specs.Items.{kept_items}
+use Rattle.gi_spelling.specs.Lines.{Line}
 use Rattle.gi_spelling.specs.Reading.{Read}
-use Rattle.gi_spelling.specs.Resolved.{Tables, resolved, block_place}
-use Rattle.gi_spelling.specs.Blocks.{is_there, list_kind, listed_in, read_successors, read_liveins, Lists, no_lists, with_successors, with_liveins, with_list, Body, no_body, shown_types, shown_at, with_line, body_of}
-use Rattle.gi_spelling.specs.Spelling.{is_list_line, is_kind, lists_of, SpellsSuccessors, SpellsLiveins}
+use Rattle.gi_spelling.specs.Resolved.{Tables, block_place}
+use Rattle.gi_spelling.specs.Blocks.{is_there, list_kind, listed_in, read_successors, read_liveins, Lists, with_successors, with_liveins, with_list, Body, shown_types, shown_at, with_line}
+use Rattle.gi_spelling.specs.Spelling.{is_list_line, is_kind, SpellsSuccessors, SpellsLiveins}
 use Rattle.gi_spelling.proofs.ReadBlocks.{successors_whats, liveins_whats, liveins_some, ReadsAs, Step, ListStep, InstrStep, first_step, shown_before, map_fine, ReadsInstrs, reads_instrs}
 
 -- a list that stands once at most
@@ -84,11 +84,11 @@ adds_liveins zero lists new (Ok numbers) e = chosen (is_there lists.liveins) ref
         record { numbers = numbers; first = refl; own = refl; none = not_there lists.liveins is; there = ap (λ (l : Lists). l.liveins) (sym same); other = ap (λ (l : Lists). l.successors) (sym same) }
 
 -- the lines of a kind, by their first line
-kind_front : (text : List ℕ) (kind own : ListKind) (line : Line) (lines : List Line) → list_kind text line ≡ Some own
+pub kind_front : (text : List ℕ) (kind own : ListKind) (line : Line) (lines : List Line) → list_kind text line ≡ Some own
     → kind_lines text kind (line ∷ lines) ≡ (if is_kind kind (Some own) then line ∷ kind_lines text kind lines else kind_lines text kind lines)
 kind_front text kind own line lines is = rw is (rw is refl)
 
-past_front : (text : List ℕ) (own : ListKind) (line : Line) (lines : List Line) → list_kind text line ≡ Some own → past_run (is_list_line text) (line ∷ lines) ≡ past_run (is_list_line text) lines
+pub past_front : (text : List ℕ) (own : ListKind) (line : Line) (lines : List Line) → list_kind text line ≡ Some own → past_run (is_list_line text) (line ∷ lines) ≡ past_run (is_list_line text) lines
 past_front text own line lines is = rw is refl
 
 list_front : (text : List ℕ) (tables : Tables) (place : ℕ) (fine : Shown → Bool) (line : Line) (lines : List Line) (body whole : Body) (kind : ListKind) (lists : Lists)

@@ -1,24 +1,23 @@
 -- The kinds of registers and the implied successors look at neither ids nor names.
-use Rattle.std.proofs.Common.{◌≡◌, ℕ, suc, Bool, true, false, List, [], ◌∷◌, ◌++◌, Option, Some, None, map, refl, sym, ap, ◌∙◌, subst, append_assoc, append-nil}
+use Rattle.std.proofs.Common.{◌≡◌, ℕ, Bool, true, false, List, [], ◌∷◌, ◌++◌, Option, Some, None, map, refl, sym, ap, ◌∙◌}
 use Rattle.std.specs.Prelude.{◌==◌, ◌&&◌, not, ⊤, filter_map, flat_map, find, option_map, unwrap_or, if◌then◌else◌}
 use Rattle.std.specs.List.{list_all, cons_option, AllZip}
 use Rattle.std.specs.Option.{option_map_or}
 use Rattle.std.proofs.lemmas.Bool.{and_parts}
 use Rattle.std.proofs.lemmas.List.Folds.{list_all-append}
-use Rattle.gi_llt.specs.declared.Llt.{Llt}
 use Rattle.gi_mir.specs.declared.operand.Kind.{Kind}
 use Rattle.gi_mir.specs.declared.operand.Kind.TheVariants.{Class}
 use Rattle.gi_mir.specs.declared.operand.Operand.{Operand}
 use Rattle.gi_mir.specs.declared.operand.Operand.TheVariants as operand
 use Rattle.gi_mir.specs.declared.operand.Reg.{Reg}
 use Rattle.gi_mir.specs.Data.{InstrData, BlockData, FunctionData}
-use Rattle.gi_mir.specs.Registers.{type_of_kind, first_there, kind_in_operand, kind_in_operands, kind_in_instrs, kind_in_blocks, kind_of}
+use Rattle.gi_mir.specs.Registers.{type_of_kind, first_there, kind_in_operand, kind_in_operands, kind_in_instrs, kind_in_blocks}
 use Rattle.gi_mir.specs.Row.{is_branch_op, is_unconditional_op}
 use Rattle.gi_spelling.specs.declared.written.Fault.TheVariants as fault
 use Rattle.gi_spelling.specs.declared.written.Shown.{Shown}
-use Rattle.gi_spelling.specs.Blocks.{wrong, Body, defined_kind, kinds_in, first_kind, has_type, type_of_register, shown_wrong, shown_wrongs}
+use Rattle.gi_spelling.specs.Blocks.{wrong, Body, defined_kind, kinds_in, has_type, type_of_register, shown_wrong, shown_wrongs}
 use Rattle.gi_spelling.specs.Documents.{without_ids}
-use Rattle.gi_spelling.specs.Named.{IsNamedOperand, IsNamedInstr, IsNamedEntry}
+use Rattle.gi_spelling.specs.Named.{IsNamedOperand, IsNamedEntry}
 use Rattle.gi_spelling.specs.Printed.{with_targets, with_branches, falls_through, with_place, implied_successors}
 use Rattle.gi_spelling.specs.Spelling.{types_in}
 
@@ -61,14 +60,18 @@ named_kinds text names (o ∷ old) (n ∷ new) reg all = cc (named_kind text nam
 abbrev pub kinds_of_instrs : List InstrData → List (ℕ × Kind)
 kinds_of_instrs instrs = flat_map (λ (instr : InstrData). filter_map defined_kind instr.operands) instrs
 
-among_instrs : (text : List ℕ) (names : List (List ℕ)) (old new : List (ℕ × InstrData)) (reg : ℕ) → AllZip (IsNamedEntry text names) old new
+-- instructions whose operands are the same but for the numbers of names
+pub record SharesOperands (text : List ℕ) (names : List (List ℕ)) (old new : ℕ × InstrData) : Type 0 where
+  pub operands : AllZip (IsNamedOperand text names) (old.1).operands (new.1).operands
+
+among_instrs : (text : List ℕ) (names : List (List ℕ)) (old new : List (ℕ × InstrData)) (reg : ℕ) → AllZip (SharesOperands text names) old new
     → kind_among (kinds_of_instrs (map (λ i. i.1) old)) reg ≡ kind_in_instrs reg new
 among_instrs text names [] [] reg all = refl
 among_instrs text names [] (n ∷ new) reg all = absurd all
 among_instrs text names (o ∷ old) [] reg all = absurd all
 among_instrs text names (o ∷ old) (n ∷ new) reg all =
     among-append (filter_map defined_kind (o.1).operands) (kinds_of_instrs (map (λ i. i.1) old)) reg
-    ∙ cc (among_operands (o.1).operands reg, named_kinds text names (o.1).operands (n.1).operands reg all.0.instr.operands, among_instrs text names old new reg all.1)
+    ∙ cc (among_operands (o.1).operands reg, named_kinds text names (o.1).operands (n.1).operands reg all.0.operands, among_instrs text names old new reg all.1)
 
 -- blocks whose instructions are those of bodies
 pub record SameInstrs (text : List ℕ) (names : List (List ℕ)) (body : Body) (block : BlockData) : Type 0 where
@@ -76,23 +79,46 @@ pub record SameInstrs (text : List ℕ) (names : List (List ℕ)) (body : Body) 
   pub own : map (λ i. i.1) old ≡ body.instrs
   pub named : AllZip (IsNamedEntry text names) old block.instrs
 
-kinds_same : (text : List ℕ) (names : List (List ℕ)) (bodies : List Body) (blocks : List BlockData) (reg : ℕ) → AllZip (SameInstrs text names) bodies blocks
+-- and blocks whose instructions share the operands of bodies
+pub record SameOperands (text : List ℕ) (names : List (List ℕ)) (body : Body) (block : BlockData) : Type 0 where
+  pub old : List (ℕ × InstrData)
+  pub own : map (λ i. i.1) old ≡ body.instrs
+  pub shared : AllZip (SharesOperands text names) old block.instrs
+
+kinds_same : (text : List ℕ) (names : List (List ℕ)) (bodies : List Body) (blocks : List BlockData) (reg : ℕ) → AllZip (SameOperands text names) bodies blocks
     → kind_among (kinds_in bodies) reg ≡ kind_in_blocks reg blocks
 kinds_same text names [] [] reg all = refl
 kinds_same text names [] (block ∷ blocks) reg all = absurd all
 kinds_same text names (body ∷ bodies) [] reg all = absurd all
 kinds_same text names (body ∷ bodies) (block ∷ blocks) reg all =
     let here : kind_among (kinds_of_instrs body.instrs) reg ≡ kind_in_instrs reg block.instrs =
-    ap (λ instrs. kind_among (kinds_of_instrs instrs) reg) (sym all.0.own) ∙ among_instrs text names all.0.old block.instrs reg all.0.named in
+    ap (λ instrs. kind_among (kinds_of_instrs instrs) reg) (sym all.0.own) ∙ among_instrs text names all.0.old block.instrs reg all.0.shared in
     among-append (kinds_of_instrs body.instrs) (kinds_in bodies) reg ∙ cc (here, kinds_same text names bodies blocks reg all.1)
 
 type_by_kind : (kind : Option Kind) → option_map_or type_of_kind kind None ≡ type_of_kind (unwrap_or kind Class)
 type_by_kind None = refl
 type_by_kind (Some kind) = refl
 
+pub types_shared : (text : List ℕ) (names : List (List ℕ)) (bodies : List Body) (f : FunctionData) (reg : Reg) → AllZip (SameOperands text names) bodies f.blocks
+    → type_of_register (kinds_in bodies) reg ≡ types_in f reg.0
+types_shared text names bodies f reg all = ap (λ kind. option_map_or type_of_kind kind None) (kinds_same text names bodies f.blocks reg.0 all) ∙ type_by_kind (kind_in_blocks reg.0 f.blocks)
+
+shares : (text : List ℕ) (names : List (List ℕ)) (old new : List (ℕ × InstrData)) → AllZip (IsNamedEntry text names) old new → AllZip (SharesOperands text names) old new
+shares text names [] [] all = tt
+shares text names [] (n ∷ new) all = absurd all
+shares text names (o ∷ old) [] all = absurd all
+shares text names (o ∷ old) (n ∷ new) all = (record { operands = all.0.instr.operands }, shares text names old new all.1)
+
+all_share : (text : List ℕ) (names : List (List ℕ)) (bodies : List Body) (blocks : List BlockData) → AllZip (SameInstrs text names) bodies blocks → AllZip (SameOperands text names) bodies blocks
+all_share text names [] [] all = tt
+all_share text names [] (block ∷ blocks) all = absurd all
+all_share text names (body ∷ bodies) [] all = absurd all
+all_share text names (body ∷ bodies) (block ∷ blocks) all =
+    (record { old = all.0.old; own = all.0.own; shared = shares text names all.0.old block.instrs all.0.named }, all_share text names bodies blocks all.1)
+
 pub types_same : (text : List ℕ) (names : List (List ℕ)) (bodies : List Body) (f : FunctionData) (reg : Reg) → AllZip (SameInstrs text names) bodies f.blocks
     → type_of_register (kinds_in bodies) reg ≡ types_in f reg.0
-types_same text names bodies f reg all = ap (λ kind. option_map_or type_of_kind kind None) (kinds_same text names bodies f.blocks reg.0 all) ∙ type_by_kind (kind_in_blocks reg.0 f.blocks)
+types_same text names bodies f reg all = types_shared text names bodies f reg (all_share text names bodies f.blocks all)
 
 -- the types that are shown
 abbrev pub is_fine : List (ℕ × Kind) → Shown → Bool

@@ -1,10 +1,10 @@
 -- A text spells the module that it is read as.
-use Rattle.std.proofs.Common.{◌≡◌, ℕ, zero, suc, ◌+◌, Bool, true, false, List, [], ◌∷◌, ◌++◌, length, Option, Some, None, Result, Ok, Err, map, refl, sym, ap, ◌∙◌, subst, append_assoc, append-nil, length-append, arith}
-use Rattle.std.specs.Prelude.{◌&&◌, ◌||◌, not, ⊤, filter, fold, nat_eq, codes, option_map, unwrap_or, slice_set, slice_index_or, if◌then◌else◌}
+use Rattle.std.proofs.Common.{◌≡◌, ℕ, suc, Bool, true, false, List, [], ◌∷◌, ◌++◌, length, Option, Some, None, map, refl, sym, ap, ◌∙◌, subst, append_assoc, append-nil, length-append, arith}
+use Rattle.std.specs.Prelude.{◌&&◌, ◌||◌, not, ⊤, fold, nat_eq, codes, unwrap_or, slice_set, slice_index_or, if◌then◌else◌}
 use Rattle.std.specs.List.{list_all, list_any, AllZip}
 use Rattle.std.specs.Option.{option_map_or}
 use Rattle.std.specs.Cmp.Derive.{both_true}
-use Rattle.std.proofs.lemmas.Bool.{and_parts, not-true, eqb-true, or_right}
+use Rattle.std.proofs.lemmas.Bool.{and_parts, eqb-true, or_right}
 use Rattle.std.proofs.lemmas.Bool.Decides.{nat_tests}
 use Rattle.std.proofs.lemmas.List.{map-append}
 use Rattle.gi_llt.specs.declared.Llt.{Llt}
@@ -15,25 +15,24 @@ use Rattle.gi_mir.specs.declared.operand.Operand.{Operand}
 use Rattle.gi_mir.specs.declared.operand.MemOp.{MemOp}
 use Rattle.gi_mir.specs.declared.operand.StackObject.{StackObject}
 use Rattle.gi_mir.specs.Data.{InstrData, BlockData, FunctionData, ModuleData}
-use Rattle.gi_mir.specs.Edit.{HeadData, block_with, empty_block, empty_function, with_block, with_stack, with_keys, with_instr}
+use Rattle.gi_mir.specs.Edit.{block_with, empty_block, empty_function, with_block, with_stack, with_keys}
 use Rattle.gi_mir.specs.Formed.{is_formed}
 use Rattle.gi_spelling.specs.declared.written.Fault.TheVariants as fault
-use Rattle.gi_spelling.specs.declared.written.Wrong.{Wrong}
 use Rattle.gi_spelling.specs.declared.written.ListKind.TheVariants.{Successors, Liveins}
 use Rattle.gi_spelling.specs.Written.{WrittenData}
-use Rattle.gi_spelling.specs.Items.{kept_items, value_items}
-use Rattle.gi_spelling.specs.Lines.{Line, Section, Sections, parts_of_text, document_entries, document_strays, document_end, is_stray}
-use Rattle.gi_spelling.specs.Resolved.{Tables, block_place, each, formed, resolved_definition, resolved_source, resolved_memory, resolved}
-use Rattle.gi_spelling.specs.Blocks.{wrong, is_head, head_number, head_faults, number_at, block_numbers, blocks_in, Body, no_body, with_line, body_of, bodies_from, wrongs_from, outer_wrong, kinds_in, has_type, type_of_register, shown_types, shown_at, shown_wrongs}
-use Rattle.gi_spelling.specs.Documents.{Document, read_document, tables_of, bodies_of, without_ids, successors_of, head_of_body, with_last, with_body, function_of, entries_of, list_under, body_lines, is_key_true, register_wrongs, registers_in, groups_of, objects_from, object_wrongs, is_missing, missing_wrongs, block_wrongs, line_wrongs, document_wrongs, entries_wrongs, ir_wrongs, first_wrong, wrong_in}
-use Rattle.gi_spelling.specs.Named.{IsNamedInstr, IsNamedEntry, IsNamedBlock, IsNamedFunction}
-use Rattle.gi_spelling.specs.Printed.{name_at, implied_successors}
-use Rattle.gi_spelling.specs.Read.{IsReadAs, IsReadFunction, bytes_of_line, IsReadModule}
-use Rattle.gi_spelling.specs.Spelling.{type_at, types_in, SpellsInstr, is_list_line, lists_of, entries_with, SpellsTruth, SpellsSuccessors, SpellsLiveins, SpellsBlock, SpellsBlocks, SpellsName, are_distinct, SpellsEntries, SpellsDocument, Spells}
+use Rattle.gi_spelling.specs.Items.{kept_items}
+use Rattle.gi_spelling.specs.Lines.{Line, Section, parts_of_text, document_entries, document_strays, document_end}
+use Rattle.gi_spelling.specs.Resolved.{Tables, each, formed, resolved_definition, resolved_source, resolved_memory, resolved}
+use Rattle.gi_spelling.specs.Blocks.{wrong, is_head, head_number, head_faults, number_at, block_numbers, Body, no_body, body_of, bodies_from, wrongs_from, outer_wrong, kinds_in, has_type, type_of_register, shown_types, shown_at, shown_wrongs}
+use Rattle.gi_spelling.specs.Documents.{Document, read_document, tables_of, bodies_of, without_ids, successors_of, head_of_body, with_last, with_body, function_of, entries_of, list_under, body_lines, register_wrongs, groups_of, object_wrongs, is_missing, missing_wrongs, block_wrongs, line_wrongs, document_wrongs, entries_wrongs, ir_wrongs, first_wrong}
+use Rattle.gi_spelling.specs.Named.{IsNamedEntry, IsNamedBlock}
+use Rattle.gi_spelling.specs.Printed.{implied_successors}
+use Rattle.gi_spelling.specs.Read.{IsReadFunction, IsReadModule}
+use Rattle.gi_spelling.specs.Spelling.{type_at, types_in, SpellsInstr, is_list_line, lists_of, entries_with, SpellsTruth, SpellsSuccessors, SpellsLiveins, SpellsBlock, SpellsBlocks, SpellsName, are_distinct, SpellsDocument, Spells}
 use Rattle.gi_spelling.proofs.ReadLines.{line_written}
-use Rattle.gi_spelling.proofs.ReadWrongs.{first_none, append_none, map_none, all_keyed, AtMostOne, at_most_one, truth_spells, IsList, list_spells, each_register, each_object, name_spells, body_spells}
+use Rattle.gi_spelling.proofs.ReadWrongs.{first_none, append_none, map_none, all_keyed, at_most_one, truth_spells, list_spells, each_register, each_object, name_spells, body_spells}
 use Rattle.gi_spelling.proofs.ReadBlocks.{ReadsAs}
-use Rattle.gi_spelling.proofs.ReadHeads.{ReadsBlock, reads_block, successors_spelled, liveins_spelled}
+use Rattle.gi_spelling.proofs.ReadHeads.{reads_block, successors_spelled, liveins_spelled}
 use Rattle.gi_spelling.proofs.ReadKinds.{SameInstrs, types_same, is_fine, EachFine, shown_fine, implied_same}
 
 abbrev seconds : List (ℕ × InstrData) → List InstrData
@@ -197,8 +196,7 @@ instrs_spelled text names tables types kinds same [] (o ∷ old) (n ∷ new) rea
 instrs_spelled text names tables types kinds same (line ∷ lines) [] [] reads named = absurd reads
 instrs_spelled text names tables types kinds same (line ∷ lines) (o ∷ old) (n ∷ new) reads named =
     let one = reads.0 in
-    let numbered : (n.1).line ≡ line.number = named.0.instr.line ∙ resolved_line tables one.written line.number o.1 one.means in
-    (
+    let numbered : (n.1).line ≡ line.number = named.0.instr.line ∙ resolved_line tables one.written line.number o.1 one.means in (
       record {
         items = one.items;
         tokens = one.tokens;
@@ -262,8 +260,7 @@ blocks_spelled text names tables types kinds same earlier place (section ∷ sec
 blocks_spelled text names tables types kinds same earlier place (section ∷ sections) (o ∷ olds) (n ∷ news) right fine built named =
     let later = wrongs_from text tables (earlier ++ (number_at text section ∷ [])) (suc place) sections in
     let first = append_none (head_faults text earlier section.head) ((body_of text tables place section).wrongs ++ later) right in
-    let second = append_none (body_of text tables place section).wrongs later first.1 in
-    (
+    let second = append_none (body_of text tables place section).wrongs later first.1 in (
       block_spelled text names tables types kinds same place section o n (headed text earlier section.head first.0).head second.0 fine.0 built.0 named.0,
       blocks_spelled text names tables types kinds same (earlier ++ (number_at text section ∷ [])) (suc place) sections olds news second.1 fine.1 built.1 named.1,
     )

@@ -1,8 +1,5 @@
 -- Tokens by what they are and by the places of their names.
-use Rattle.std.proofs.Common.{◌≡◌, ℕ, Bool, true, false, List, [], ◌∷◌, ◌++◌, Option, Some, None, Result, Ok, Err, map, refl, sym, ap, ◌∙◌, subst}
-use Rattle.std.specs.Prelude.{◌&&◌, filter_map}
-use Rattle.std.specs.List.{list_all}
-use Rattle.std.proofs.lemmas.Bool.{and_parts}
+use Rattle.std.proofs.Common.{◌≡◌, ℕ, Bool, true, false, List, [], ◌∷◌, ◌++◌, Some, None, Ok, Err, map, refl, sym, ap, ◌∙◌, subst}
 use Rattle.std.proofs.lemmas.List.{map-append}
 use Rattle.std.proofs.lemmas.List.Elements.{filter_map-append}
 use Rattle.gi_spelling.specs.declared.token.What.{What}
@@ -50,9 +47,9 @@ one_name item rest whats places is later =
 pub both_tokens : (items more : List Item) (whats later : List What) (places behind : List ℕ) → Tokens items whats places → Tokens more later behind
     → Tokens (items ++ more) (whats ++ later) (places ++ behind)
 both_tokens items more whats later places behind first second = record {
-    same = map-append what_in items more ∙ cc (first.same, second.same);
-    at = filter_map-append (λ (item : Item). name_place item item.what) items more ∙ cc (first.at, second.at);
-  }
+  same = map-append what_in items more ∙ cc (first.same, second.same);
+  at = filter_map-append (λ (item : Item). name_place item item.what) items more ∙ cc (first.at, second.at);
+}
 
 -- what isn't refused
 pub then_ok : {X Y : Type 0} (first : Read X) (next : X → Read Y) (y : Y) → then_read first next ≡ Ok y → (x : X) × (first ≡ Ok x) × (next x ≡ Ok y)
