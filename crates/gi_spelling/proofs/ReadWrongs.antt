@@ -22,7 +22,8 @@ use Rattle.gi_mir.specs.declared.operand.StackObject.{StackObject}
 use Rattle.gi_spelling.specs.Items.{what_in, value_items, items_of_line}
 use Rattle.gi_spelling.specs.Lines.{Line, Section, is_entry, is_entry_of, key_of}
 use Rattle.gi_spelling.specs.Reading.{Read, then_read}
-use Rattle.gi_spelling.specs.Entries.{Entry, is_at_end, has_all, whole_entry, steps, entry, no_fields, read_entry}
+use Rattle.gi_spelling.specs.declared.written.Entry.{Entry}
+use Rattle.gi_spelling.specs.Entries.{is_at_end, has_all, whole_entry, steps, entry, no_fields, read_entry}
 use Rattle.gi_spelling.specs.Blocks.{wrong}
 use Rattle.gi_spelling.specs.Documents.{is_name, name_value, true_by, is_true, truth_word, truth_by, truth_fault, square_by, list_value, bar_by, is_bar, read_line_entry, line_entry, fields_wrong, register_wrongs, register_by, registers_in, Group, object_by, object_at, objects_from, object_wrong, object_wrongs, read_group_items, onto_there, known_keys, under_wrongs, fault_then, list_wrongs, key_wrongs, is_again, entry_wrongs, entries_wrongs, entry_of, is_key_true, under_list, list_under, body_lines, is_missing, line_wrongs, lower, lowest, first_wrong}
 use Rattle.gi_spelling.specs.Spelling.{word_what, entries_with, value_whats, SpellsTruth, Lists, SpellsName, SpellsBody}
