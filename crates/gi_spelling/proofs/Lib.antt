@@ -19,7 +19,10 @@ pub mod ReadPieces
 pub mod ReadSpells
 pub mod ReadWrongs
 pub mod SignedNumbers
+pub mod SpelledEntries
 pub mod SpelledLines
+pub mod SpelledReads
+pub mod SpelledRight
 pub mod SpellingExamples
 pub mod StatedLines
 pub mod StatedSpells
@@ -31,6 +34,3 @@ pub mod WrittenLines
 pub mod WrittenParts
 pub mod WrittenPieces
 pub mod Zips
-pub mod SpelledEntries
-pub mod SpelledReads
-pub mod SpelledRight
