@@ -4,6 +4,7 @@ pub mod Body
 pub mod Built
 pub mod Digits
 pub mod Header
+pub mod Keys
 pub mod Lines
 pub mod Next
 pub mod NormalForm

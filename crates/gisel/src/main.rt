@@ -6,6 +6,7 @@ mod build;
 mod compile;
 mod example;
 mod header;
+mod keys;
 mod laws;
 mod line;
 mod lines;
