@@ -11,6 +11,7 @@ pub mod NormalForm
 pub mod Options
 pub mod Promise
 pub mod Reading
+pub mod Refusals
 pub mod Refused
 pub mod Rows
 pub mod Selectable

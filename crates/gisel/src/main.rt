@@ -14,6 +14,7 @@ mod normal_form;
 mod options;
 mod read;
 mod refusal;
+mod refused;
 mod select;
 mod standing;
 mod statement;
