@@ -1,6 +1,6 @@
 -- What an instruction does with its arguments and with what is outside the registers. It knows no virtual
 -- register: reading the arguments and writing the results is the step's.
-use Rattle.std.specs.Prelude.{◌≡◌, ℕ, ◌+◌, ◌-◌, ◌*◌, ◌/◌, ◌%◌, ◌^◌, ◌<◌, List, [], ◌∷◌, ◌++◌, length, map, Option, Some, None, Bool, cond, ◌&&◌, ◌||◌, not, nat_lt, nat_le, ◌==◌, if◌then◌else◌, ◌⊎◌, slice_get}
+use Rattle.std.specs.Prelude.{◌≡◌, ℕ, ◌+◌, ◌*◌, ◌/◌, ◌%◌, ◌^◌, ◌<◌, List, [], ◌∷◌, ◌++◌, length, map, Option, Some, None, Bool, cond, ◌&&◌, ◌||◌, not, nat_lt, nat_le, ◌==◌, if◌then◌else◌, ◌⊎◌, slice_get}
 use Rattle.gi_llt.specs.Bits.{wrapped, unsigned, sign_extended}
 use Rattle.gi_llt.specs.Llt.{width_of}
 use Rattle.gi_mir.specs.declared.operand.MemOp.{MemOp}

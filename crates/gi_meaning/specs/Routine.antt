@@ -1,6 +1,6 @@
 -- The routines of the runtime for products, quotients and remainders of two words each.
 -- (RISC-V ELF psABI, "Procedure Calling Convention"; the names are those of libgcc's "Routines for integer arithmetic".)
-use Rattle.std.specs.Prelude.{◌≡◌, ℕ, Bool, false, List, [], ◌∷◌, Option, length, ◌==◌}
+use Rattle.std.specs.Prelude.{◌≡◌, ℕ, Bool, false, List, [], ◌∷◌, length, ◌==◌}
 use Rattle.std.specs.Option.{option_map_or}
 use Rattle.gi_mir.specs.declared.routine.Routine.{Routine}
 use Rattle.gi_mir.specs.Data.{no_flags}

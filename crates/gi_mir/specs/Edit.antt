@@ -1,5 +1,5 @@
 -- What the edits of a function make of it.
-use Rattle.std.specs.Prelude.{◌≡◌, ℕ, ◌+◌, ◌-◌, ◌<◌, max, Bool, true, false, List, [], ◌∷◌, ◌++◌, Option, Some, None, ◌==◌, map, flat_map, fold, length, insert, remove, option_map, if◌then◌else◌, slice_get, find, IfSome, slice_index_or, slice_set}
+use Rattle.std.specs.Prelude.{◌≡◌, ◌⊎◌, ℕ, ◌+◌, ◌-◌, ◌<◌, max, Bool, true, false, List, [], ◌∷◌, ◌++◌, Option, Some, None, ◌==◌, map, flat_map, fold, length, insert, remove, option_map, if◌then◌else◌, slice_get, find, filter, IfSome, slice_index_or, slice_set}
 use Rattle.std.specs.List.{list_any, position_or_len}
 use Rattle.std.specs.Option.{option_map_or}
 use Rattle.gi_mir.specs.Data.{InstrData, BlockData, FunctionData}
@@ -57,6 +57,11 @@ above_registers n operands = fold (λ m x. max m (register_above x)) n operands
 abbrev pub place_of : ℕ → List (ℕ × InstrData) → ℕ
 place_of id instrs = position_or_len (λ p. p.0 == id) instrs
 
+-- where an instruction goes: before the one with this id, or last
+abbrev pub spot_in : List (ℕ × InstrData) → Option InstrId → ℕ
+spot_in instrs None = length instrs
+spot_in instrs (Some id) = place_of id.0 instrs
+
 -- one more instruction, before the one with this id or last
 abbrev pub instrs_with : List (ℕ × InstrData) → Option InstrId → ℕ × InstrData → List (ℕ × InstrData)
 instrs_with instrs None new = instrs ++ new ∷ []
@@ -78,6 +83,10 @@ with_instr f block before instr =
 abbrev pub has_instr : ℕ → BlockData → Bool
 has_instr id b = list_any (λ p. p.0 == id) b.instrs
 
+-- whether the instruction at this place of a block has this id
+abbrev pub has_at : BlockData → ℕ → ℕ → Bool
+has_at b id at = option_map_or (λ p. p.0 == id) (slice_get b.instrs at) false
+
 -- the place of the first block that has this instruction
 abbrev pub home_of : FunctionData → ℕ → ℕ
 home_of f id = position_or_len (has_instr id) f.blocks
@@ -93,6 +102,11 @@ home_block f id = block_at f (home_of f id)
 -- the place of this instruction in its block
 abbrev pub place_in_block : FunctionData → ℕ → ℕ
 place_in_block f id = place_of id (home_block f id).instrs
+
+-- an instruction comes before another if its block does, or in the same block itself
+abbrev pub StandsBefore : FunctionData → ℕ → ℕ → Type 0
+StandsBefore f a b =
+    (home_of f a < home_of f b) ⊎ ((home_of f a ≡ home_of f b) × (place_in_block f a < place_in_block f b))
 
 -- the instruction at this place of a block, with its id
 abbrev pub entry_at : BlockData → ℕ → Option (ℕ × InstrData)
@@ -136,8 +150,11 @@ abbrev pub with_kind : InstrData → ℕ → Kind → InstrData
 with_kind i place kind = record i { operands = changed_at (of_kind kind) place i.operands }
 
 -- the block, and the function, with the instruction of this id changed
+abbrev pub block_changed_at : (InstrData → InstrData) → ℕ → BlockData → BlockData
+block_changed_at edit at b = record b { instrs = changed_at (λ p. (p.0, edit p.1)) at b.instrs }
+
 abbrev pub block_changed : (InstrData → InstrData) → ℕ → BlockData → BlockData
-block_changed edit id b = record b { instrs = changed_at (λ p. (p.0, edit p.1)) (place_of id b.instrs) b.instrs }
+block_changed edit id b = block_changed_at edit (place_of id b.instrs) b
 
 abbrev pub with_changed : (InstrData → InstrData) → FunctionData → ℕ → FunctionData
 with_changed edit f id = record f { blocks = slice_set f.blocks (home_of f id) (block_changed edit id (home_block f id)) }
@@ -178,6 +195,18 @@ definition_in reg blocks = option_map (λ p. p.0) (find (defines reg) (all_instr
 
 abbrev pub definition_of : FunctionData → ℕ → Option ℕ
 definition_of f reg = definition_in reg f.blocks
+
+-- whether an instruction uses a register
+abbrev pub is_use_of : ℕ → Operand → Bool
+is_use_of reg (Use r) = r.0 == reg
+is_use_of reg x = false
+
+abbrev pub uses : ℕ → ℕ × InstrData → Bool
+uses reg p = list_any (is_use_of reg) p.1.operands
+
+-- the instructions that use a register, each once, in layout order
+abbrev pub users_of : FunctionData → ℕ → List ℕ
+users_of f reg = map (λ p. p.0) (filter (uses reg) (all_instrs f.blocks))
 
 abbrev pub with_new_reg : FunctionData → FunctionData
 with_new_reg f = record f { next_reg = f.next_reg + 1 }

@@ -4,12 +4,16 @@ pub mod Edit
 pub mod Entries
 pub mod Formed
 pub mod Ids
+pub mod Mentions
 pub mod Names
 pub mod Numbering
+pub mod Places
 pub mod Registers
 pub mod Renaming
 pub mod Routines
 pub mod Row
 pub mod Stages
+pub mod Tables
 pub mod Types
 pub mod Typings
+pub mod Uses

@@ -1,5 +1,5 @@
 -- The names of a module, in the order in which they first appear.
-use Rattle.std.specs.Prelude.{ℕ, List, [], ◌∷◌, ◌++◌, String, string_bytes, Option, bytes_eq, map, position, is_some, if◌then◌else◌, slice_index_or}
+use Rattle.std.specs.Prelude.{◌≡◌, ◌<◌, ℕ, length, Some, List, [], ◌∷◌, ◌++◌, String, string_bytes, Option, bytes_eq, map, position, is_some, if◌then◌else◌, slice_index_or}
 
 -- the texts of a map's keys
 abbrev pub texts_of : {A : Type 0} → List (String A × ℕ) → List (List ℕ)
@@ -16,3 +16,7 @@ with_name names name = if is_some (number_of names name) then names else names +
 -- the name with this number, and the empty text where none has it
 abbrev pub name_at : List (List ℕ) → ℕ → List ℕ
 name_at names number = slice_index_or names number []
+
+-- each name is found at its own number, so that no two numbers have one name
+pub record AreDistinct (names : List (List ℕ)) : Type 0 where
+  pub apart : (k : ℕ) → k < length names → number_of names (name_at names k) ≡ Some k

@@ -1,11 +1,13 @@
 //! Blocks of numbered instructions.
 
-ghost use Rattle.std.specs.Prelude.{◌≡◌, ◌==◌, ◌≤◌, ◌<◌, ◌-◌, ◌^◌, length, position, find, remove, slice_get, option_map, OnOk, OnErr, IfSome, Some, true};
-ghost use Rattle.std.specs.List.{list_any};
+ghost use Rattle.std.specs.Prelude.{◌≡◌, ◌+◌, ◌==◌, ◌≤◌, ◌<◌, length, slice_get, insert, remove, option_map, OnOk, OnErr, IfSome, Some, true};
 ghost use Rattle.gi_mir.specs.Formed.{is_formed};
-ghost use Rattle.gi_mir.specs.Edit.{block_with, block_with_instr, block_changed, with_operand, with_kind, HasDefAt, defines, entry_at, has_instr, id_at, place_of};
+ghost use Rattle.gi_mir.specs.Edit.{block_with, block_changed_at, with_operand, with_kind, HasDefAt, entry_at, has_at, id_at};
+ghost use Rattle.gi_mir.specs.Mentions.{is_mentioned, operands_of};
+ghost use Rattle.gi_mir.specs.Uses.{instr_replaced};
 
 use crate::instr::Instr;
+use crate::mentions::any_mentions;
 use crate::operand::{Kind, Operand, Reg};
 use gi_llt::Memory;
 use std::alloc::Global;
@@ -39,7 +41,7 @@ pub struct Numbered {
 }
 
 impl Model for Numbered {
-    ghost use Rattle.std.specs.Prelude.{◌≡◌, ℕ, true};
+    ghost use Rattle.std.specs.Prelude.{◌≡◌, ◌+◌, ℕ, true};
     ghost use Rattle.gi_mir.specs.Data.{InstrData};
     ghost use Rattle.gi_mir.specs.Formed.{is_formed};
 
@@ -76,21 +78,14 @@ impl Body {
         }
     }
 
-    /// Whether the instruction with this id is here.
-    pub(crate) fn has(&self, id: InstrId) -> bool
-        ensures { result ≡ has_instr id.0 self.now }
+    /// Whether the instruction at this place has this id.
+    pub(crate) fn has_at(&self, id: InstrId, at: usize) -> bool
+        ensures { result ≡ has_at self.now id.0 at }
     {
-        self.instrs.iter().any(|n| n.has_id(id))
-    }
-
-    /// The place of the first instruction with this id, and the end where there is none.
-    pub(crate) fn place_of(&self, id: InstrId) -> usize
-        ensures value { result ≡ place_of id.0 self.now.instrs }
-        ensures within { result ≤ length self.now.instrs }
-        ensures found { has_instr id.0 self.now ≡ true → result < length self.now.instrs }
-        ensures small { result < 2 ^ 64 - 1 }
-    {
-        place_of(self.instrs.as_slice(), id)
+        match self.instrs.as_slice().get(at) {
+            Some(n) => n.has_id(id),
+            None => false,
+        }
     }
 
     /// The id of the instruction at this place.
@@ -103,73 +98,94 @@ impl Body {
         }
     }
 
-    /// The instruction with this id.
-    pub(crate) fn instr(&self, id: InstrId) -> &Instr
-        requires { has_instr id.0 self.now ≡ true }
-        ensures value { option_map (λ p. p.1) (entry_at self.now (place_of id.0 self.now.instrs)) ≡ Some result.now }
+    /// The id of the instruction after this place.
+    pub(crate) fn id_after(&self, at: usize) -> Option<InstrId>
+        requires { at < length self.now.instrs }
+        ensures { option_map (λ id. id.0) result ≡ id_at self.now (at + 1) }
+    {
+        let _count = self.instrs.len();
+        self.id_at(at + 1)
+    }
+
+    /// The instruction at this place.
+    pub(crate) fn instr(&self, at: usize) -> &Instr
+        requires { at < length self.now.instrs }
+        ensures value { option_map (λ p. p.1) (entry_at self.now at) ≡ Some result.now }
         ensures formed { is_formed result.now ≡ true }
     {
-        let place = self.place_of(id);
-        let found = &self.instrs[place];
+        let found = &self.instrs[at];
         &found.instr
     }
 
-    /// Puts another operand into an instruction.
-    pub(crate) fn set_operand(&mut self, id: InstrId, place: usize, new: Operand)
-        requires has { has_instr id.0 self.old ≡ true }
-        requires can { IfSome (option_map (λ p. p.1) (entry_at self.old (place_of id.0 self.old.instrs))) (λ i. (place < length i.operands) × (is_formed (with_operand i place new) ≡ true)) }
-        ensures { self.new ≡ block_changed (λ i. with_operand i place new) id.0 self.old }
+    /// The operands of the instruction at this place.
+    pub(crate) fn operands(&self, at: usize) -> &[Operand]
+        requires { at < length self.now.instrs }
+        ensures { result.now ≡ operands_of (entry_at self.now at) }
     {
-        let at = self.place_of(id);
-        let found = &mut self.instrs[at];
-        found.set_operand(place, new);
+        self.instr(at).operands.as_slice()
     }
 
-    /// Gives a definition another kind.
-    pub(crate) fn set_kind(&mut self, id: InstrId, place: usize, kind: Kind)
-        requires has { has_instr id.0 self.old ≡ true }
-        requires can { HasDefAt (option_map (λ p. p.1) (entry_at self.old (place_of id.0 self.old.instrs))) place }
-        ensures { self.new ≡ block_changed (λ i. with_kind i place kind) id.0 self.old }
+    /// Whether the instruction at this place mentions what an operand does.
+    pub(crate) fn mentions(&self, at: usize, x: Operand) -> bool
+        requires { at < length self.now.instrs }
+        ensures { result ≡ is_mentioned x (operands_of (entry_at self.now at)) }
     {
-        let at = self.place_of(id);
+        match x.mention() {
+            Some(key) => any_mentions(self.operands(at), key),
+            None => false,
+        }
+    }
+
+    /// Puts another operand into the instruction at this place, and answers the old one.
+    pub(crate) fn set_operand(&mut self, at: usize, place: usize, new: Operand) -> Operand
+        requires within { at < length self.old.instrs }
+        requires can { IfSome (option_map (λ p. p.1) (entry_at self.old at)) (λ i. (place < length i.operands) × (is_formed (with_operand i place new) ≡ true)) }
+        ensures changed { self.new ≡ block_changed_at (λ i. with_operand i place new) at self.old }
+        ensures old { slice_get (operands_of (entry_at self.old at)) place ≡ Some result }
+    {
+        let old = self.operands(at)[place];
+        let found = &mut self.instrs[at];
+        found.set_operand(place, new);
+        old
+    }
+
+    /// Makes each use of a register in the instruction at this place one of another.
+    pub(crate) fn replace_reg(&mut self, at: usize, old: Reg, new: Reg)
+        requires { at < length self.old.instrs }
+        ensures { self.new ≡ block_changed_at (instr_replaced old.0 new.0) at self.old }
+    {
+        let found = &mut self.instrs[at];
+        found.replace_reg(old, new);
+    }
+
+    /// Gives a definition of the instruction at this place another kind.
+    pub(crate) fn set_kind(&mut self, at: usize, place: usize, kind: Kind)
+        requires within { at < length self.old.instrs }
+        requires can { HasDefAt (option_map (λ p. p.1) (entry_at self.old at)) place }
+        ensures { self.new ≡ block_changed_at (λ i. with_kind i place kind) at self.old }
+    {
         let found = &mut self.instrs[at];
         found.set_kind(place, kind);
     }
 
-    /// The first instruction that defines a register.
-    pub(crate) fn definition_of(&self, reg: Reg) -> Option<InstrId>
-        ensures { option_map (λ id. id.0) result ≡ option_map (λ p. p.0) (find (defines reg.0) self.now.instrs) }
-    {
-        match self.instrs.iter().find(|n| n.defines(reg)) {
-            Some(found) => Some(found.id()),
-            None => None,
-        }
-    }
-
-    /// Takes an instruction out.
-    pub(crate) fn take(&mut self, id: InstrId) -> Instr
-        requires { has_instr id.0 self.old ≡ true }
-        ensures taken { option_map (λ p. p.1) (entry_at self.old (place_of id.0 self.old.instrs)) ≡ Some result }
-        ensures rest { self.new ≡ record self.old { instrs = remove self.old.instrs (place_of id.0 self.old.instrs) } }
+    /// Takes the instruction at this place out.
+    pub(crate) fn take(&mut self, at: usize) -> Instr
+        requires { at < length self.old.instrs }
+        ensures taken { option_map (λ p. p.1) (entry_at self.old at) ≡ Some result }
+        ensures rest { self.new ≡ record self.old { instrs = remove self.old.instrs at } }
         ensures formed { is_formed result ≡ true }
     {
-        let place = self.place_of(id);
-        let Numbered { id: _, instr } = self.instrs.remove(place);
+        let Numbered { id: _, instr } = self.instrs.remove(at);
         instr
     }
 
-    /// Puts an instruction before the one that is named, or last.
-    pub(crate) fn insert(&mut self, before: Option<InstrId>, new: Numbered) -> Result<(), Memory>
-        ensures ok { OnOk result (self.new ≡ block_with_instr self.old before new) }
+    /// Puts an instruction at this place.
+    pub(crate) fn insert(&mut self, at: usize, new: Numbered) -> Result<(), Memory>
+        requires { at ≤ length self.old.instrs }
+        ensures ok { OnOk result (self.new ≡ record self.old { instrs = insert self.old.instrs at new }) }
         ensures err { OnErr result (self.new ≡ self.old) }
     {
-        match before {
-            None => self.instrs.push(new).map_err(|_| Memory),
-            Some(id) => {
-                let place = place_of(self.instrs.as_slice(), id);
-                self.instrs.insert(place, new).map_err(|_| Memory)
-            }
-        }
+        self.instrs.insert(at, new).map_err(|_| Memory)
     }
 }
 
@@ -191,10 +207,11 @@ impl Numbered {
         instr.set_kind(place, kind);
     }
 
-    fn defines(&self, reg: Reg) -> bool
-        ensures { result ≡ defines reg.0 self.now }
+    fn replace_reg(&mut self, old: Reg, new: Reg)
+        ensures { self.new ≡ (self.old.0, instr_replaced old.0 new.0 self.old.1) }
     {
-        self.instr.defines(reg)
+        let instr = &mut self.instr;
+        instr.replace_reg(old, new);
     }
 
     fn id(&self) -> InstrId
@@ -208,22 +225,4 @@ impl Numbered {
     {
         self.id.0 == id.0
     }
-}
-
-/// The place of the first instruction with this id.
-fn position_of(instrs: &[Numbered], id: InstrId) -> Option<usize>
-    ensures value { result ≡ position (λ p. p.0 == id.0) instrs.now }
-    ensures within { IfSome result (λ place. place < length instrs.now) }
-{
-    instrs.iter().position(|n| n.has_id(id))
-}
-
-/// The place of the first instruction with this id, and the end where there is none.
-fn place_of(instrs: &[Numbered], id: InstrId) -> usize
-    ensures value { result ≡ place_of id.0 instrs.now }
-    ensures within { result ≤ length instrs.now }
-    ensures found { list_any (λ p. p.0 == id.0) instrs.now ≡ true → result < length instrs.now }
-    ensures small { result < 2 ^ 64 - 1 }
-{
-    position_of(instrs, id).unwrap_or(instrs.len())
 }

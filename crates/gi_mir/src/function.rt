@@ -1,14 +1,19 @@
 //! Functions: blocks of numbered instructions.
 
-ghost use Rattle.std.specs.Prelude.{◌≡◌, ◌↔◌, IsTrue, ◌-◌, ◌^◌, ◌<◌, ◌≤◌, true, length, Contains, OnOk, OnErr, IfOk, IfSome, Some, option_map, position, slice_index_or};
-ghost use Rattle.std.specs.List.{list_any, position_or_len};
-ghost use Rattle.gi_mir.specs.Edit.{block_at, empty_block, has_instr, home_block, head_of, ids_of, empty_function, register_above, above_registers, with_block, with_stack, with_keys, with_instr, home_of, IsLive, instr_of, id_at, id_after, id_before, without_instr, with_new_reg, CanSetOperand, with_operand_of, IsDefAt, with_changed, with_kind, definition_in, definition_of};
+ghost use Rattle.std.specs.List.{list_any};
+ghost use Rattle.std.specs.Prelude.{◌≡◌, ◌↔◌, IsTrue, ◌-◌, ◌^◌, ◌<◌, ◌≤◌, true, length, Contains, OnOk, OnErr, IfOk, IfSome, Some, map, option_map};
+ghost use Rattle.gi_mir.specs.Edit.{block_at, head_of, ids_of, empty_function, register_above, above_registers, with_block, with_stack, with_keys, spot_in, with_instr, home_of, place_in_block, IsLive, StandsBefore, instr_of, id_at, id_after, id_before, without_instr, with_new_reg, CanSetOperand, with_operand_of, IsDefAt, with_changed, with_kind, definition_of, users_of, uses, all_instrs};
 ghost use Rattle.gi_mir.specs.Formed.{is_formed};
 ghost use Rattle.gi_mir.specs.Ids.{AreOwnIds};
+ghost use Rattle.gi_mir.specs.Places.{id_in};
+ghost use Rattle.gi_mir.specs.Uses.{with_reg_replaced, IsPartlyReplaced};
 
 use crate::block::{Block, Body, InstrId, Numbered};
 use crate::instr::Instr;
+use crate::layout::{Layout, place_among, stands_at};
+use crate::mentions::{definition_key, first, use_key};
 use crate::operand::{Kind, Operand, Reg, StackObject};
+use crate::place::Place;
 use gi_llt::Memory;
 use std::alloc::Global;
 use std::marker::Model;
@@ -35,44 +40,7 @@ fn above_registers(least: u64, operands: &[Operand]) -> u64
         .fold(least, |above, x| above.max(x.register_above()))
 }
 
-/// Whether a block has this instruction.
-fn any_has(blocks: &[Body], id: InstrId) -> bool
-    ensures { result ≡ list_any (has_instr id.0) blocks.now }
-{
-    blocks.iter().any(|body| body.has(id))
-}
-
-/// The place of the first block that has this instruction.
-fn position_of_home(blocks: &[Body], id: InstrId) -> Option<usize>
-    ensures { result ≡ position (has_instr id.0) blocks.now }
-{
-    blocks.iter().position(|body| body.has(id))
-}
-
-/// The place of the first block that has this instruction, and the end where none has.
-fn home_among(blocks: &[Body], id: InstrId) -> usize
-    ensures home { result ≡ position_or_len (has_instr id.0) blocks.now }
-    ensures within { list_any (has_instr id.0) blocks.now ≡ true → result < length blocks.now }
-    ensures has { list_any (has_instr id.0) blocks.now ≡ true → has_instr id.0 (slice_index_or blocks.now result empty_block) ≡ true }
-{
-    position_of_home(blocks, id).unwrap_or(blocks.len())
-}
-
-/// The first instruction in layout order that defines this register.
-fn definition_among(blocks: &[Body], reg: Reg) -> Option<InstrId>
-    ensures { option_map (λ id. id.0) result ≡ definition_in reg.0 blocks.now }
-{
-    for body in blocks {
-        match body.definition_of(reg) {
-            Some(id) => return Some(id),
-            None => {}
-        }
-    }
-    None
-}
-
-/// A function: its name, three keys, its stack objects and its blocks. `homes` has a place for each id that
-/// was given.
+/// A function: its name, three keys, its stack objects and its blocks.
 #[derive(Drop)]
 pub struct Function {
     name: u32,
@@ -80,22 +48,20 @@ pub struct Function {
     banked: bool,
     selected: bool,
     stack: Vec<StackObject>,
-    blocks: Vec<Body>,
+    layout: Layout,
     next_reg: u64,
-    homes: Vec<u32>,
 }
 
 impl Model for Function {
     ghost use Rattle.std.specs.Prelude.{◌^◌, ◌<◌, length};
-    ghost use Rattle.std.specs.Vec.{vec_len};
     ghost use Rattle.gi_mir.specs.Data.{FunctionData};
-    ghost use Rattle.gi_mir.specs.Ids.{AreOwnIds};
+    ghost use Rattle.gi_mir.specs.Tables.{IsTabled};
 
     ghost Value = { FunctionData };
 
-    ghost view = { λ a. record { name = a.name; legalized = a.legalized; banked = a.banked; selected = a.selected; stack = a.stack.items; blocks = a.blocks.items; next_reg = a.next_reg; next_id = vec_len a.homes } };
+    ghost view = { λ a. record { name = a.name; legalized = a.legalized; banked = a.banked; selected = a.selected; stack = a.stack.items; blocks = a.layout.blocks.items; next_reg = a.next_reg; next_id = length a.layout.places.items } };
 
-    ghost invariant = { λ a. (length a.blocks.items < 2 ^ 32) × AreOwnIds a.blocks.items (vec_len a.homes) };
+    ghost invariant = { λ a. (length a.layout.blocks.items < 2 ^ 32) × IsTabled a.layout.blocks.items a.layout.places.items a.layout.mentions };
 }
 
 impl Function {
@@ -109,9 +75,8 @@ impl Function {
             banked: false,
             selected: false,
             stack: Vec::new(alloc),
-            blocks: Vec::new(alloc),
+            layout: Layout::new(alloc),
             next_reg: 0,
-            homes: Vec::new(alloc),
         }
     }
 
@@ -122,13 +87,9 @@ impl Function {
         ensures place { IfOk result (λ place. place ≡ length self.old.blocks) }
         ensures err { OnErr result (self.new ≡ self.old) }
     {
-        let place = self.blocks.len() as u32;
-        let alloc = *self.blocks.allocator();
-        let body = Body::new(alloc, block);
-        match self.blocks.push(body) {
-            Ok(()) => Ok(place),
-            Err(_) => Err(Memory),
-        }
+        let place = self.layout.blocks.len() as u32;
+        self.layout.add_block(block)?;
+        Ok(place)
     }
 
     /// Sets the three keys.
@@ -161,7 +122,7 @@ impl Function {
         ensures count { result ≡ length self.now.blocks }
         ensures small { length self.now.blocks < 2 ^ 32 }
     {
-        self.blocks.len() as u32
+        self.layout.blocks.len() as u32
     }
 
     /// The block at this place, without its instructions.
@@ -169,7 +130,7 @@ impl Function {
         requires { block < length self.now.blocks }
         ensures { result.now ≡ head_of (block_at self.now block) }
     {
-        let body = &self.blocks[block as usize];
+        let body = &self.layout.blocks[block as usize];
         &body.head
     }
 
@@ -178,11 +139,12 @@ impl Function {
         requires { block < length self.now.blocks }
         ensures { result.now ≡ (block_at self.now block).instrs }
     {
-        let body = &self.blocks[block as usize];
+        let body = &self.layout.blocks[block as usize];
         body.instrs.as_slice()
     }
 
-    /// Puts an instruction before the one that is named in this block, or last, and answers its id.
+    /// Puts an instruction before the one that is named in this block, or last, and answers its id. Those behind
+    /// it in the block are numbered anew, so that at the end of a block none is.
     pub fn insert_before(
         &mut self,
         block: u32,
@@ -196,23 +158,13 @@ impl Function {
         ensures id { IfOk result (λ id. id.0 ≡ self.old.next_id) }
         ensures err { OnErr result (self.new ≡ self.old) }
     {
-        let id = InstrId(self.homes.len());
+        let at = self.spot(block, before);
         let above = above_registers(self.next_reg, instr.operands.as_slice());
-        if self.homes.push(block).is_err() {
-            return Err(Memory);
-        }
-        let body = &mut self.blocks[block as usize];
-        match body.insert(before, Numbered { id, instr }) {
-            Ok(()) => {
-                self.next_reg = above;
-                Ok(id)
-            }
-            Err(_) => {
-                let _ = self.homes.pop();
-                Err(Memory)
-            }
-        }
+        let id = self.layout.insert(Place { block, at }, instr)?;
+        self.next_reg = above;
+        Ok(id)
     }
+
     /// Adds a stack object, and answers its place.
     pub fn add_stack(&mut self, object: StackObject) -> Result<u32, Memory>
         requires { length self.old.stack < 2 ^ 32 - 1 }
@@ -250,7 +202,7 @@ impl Function {
         requires { block < length self.now.blocks }
         ensures { option_map (λ id. id.0) result ≡ id_at (block_at self.now block) 0 }
     {
-        let body = &self.blocks[block as usize];
+        let body = &self.layout.blocks[block as usize];
         body.id_at(0)
     }
 
@@ -259,32 +211,54 @@ impl Function {
         requires { block < length self.now.blocks }
         ensures { option_map (λ id. id.0) result ≡ id_at (block_at self.now block) (length (block_at self.now block).instrs - 1) }
     {
-        let body = &self.blocks[block as usize];
+        let body = &self.layout.blocks[block as usize];
         let count = body.instrs.len();
         body.id_at(count.saturating_sub(1))
     }
 
-    /// The place of the block that has this instruction.
-    fn home_of(&self, id: InstrId) -> usize
-        ensures home { result ≡ home_of self.now id.0 }
-        ensures within { IsLive self.now id.0 → result < length self.now.blocks }
-        ensures has { IsLive self.now id.0 → has_instr id.0 (home_block self.now id.0) ≡ true }
+    /// Where an instruction goes in a block: before the one that is named, or last.
+    fn spot(&self, block: u32, before: Option<InstrId>) -> usize
+        requires within { block < length self.now.blocks }
+        requires stands { IfSome before (λ id. Contains (ids_of (block_at self.now block)) id.0) }
+        ensures spot { result ≡ spot_in (block_at self.now block).instrs before }
+        ensures bound { result ≤ length (block_at self.now block).instrs }
     {
-        home_among(self.blocks.as_slice(), id)
+        match before {
+            Some(id) => self.layout.places[id.0].at,
+            None => {
+                let body = &self.layout.blocks[block as usize];
+                body.instrs.len()
+            }
+        }
+    }
+
+    /// The place of an instruction.
+    fn place(&self, id: InstrId) -> Place
+        requires { IsLive self.now id.0 }
+        ensures block { result.block ≡ home_of self.now id.0 }
+        ensures at { result.at ≡ place_in_block self.now id.0 }
+        ensures block_within { result.block < length self.now.blocks }
+        ensures at_within { result.at < length (block_at self.now result.block).instrs }
+        ensures stands { id_in self.now.blocks result.block result.at ≡ Some id.0 }
+    {
+        self.layout.places[id.0]
     }
 
     /// Each id belongs to one instruction at most, and the next one to none.
     pub fn own_ids(&self)
         ensures { AreOwnIds self.now.blocks self.now.next_id }
     {
-        let _homes = &self.homes;
+        let _layout = &self.layout;
     }
 
     /// Whether the instruction with this id is in the function.
     pub fn is_live(&self, id: InstrId) -> bool
         ensures { IsTrue result ↔ IsLive self.now id.0 }
     {
-        any_has(self.blocks.as_slice(), id)
+        match place_among(self.layout.places.as_slice(), id) {
+            Some(place) => stands_at(self.layout.blocks.as_slice(), place, id),
+            None => false,
+        }
     }
 
     /// The number of the next virtual register.
@@ -300,18 +274,7 @@ impl Function {
         ensures home { result ≡ home_of self.now id.0 }
         ensures within { result < length self.now.blocks }
     {
-        let _count = self.block_count();
-        self.home_of(id) as u32
-    }
-
-    /// The block that has this instruction.
-    fn home_body(&self, id: InstrId) -> &Body
-        requires { IsLive self.now id.0 }
-        ensures value { result.now ≡ home_block self.now id.0 }
-        ensures has { has_instr id.0 result.now ≡ true }
-    {
-        let home = self.home_of(id);
-        &self.blocks[home]
+        self.place(id).block
     }
 
     /// The instruction with this id.
@@ -320,7 +283,9 @@ impl Function {
         ensures value { instr_of self.now id.0 ≡ Some result.now }
         ensures formed { is_formed result.now ≡ true }
     {
-        self.home_body(id).instr(id)
+        let place = self.place(id);
+        let body = &self.layout.blocks[place.block as usize];
+        body.instr(place.at)
     }
 
     /// The next instruction of the same block.
@@ -328,9 +293,9 @@ impl Function {
         requires { IsLive self.now id.0 }
         ensures { option_map (λ next. next.0) result ≡ id_after self.now id.0 }
     {
-        let body = self.home_body(id);
-        let place = body.place_of(id);
-        body.id_at(place + 1)
+        let place = self.place(id);
+        let body = &self.layout.blocks[place.block as usize];
+        body.id_after(place.at)
     }
 
     /// The previous instruction of the same block.
@@ -338,25 +303,33 @@ impl Function {
         requires { IsLive self.now id.0 }
         ensures { option_map (λ previous. previous.0) result ≡ id_before self.now id.0 }
     {
-        let body = self.home_body(id);
-        let place = body.place_of(id);
-        if place == 0 {
+        let place = self.place(id);
+        let body = &self.layout.blocks[place.block as usize];
+        if place.at == 0 {
             None
         } else {
-            body.id_at(place - 1)
+            body.id_at(place.at - 1)
         }
     }
 
-    /// Takes an instruction out.
+    /// Whether one instruction stands before another in layout.
+    pub fn before(&self, a: InstrId, b: InstrId) -> bool
+        requires first { IsLive self.now a.0 }
+        requires second { IsLive self.now b.0 }
+        ensures { IsTrue result ↔ StandsBefore self.now a.0 b.0 }
+    {
+        self.place(a).is_before(self.place(b))
+    }
+
+    /// Takes an instruction out. Those behind it in the block are numbered anew.
     pub fn erase(&mut self, id: InstrId) -> Instr
         requires { IsLive self.old id.0 }
         ensures taken { instr_of self.old id.0 ≡ Some result }
         ensures rest { self.new ≡ without_instr self.old id.0 }
         ensures formed { is_formed result ≡ true }
     {
-        let home = self.home_of(id);
-        let body = &mut self.blocks[home];
-        body.take(id)
+        let place = self.place(id);
+        self.layout.remove(place, id)
     }
 
     /// Puts another operand into an instruction.
@@ -366,9 +339,8 @@ impl Function {
         ensures ok { OnOk result (self.new ≡ with_operand_of self.old id.0 k new) }
         ensures err { OnErr result (self.new ≡ self.old) }
     {
-        let home = self.home_of(id);
-        let body = &mut self.blocks[home];
-        body.set_operand(id, k, new);
+        let place = self.place(id);
+        self.layout.set_operand(place, id, k, new)?;
         self.next_reg = self.next_reg.max(new.register_above());
         Ok(())
     }
@@ -379,15 +351,44 @@ impl Function {
         requires definition { IsDefAt self.old id.0 k }
         ensures { self.new ≡ with_changed (λ i. with_kind i k kind) self.old id.0 }
     {
-        let home = self.home_of(id);
-        let body = &mut self.blocks[home];
-        body.set_kind(id, k, kind);
+        let place = self.place(id);
+        self.layout.set_kind(place, k, kind);
     }
 
     /// The first instruction in layout order that defines this register.
     pub fn def_of(&self, reg: Reg) -> Option<InstrId>
         ensures { option_map (λ id. id.0) result ≡ definition_of self.now reg.0 }
     {
-        definition_among(self.blocks.as_slice(), reg)
+        first(self.layout.mentions.of(definition_key(reg)))
+    }
+
+    /// The instructions that use this register, each once, in layout order.
+    pub fn uses_of(&self, reg: Reg) -> &[InstrId]
+        ensures { map (λ id. id.0) result.now ≡ users_of self.now reg.0 }
+    {
+        self.layout.mentions.of(use_key(reg))
+    }
+
+    /// Whether an instruction uses this register.
+    fn is_used(&self, reg: Reg) -> bool
+        ensures { result ≡ list_any (uses reg.0) (all_instrs self.now.blocks) }
+    {
+        !self.uses_of(reg).is_empty()
+    }
+
+    /// Makes each use of a register one of another. Where memory runs out, the uses up to some place in layout
+    /// are replaced.
+    pub fn replace_reg(&mut self, old: Reg, new: Reg) -> Result<(), Memory>
+        ensures ok { OnOk result (self.new ≡ with_reg_replaced old.0 new.0 self.old) }
+        ensures err { OnErr result (IsPartlyReplaced old.0 new.0 self.old self.new) }
+    {
+        if !self.is_used(old) {
+            return Ok(());
+        }
+        self.next_reg = self.next_reg.max(new.0 as u64 + 1);
+        if old.0 == new.0 {
+            return Ok(());
+        }
+        self.layout.replace_reg(old, new)
     }
 }

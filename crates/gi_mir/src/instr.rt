@@ -1,8 +1,9 @@
 //! Instructions.
 
-ghost use Rattle.std.specs.Prelude.{◌≡◌, ◌<◌, length, IfOk};
+ghost use Rattle.std.specs.Prelude.{◌≡◌, ◌<◌, length, map, IfOk};
 ghost use Rattle.std.specs.List.{list_any};
 ghost use Rattle.gi_mir.specs.Edit.{with_operand, with_kind, of_kind, is_def_of};
+ghost use Rattle.gi_mir.specs.Uses.{operand_replaced, instr_replaced};
 
 use crate::opcode::Opcode;
 use crate::operand::{Flags, Kind, MemOp, Operand, Reg};
@@ -64,6 +65,13 @@ impl Instr {
         self.set_operand(place, old.of_kind(kind));
     }
 
+    /// Makes each use of a register one of another.
+    pub fn replace_reg(&mut self, old: Reg, new: Reg)
+        ensures { self.new ≡ instr_replaced old.0 new.0 self.old }
+    {
+        replace_among(self.operands.as_mut_slice(), old, new);
+    }
+
     /// Whether this instruction defines a register.
     pub fn defines(&self, reg: Reg) -> bool
         ensures { result ≡ list_any (is_def_of reg.0) self.now.operands }
@@ -72,7 +80,26 @@ impl Instr {
     }
 }
 
+/// Makes each use of a register one of another.
+fn replace_among(operands: &mut [Operand], old: Reg, new: Reg)
+    ensures { operands.new ≡ map (operand_replaced old.0 new.0) operands.old }
+{
+    for x in operands.iter_mut() {
+        *x = x.with_reg_replaced(old, new);
+    }
+}
+
 impl Operand {
+    /// This operand, where a use of one register is one of another.
+    fn with_reg_replaced(self, old: Reg, new: Reg) -> Operand
+        ensures { result ≡ operand_replaced old.0 new.0 self }
+    {
+        match self {
+            Operand::Use(reg) => Operand::Use(if reg.0 == old.0 { new } else { reg }),
+            _ => self,
+        }
+    }
+
     /// This operand, if it is a definition, with another kind.
     pub fn of_kind(self, kind: Kind) -> Operand
         ensures { result ≡ of_kind kind self }

@@ -2,7 +2,7 @@
 
 ghost use Rattle.std.specs.Prelude.{◌≡◌, ◌-◌, ◌^◌, ◌<◌, [], ◌∷◌, ◌++◌, None, length, string_bytes, unwrap_or, OnOk, OnErr, IfOk, IfSome, IfNone};
 ghost use Rattle.indexmap.specs.IndexMap.{get_by_text, index_map_len};
-ghost use Rattle.gi_mir.specs.Names.{texts_of, number_of, with_name, name_at};
+ghost use Rattle.gi_mir.specs.Names.{texts_of, number_of, with_name, name_at, AreDistinct};
 
 use gi_llt::Memory;
 use indexmap::IndexMap;
@@ -17,13 +17,13 @@ pub struct Names {
 
 impl Model for Names {
     ghost use Rattle.std.specs.Prelude.{ℕ, ◌^◌, ◌<◌, List, length};
-    ghost use Rattle.gi_mir.specs.Names.{texts_of};
+    ghost use Rattle.gi_mir.specs.Names.{texts_of, AreDistinct};
 
     ghost Value = { List (List ℕ) };
 
     ghost view = { λ a. texts_of a.map.entries };
 
-    ghost invariant = { λ a. length a.map.entries < 2 ^ 32 };
+    ghost invariant = { λ a. (length a.map.entries < 2 ^ 32) × AreDistinct (texts_of a.map.entries) };
 }
 
 /// The place of a name among the keys.
@@ -62,6 +62,13 @@ impl Names {
         ensures { result ≡ length self.now }
     {
         self.map.len() as u32
+    }
+
+    /// No two numbers have one name.
+    pub fn are_distinct(&self)
+        ensures { AreDistinct self.now }
+    {
+        let _map = &self.map;
     }
 
     /// The number of a name, which gets the next one if it has none.

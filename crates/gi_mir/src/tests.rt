@@ -151,3 +151,60 @@ fn builds_a_function(rt: HostRuntime) -> Result<(), Fail> {
     assert_eq!(rt; function.keys(), (true, false, false));
     Ok(())
 }
+
+fn sum(
+    alloc: Global,
+    function: &mut Function,
+    reg: u32,
+    left: u32,
+    right: u32,
+) -> Result<InstrId, Fail>
+    requires { 0 < length function.old.blocks }
+    ensures { 0 < length function.new.blocks }
+{
+    let kind = Kind::Generic(Llt::Scalar(32));
+    append(
+        function,
+        alloc,
+        Opcode::GenericAdd,
+        &[
+            Operand::Def(Reg(reg), kind),
+            Operand::Use(Reg(left)),
+            Operand::Use(Reg(right)),
+        ],
+    )
+}
+
+#[test]
+fn keeps_uses(rt: HostRuntime) -> Result<(), Fail> {
+    let alloc = rt.alloc();
+    let mut function = Function::new(alloc, 0);
+    let block = Block {
+        successors: Vec::new(alloc),
+        liveins: Vec::new(alloc),
+    };
+    assert_eq!(rt; function.add_block(block).ok().ok_or("memory")?, 0);
+    assert!(rt; function.block_count() == 1);
+    let first = constant(alloc, &mut function, 0)?;
+    let twice = sum(alloc, &mut function, 1, 0, 0)?;
+    let last = sum(alloc, &mut function, 2, 0, 1)?;
+    assert!(rt; function.is_live(first) && function.is_live(last));
+    assert!(rt; function.before(first, last));
+    assert!(rt; !function.before(last, first));
+    function.replace_reg(Reg(1), Reg(7)).ok().ok_or("memory")?;
+    for (reg, users) in [
+        (0, &[twice, last] as &[InstrId]),
+        (1, &[]),
+        (2, &[]),
+        (7, &[last]),
+    ] {
+        assert!(rt; function.uses_of(Reg(reg)) == users);
+    }
+    assert_eq!(rt; function.next_reg(), 8);
+    Ok(())
+}
+
+#[test]
+fn names_apart(rt: HostRuntime) {
+    Names::new(rt.alloc()).are_distinct();
+}

@@ -1,10 +1,10 @@
 -- Splitting at the first separator.
-use Rattle.std.proofs.Common.{◌≡◌, ℕ, zero, suc, ◌+◌, ◌<◌, ◌≤◌, Bool, true, false, List, [], ◌∷◌, ◌++◌, Option, Some, None, length, get_or, drop, take, arith, refl, sym, ap, ◌∙◌, subst, drop-cons, add-one, append_assoc, append-nil}
+use Rattle.std.proofs.Common.{◌≡◌, ℕ, suc, ◌+◌, ◌<◌, Bool, true, false, List, [], ◌∷◌, ◌++◌, Some, length, get_or, drop, take, refl, sym, ap, ◌∙◌, subst, drop-cons, add-one, append_assoc}
 use Rattle.std.proofs.Math.Seq.{take-suc}
-use Rattle.std.specs.Prelude.{if◌then◌else◌, ◌&&◌}
+use Rattle.std.specs.Prelude.{if◌then◌else◌}
 use Rattle.gi_spelling.specs.declared.token.Item.{Item}
 use Rattle.gi_spelling.specs.declared.token.What.TheVariants as what
-use Rattle.gi_spelling.specs.Reading.{Split, onto_split, onto_first_part, is_colon, is_comma_item, is_equals, begins_with_colon, without_first, parts_of, split_at_equals, split_at_colons}
+use Rattle.gi_spelling.specs.Reading.{Split, onto_split, onto_first_part, is_comma_item, is_equals, without_first, parts_of, split_at_equals, split_at_colons}
 use Rattle.gi_mir_read.specs.declared.split.Separator.{Separator}
 use Rattle.gi_mir_read.specs.declared.split.Separator.TheVariants.{Comma, Equals, Colons}
 use Rattle.gi_mir_read.specs.Splits.{begins, width_of, split_at, parts_left}

@@ -1,5 +1,5 @@
 -- Where the tokens of a line are split.
-use Rattle.std.specs.Prelude.{ℕ, Bool, true, false, ◌&&◌, List, [], ◌∷◌, Option, Some, None, drop, if◌then◌else◌}
+use Rattle.std.specs.Prelude.{ℕ, Bool, false, ◌&&◌, List, [], ◌∷◌, Option, Some, None, drop, if◌then◌else◌}
 use Rattle.gi_spelling.specs.declared.token.Item.{Item}
 use Rattle.gi_spelling.specs.Reading.{Split, onto_split, is_colon, is_comma_item, is_equals, begins_with_colon, parts_of}
 use Rattle.gi_mir_read.specs.declared.split.Separator.{Separator}

@@ -1,8 +1,8 @@
 //! Instructions.
 
-ghost use Rattle.std.specs.Prelude.{◌≡◌, [], ◌∷◌, Ok, IfOk, IfErr, take, length};
+ghost use Rattle.std.specs.Prelude.{◌≡◌, Ok, IfOk, IfErr};
 ghost use Rattle.std.specs.Option.{option_copied};
-ghost use Rattle.gi_spelling.specs.Reading.{begins_definition, is_constant_op, is_debug_line, opcode_by, past_flag, parts_of, read_all, read_body, read_definition, read_flags, read_instr, read_memory_behind, read_operands, read_sources, read_tail};
+ghost use Rattle.gi_spelling.specs.Reading.{begins_definition, is_debug, is_debug_line, opcode_by, past_flag, parts_of, read_all, read_body, read_defined_line, read_definition, read_flags, read_instr, read_memory_behind, read_operands, read_sources, read_tail, split_at_equals};
 ghost use Rattle.gi_mir_read.specs.Flagged.{has_flag};
 ghost use Rattle.gi_mir_read.specs.Stops.{IsFault};
 
@@ -90,4 +90,117 @@ fn read_operands(alloc: Global, typed: bool, items: &[Item]) -> Result<Vec<Sourc
         wants_type = false;
     }
     Ok(found)
+}
+
+/// The operands behind an opcode, if there are any.
+fn read_sources(alloc: Global, op: Opcode, items: &[Item]) -> Result<Vec<Source>, Stop>
+    ensures ok { IfOk result (λ found. read_sources op items.now ≡ Ok found.items) }
+    ensures fault { IfErr result (IsFault (read_sources op items.now)) }
+{
+    match items {
+        [] => Ok(Vec::new(alloc)),
+        _ => read_operands(alloc, op == Opcode::GenericConstant, items),
+    }
+}
+
+/// The memory operand behind `::`, if there is one.
+fn read_memory_behind(items: Option<&[Item]>) -> Result<Option<Memory>, Fault>
+    ensures { result ≡ read_memory_behind (option_copied items.entry) }
+{
+    match items {
+        None => Ok(None),
+        Some(items) => Ok(Some(read_memory(items)?)),
+    }
+}
+
+/// What stands behind an opcode.
+fn read_tail(
+    alloc: Global,
+    definitions: Vec<Definition>,
+    flags: Flags,
+    op: Opcode,
+    items: &[Item],
+) -> Result<Written, Stop>
+    ensures ok { IfOk result (λ written. read_tail definitions.items flags op items.now ≡ Ok written) }
+    ensures fault { IfErr result (IsFault (read_tail definitions.items flags op items.now)) }
+{
+    let split = split_at(Separator::Colons, items);
+    let sources = read_sources(alloc, op, split.before)?;
+    let memory = read_memory_behind(split.after)?;
+    Ok(Written {
+        definitions,
+        flags,
+        op,
+        sources,
+        memory,
+    })
+}
+
+/// The flags, the opcode and what follows.
+fn read_body(alloc: Global, definitions: Vec<Definition>, items: &[Item]) -> Result<Written, Stop>
+    ensures ok { IfOk result (λ written. read_body definitions.items items.now ≡ Ok written) }
+    ensures fault { IfErr result (IsFault (read_body definitions.items items.now)) }
+{
+    let (flags, rest) = read_flags(items);
+    match rest {
+        [] => Err(Stop::Fault(Fault::Syntax)),
+        [first, tail @ ..] => {
+            let op = opcode(*first)?;
+            read_tail(alloc, definitions, flags, op, tail)
+        }
+    }
+}
+
+/// Whether the first token may begin a definition.
+fn begins_definition(items: &[Item]) -> bool
+    ensures { result ≡ begins_definition items.now }
+{
+    match items {
+        [] => false,
+        [first, ..] => matches!(first.what, What::Register(_) | What::Physical(_)),
+    }
+}
+
+/// An instruction that begins with definitions.
+fn read_defined_line(alloc: Global, items: &[Item]) -> Result<Written, Stop>
+    ensures ok { IfOk result (λ written. read_defined_line (split_at_equals items.now) ≡ Ok written) }
+    ensures fault { IfErr result (IsFault (read_defined_line (split_at_equals items.now))) }
+{
+    let split = split_at(Separator::Equals, items);
+    let definitions = read_definitions(alloc, split.before)?;
+    match split.after {
+        None => Err(Stop::Fault(Fault::Syntax)),
+        Some(rest) => read_body(alloc, definitions, rest),
+    }
+}
+
+/// An instruction, from the tokens that count of its line.
+pub(crate) fn read_instr(alloc: Global, items: &[Item]) -> Result<Written, Stop>
+    ensures ok { IfOk result (λ written. read_instr items.now ≡ Ok written) }
+    ensures fault { IfErr result (IsFault (read_instr items.now)) }
+{
+    if begins_definition(items) {
+        read_defined_line(alloc, items)
+    } else {
+        read_body(alloc, Vec::new(alloc), items)
+    }
+}
+
+/// Whether a token is an opcode that says nothing.
+fn is_debug(items: &[Item]) -> bool
+    ensures { result ≡ is_debug items.now }
+{
+    match items {
+        [] => false,
+        [first, ..] => matches!(first.what, What::Word(Word::Debug)),
+    }
+}
+
+/// Whether the instruction of a line says nothing.
+pub(crate) fn is_debug_line(items: &[Item]) -> bool
+    ensures { result ≡ is_debug_line items.now }
+{
+    let split = split_at(Separator::Equals, items);
+    let (_, place) = read_flags(split.after.unwrap_or(items));
+    is_debug(place)
 }

@@ -14,17 +14,17 @@ pub(crate) enum Stop {
 }
 
 impl From<Fault> for Stop {
-    fn from(fault: Fault) -> Stop
-        ensures { result ≡ stop.Fault fault }
-    {
+    ghost from_gives = { λ fault e. e ≡ stop.Fault fault };
+
+    fn from(fault: Fault) -> Stop {
         Stop::Fault(fault)
     }
 }
 
 impl From<Memory> for Stop {
-    fn from(_memory: Memory) -> Stop
-        ensures { result ≡ stop.Memory }
-    {
+    ghost from_gives = { λ _ e. e ≡ stop.Memory };
+
+    fn from(_memory: Memory) -> Stop {
         Stop::Memory
     }
 }

@@ -190,15 +190,15 @@ list_wrongs NoList section entries = wrong section.head.number fault.Syntax ∷ 
 abbrev pub key_wrongs : (text : List ℕ) → (key : List ℕ) → Section → List Wrong
 key_wrongs text key section =
     if bytes_eq key (codes "name") then
-      (if is_name (name_value section) then under_wrongs section.under else wrong section.head.number fault.Syntax ∷ [])
+    (if is_name (name_value section) then under_wrongs section.under else wrong section.head.number fault.Syntax ∷ [])
     else if bytes_eq key (codes "legalized") || bytes_eq key (codes "regBankSelected") || bytes_eq key (codes "selected") then
-      fault_then section.head.number (truth_fault (value_items text section.head)) (under_wrongs section.under)
+    fault_then section.head.number (truth_fault (value_items text section.head)) (under_wrongs section.under)
     else if bytes_eq key (codes "registers") then
-      list_wrongs (list_value (value_items text section.head)) section (register_wrongs text section.under)
+    list_wrongs (list_value (value_items text section.head)) section (register_wrongs text section.under)
     else if bytes_eq key (codes "stack") then
-      list_wrongs (list_value (value_items text section.head)) section (object_wrongs 0 (groups_of text section.under))
+    list_wrongs (list_value (value_items text section.head)) section (object_wrongs 0 (groups_of text section.under))
     else if bytes_eq key (codes "body") then
-      (if is_bar (value_items text section.head) then [] else wrong section.head.number fault.Syntax ∷ [])
+    (if is_bar (value_items text section.head) then [] else wrong section.head.number fault.Syntax ∷ [])
     else []
 
 -- an entry of a key that counts stands once
@@ -247,14 +247,14 @@ pub record Document : Type 0 where
 
 abbrev pub read_document : (text : List ℕ) → List Section → Document
 read_document text sections = record {
-    name = option_map_or name_value (entry_of (codes "name") sections) [];
-    legalized = is_key_true text (codes "legalized") sections;
-    banked = is_key_true text (codes "regBankSelected") sections;
-    selected = is_key_true text (codes "selected") sections;
-    classes = registers_in text (list_under text (codes "registers") sections);
-    objects = objects_from 0 (groups_of text (list_under text (codes "stack") sections));
-    blocks = blocks_in text (body_lines text sections);
-  }
+  name = option_map_or name_value (entry_of (codes "name") sections) [];
+  legalized = is_key_true text (codes "legalized") sections;
+  banked = is_key_true text (codes "regBankSelected") sections;
+  selected = is_key_true text (codes "selected") sections;
+  classes = registers_in text (list_under text (codes "registers") sections);
+  objects = objects_from 0 (groups_of text (list_under text (codes "stack") sections));
+  blocks = blocks_in text (body_lines text sections);
+}
 
 abbrev pub tables_of : (text : List ℕ) → Document → Tables
 tables_of text document = record { classes = document.classes; blocks = block_numbers text document.blocks.sections; objects = length document.objects }
@@ -284,8 +284,8 @@ with_body numbers f body = fold (with_last (length f.blocks)) (with_block f (hea
 abbrev pub function_of : (text : List ℕ) → Document → FunctionData
 function_of text document =
     fold (with_body (block_numbers text document.blocks.sections))
-      (fold with_stack (with_keys (empty_function 0) document.legalized document.banked document.selected) document.objects)
-      (bodies_of text document)
+    (fold with_stack (with_keys (empty_function 0) document.legalized document.banked document.selected) document.objects)
+    (bodies_of text document)
 
 -- ══ What is wrong in a document ══
 

@@ -8,6 +8,7 @@ use Rattle.gi_spelling.specs.declared.token.What.{What}
 use Rattle.gi_spelling.specs.declared.token.What.TheVariants as what
 use Rattle.gi_spelling.specs.declared.token.Item.{Item}
 use Rattle.gi_spelling.specs.declared.written.Fields.{Fields}
+use Rattle.gi_spelling.specs.declared.written.Entry.{Entry}
 use Rattle.gi_spelling.specs.declared.written.EntryState.{EntryState}
 use Rattle.gi_spelling.specs.declared.written.EntryState.TheVariants as state
 use Rattle.gi_spelling.specs.declared.written.EntryKind.{EntryKind}
@@ -28,10 +29,6 @@ has_field fields word.ClassField = is_some fields.class
 has_field fields word.Size = is_some fields.size
 has_field fields word.Alignment = is_some fields.alignment
 has_field fields w = false
-
-pub record Entry : Type 0 where
-  pub state : EntryState
-  pub fields : Fields
 
 abbrev pub entry : EntryState → Fields → Entry
 entry state fields = record { state = state; fields = fields }

@@ -4,7 +4,7 @@
 -- `debug-location !N`, `debug-instr-number N`, `basealign N` and `!name !N`, each with a comma directly before it;
 -- the probability in brackets directly behind a block, as `%bb.1(0x40000000)`.
 -- (MIR Format Reference Manual, "Machine Instructions"; that these say nothing here is this project's own.)
-use Rattle.std.specs.Prelude.{ℕ, zero, suc, Bool, true, false, ◌&&◌, List, [], ◌∷◌, map, if◌then◌else◌}
+use Rattle.std.specs.Prelude.{zero, suc, Bool, true, false, ◌&&◌, List, [], ◌∷◌, map, if◌then◌else◌}
 use Rattle.gi_spelling.specs.declared.kept.Next.{Next}
 use Rattle.gi_spelling.specs.declared.kept.Next.TheVariants.{Past, PastOrigin}
 use Rattle.gi_spelling.specs.declared.kept.Turn.{Turn}

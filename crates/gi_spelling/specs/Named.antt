@@ -1,5 +1,5 @@
 -- A function in which each name has its number, from one in which a global has the place of its token in the text.
-use Rattle.std.specs.Prelude.{◌≡◌, ℕ, suc, List, drop}
+use Rattle.std.specs.Prelude.{◌≡◌, ℕ, suc, ◌<◌, List, ◌++◌, drop, length}
 use Rattle.std.specs.List.{AllZip}
 use Rattle.gi_llt.specs.Tokens.{is_word_byte, run_of}
 use Rattle.gi_mir.specs.Data.{InstrData, BlockData, FunctionData}
@@ -16,6 +16,7 @@ name_of_token text place = run_of is_word_byte (drop (suc place) text)
 pub record IsNamedGlobal (text : List ℕ) (names : List (List ℕ)) (flag : SymbolFlag) (place : ℕ) (new : Operand) : Type 0 where
   pub number : ℕ
   pub same : new ≡ Global flag number
+  pub within : number < length names
   pub named : name_at names number ≡ name_of_token text place
 
 abbrev pub IsNamedOperand : (text : List ℕ) (names : List (List ℕ)) → Operand → Operand → Type 0
@@ -47,3 +48,8 @@ pub record IsNamedFunction (text : List ℕ) (names : List (List ℕ)) (old new 
   pub blocks : AllZip (IsNamedBlock text names) old.blocks new.blocks
   pub next_reg : new.next_reg ≡ old.next_reg
   pub next_id : new.next_id ≡ old.next_id
+
+-- names that have grown: the earlier ones keep their numbers
+pub record Extends (old new : List (List ℕ)) : Type 0 where
+  pub more : List (List ℕ)
+  pub grown : new ≡ old ++ more

@@ -154,13 +154,13 @@ or_else (Some x) other = Some x
 abbrev pub word_of : List ℕ → Word
 word_of bytes =
     unwrap_or
-      (or_else (fixed_word bytes)
-      (or_else (option_map (λ op. word.Opcode op) (opcode_of bytes))
-      (or_else (option_map (λ bits. word.Type (Scalar bits)) (width_behind 115 bytes))
-      (or_else (option_map (λ bits. word.Integer bits) (width_behind 105 bytes))
-      (or_else (option_map (λ number. word.BlockHead number) (block_head bytes))
-      (if starts_with nat_eq bytes (codes "DBG_") then Some word.Debug else None))))))
-      word.Unknown
+    (or_else (fixed_word bytes)
+    (or_else (option_map (λ op. word.Opcode op) (opcode_of bytes))
+    (or_else (option_map (λ bits. word.Type (Scalar bits)) (width_behind 115 bytes))
+    (or_else (option_map (λ bits. word.Integer bits) (width_behind 105 bytes))
+    (or_else (option_map (λ number. word.BlockHead number) (block_head bytes))
+    (if starts_with nat_eq bytes (codes "DBG_") then Some word.Debug else None))))))
+    word.Unknown
 
 -- ══ Tokens ══
 
@@ -168,10 +168,10 @@ word_of bytes =
 abbrev pub register_token : List ℕ → What
 register_token bytes =
     unwrap_or
-      (or_else (option_map (λ number. what.Register number) (numeral greatest_register bytes))
-      (or_else (option_map (λ number. what.Block number) (option_map_or (numeral greatest_block) (behind (codes "bb.") bytes) None))
-      (option_map (λ number. what.Frame number) (option_map_or (numeral_before_name greatest_register) (behind (codes "stack.") bytes) None))))
-      what.Other
+    (or_else (option_map (λ number. what.Register number) (numeral greatest_register bytes))
+    (or_else (option_map (λ number. what.Block number) (option_map_or (numeral greatest_block) (behind (codes "bb.") bytes) None))
+    (option_map (λ number. what.Frame number) (option_map_or (numeral_before_name greatest_register) (behind (codes "stack.") bytes) None))))
+    what.Other
 
 -- `$x7`, less its first byte
 abbrev pub physical_of : Option ℕ → What

@@ -132,6 +132,13 @@ pub enum EntryState {
     AtEnd,
 }
 
+/// An entry as far as it is read.
+#[derive(Clone, Copy, Debug, PartialEq, Eq)]
+pub struct Entry {
+    pub state: EntryState,
+    pub fields: Fields,
+}
+
 /// Whether an entry is one of `registers` or one of `stack`.
 #[derive(Clone, Copy, Debug, PartialEq, Eq)]
 pub enum EntryKind {

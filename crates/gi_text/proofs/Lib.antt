@@ -1,5 +1,5 @@
-pub mod RunLemmas
-pub mod NumberLemmas
-pub mod StepLemmas
 pub mod CutLemmas
 pub mod LawLemmas
+pub mod NumberLemmas
+pub mod RunLemmas
+pub mod StepLemmas

@@ -1,5 +1,5 @@
-pub mod Kinds
-pub mod Steps
-pub mod Numbers
-pub mod Cutting
 pub mod Cursors
+pub mod Cutting
+pub mod Kinds
+pub mod Numbers
+pub mod Steps

@@ -1,6 +1,7 @@
 pub mod AddRuns
 pub mod BodyLemmas
 pub mod BuildLemmas
+pub mod ChosenLemmas
 pub mod ClassedRuns
 pub mod CompileLaws
 pub mod DigitsLemmas

@@ -3,7 +3,7 @@
 ghost use Rattle.std.specs.Prelude.{◌≡◌, ◌≤◌, ◌<◌, ◌∷◌, Some, option_map, ◌++◌, IfOk, IfErr, Ok, Err, length, drop, map, string_bytes, IsTrue};
 ghost use Rattle.std.specs.Option.{option_copied};
 ghost use Rattle.gi_observe.specs.Passes.{pass_of};
-ghost use Rattle.gisel.specs.Options.{behind, option_name, width_of, named, named_pass, setting_of, no_choice, is_set, takes_next, with_setting, setting_at, first_setting, chosen, options_in, is_before, options_of};
+ghost use Rattle.gisel.specs.Options.{behind, option_name, width_of, named, named_pass, setting_of, no_choice, is_set, takes_next, with_setting, setting_at, first_setting, chosen, options_in, file_name, is_before, options_of};
 
 use gi_observe::Pass;
 use std::marker::Model;
@@ -232,14 +232,6 @@ fn takes_next(setting: Setting) -> bool
     }
 }
 
-/// The words behind the first so many.
-fn after(words: &[String], count: usize) -> &[String]
-    requires { count ≤ length words.now }
-    ensures { result.now ≡ drop count words.now }
-{
-    &words[count..]
-}
-
 /// What the words set, or the leftmost that is at fault.
 fn chosen<'a>(words: &'a [String]) -> Result<Choice<'a>, &'a str>
     ensures ok { IfOk result (λ choice. chosen no_choice (map string_bytes words.now) ≡ Ok choice) }
@@ -254,38 +246,114 @@ fn chosen<'a>(words: &'a [String]) -> Result<Choice<'a>, &'a str>
                 let Some(setting) = choice.setting_at(word.as_str()) else {
                     return Err(word.as_str());
                 };
-                let count = set_first(&mut choice, setting, rest)?;
-                rest = after(rest, count);
+                rest = set_first(&mut choice, setting, rest)?;
             }
         }
     }
 }
 
-/// Sets what the first word sets, and answers how many words it takes.
+/// Sets what the first word sets, and answers the words behind those that this takes.
 fn set_first<'a>(
     choice: &mut Choice<'a>,
     setting: Setting,
     words: &'a [String],
-) -> Result<usize, &'a str>
+) -> Result<&'a [String], &'a str>
     requires { first_setting choice.old (map string_bytes words.now) ≡ Some setting }
-    ensures ok { IfOk result (λ count. chosen choice.old (map string_bytes words.now) ≡ chosen choice.new (map string_bytes (drop count words.now))) }
-    ensures within { IfOk result (λ count. count ≤ length words.now) }
-    ensures some { IfOk result (λ count. 0 < count) }
+    ensures ok { IfOk result (λ rest. chosen choice.old (map string_bytes words.now) ≡ chosen choice.new (map string_bytes rest.now)) }
+    ensures shorter { IfOk result (λ rest. length rest.now < length words.now) }
     ensures fault { IfErr result (λ word. chosen choice.old (map string_bytes words.now) ≡ Err word.now) }
 {
     match words {
         [] => Err(""),
-        [word] => {
-            if takes_next(setting) {
-                Err(word.as_str())
-            } else {
+        [word, rest @ ..] => match rest {
+            [] => {
+                if takes_next(setting) {
+                    return Err(word.as_str());
+                }
                 choice.set(setting, word.as_str(), "");
-                Ok(1)
+                Ok(rest)
             }
-        }
-        [word, next, ..] => {
-            choice.set(setting, word.as_str(), next.as_str());
-            if takes_next(setting) { Ok(2) } else { Ok(1) }
-        }
+            [next, more @ ..] => {
+                choice.set(setting, word.as_str(), next.as_str());
+                if takes_next(setting) {
+                    Ok(more)
+                } else {
+                    Ok(rest)
+                }
+            }
+        },
     }
 }
+
+/// What the words ask for.
+#[derive(Drop)]
+pub struct Options<'a> {
+    /// the width of the target's registers, if a word sets it
+    pub target: Option<u16>,
+    /// the pass behind which the run starts, if the input is Machine IR
+    pub start: Option<Pass>,
+    /// the last pass
+    pub stop: Pass,
+    /// the name of the input; standard input has none
+    pub input: Option<&'a str>,
+    /// the name of the output; standard output has none
+    pub output: Option<&'a str>,
+}
+
+impl<'a> Model for Options<'a> {
+    ghost use Rattle.std.specs.Option.{option_copied};
+    ghost use Rattle.gisel.specs.Options.{OptionsData};
+
+    ghost Value = { OptionsData };
+
+    ghost view = { λ a. record { target = a.target; start = a.start; stop = a.stop; input = option_copied a.input; output = option_copied a.output } };
+}
+
+/// The name of a file, unless it is that of the standard one.
+fn file_name(name: Option<&str>) -> Option<&str>
+    ensures { option_copied result ≡ file_name (option_copied name.entry) }
+{
+    match name {
+        Some(name) => { if name == "-" { None } else { Some(name) } }
+        None => None,
+    }
+}
+
+/// Whether the run would end before it starts.
+fn is_before(stop: Option<Pass>, start: Option<Pass>) -> bool
+    ensures { result ≡ is_before stop start }
+{
+    match stop {
+        Some(stop) => match start {
+            Some(start) => stop.place() < start.place(),
+            None => false,
+        },
+        None => false,
+    }
+}
+
+impl<'a> Options<'a> {
+    /// What the words ask for, or the word that is at fault.
+    pub fn from_words(words: &'a [String]) -> Result<Options<'a>, &'a str>
+        ensures ok { IfOk result (λ options. options_of (map string_bytes words.now) ≡ Ok options) }
+        ensures fault { IfErr result (λ word. options_of (map string_bytes words.now) ≡ Err word.now) }
+    {
+        let choice = match chosen(words) {
+            Ok(choice) => choice,
+            Err(word) => return Err(word),
+        };
+        if is_before(choice.stop, choice.start) {
+            return Err(choice.stop_word);
+        }
+        Ok(Options {
+            target: choice.target,
+            start: choice.start,
+            stop: choice.stop.unwrap_or(Pass::Select),
+            input: file_name(choice.input),
+            output: file_name(choice.output),
+        })
+    }
+}
+
+#[cfg(test)]
+mod tests;

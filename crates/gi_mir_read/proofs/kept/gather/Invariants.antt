@@ -1,4 +1,4 @@
-use Rattle.std.proofs.Common.{◌≡◌, ◌≤◌, ◌++◌, drop, take, length}
+use Rattle.std.proofs.Common.{◌≡◌, ◌≤◌, ◌++◌, drop, take}
 use Rattle.gi_spelling.specs.Items.{what_in}
 use Rattle.gi_spelling.specs.Kept.{kept, kept_past}
 use Rattle.gi_mir_read.proofs.kept.gather.Given as goal

@@ -1,0 +1,247 @@
+//! Which instructions mention a register: which define it, and which use it, in layout order.
+
+ghost use Rattle.std.specs.Prelude.{◌≡◌, ℕ, [], ◌∷◌, ◌≤◌, length, insert, slice_get, true, false, OnOk, OnErr};
+ghost use Rattle.std.specs.List.{list_any};
+ghost use Rattle.std.specs.List.Sorted.{IsPartitionedBy, IsPartitionPoint};
+ghost use Rattle.gi_mir.specs.Mentions.{definition_key, use_key, mention_of, is_mention, precedes, has_at, noted, without, listed, IsListed, HasSameLists, IsSorted, Lacks, IsNoted, IsForgotten};
+
+use crate::block::InstrId;
+use crate::operand::{Operand, Reg};
+use crate::place::Place;
+use gi_llt::Memory;
+use indexmap::IndexMap;
+use std::alloc::Global;
+
+/// The instructions that mention each register, in layout order, each once. A register's definitions and its
+/// uses have a key each.
+#[derive(Drop)]
+pub(crate) struct Mentions {
+    lists: IndexMap<u64, Vec<InstrId>>,
+}
+
+/// The key of the definitions of a register.
+pub(crate) fn definition_key(reg: Reg) -> u64
+    ensures { result ≡ definition_key reg.0 }
+{
+    2 * reg.0 as u64
+}
+
+/// The key of the uses of a register.
+pub(crate) fn use_key(reg: Reg) -> u64
+    ensures { result ≡ use_key reg.0 }
+{
+    2 * reg.0 as u64 + 1
+}
+
+impl Operand {
+    /// The key under which the instruction of this operand is listed.
+    pub(crate) fn mention(self) -> Option<u64>
+        ensures { result ≡ mention_of self }
+    {
+        match self {
+            Operand::Def(reg, _) => Some(definition_key(reg)),
+            Operand::Use(reg) => Some(use_key(reg)),
+            _ => None,
+        }
+    }
+}
+
+/// Whether an operand is listed under a key.
+fn is_mention(x: Operand, key: u64) -> bool
+    ensures { result ≡ is_mention key x }
+{
+    match x.mention() {
+        Some(mentioned) => mentioned == key,
+        None => false,
+    }
+}
+
+/// Whether one of the operands is listed under a key.
+pub(crate) fn any_mentions(operands: &[Operand], key: u64) -> bool
+    ensures { result ≡ list_any (is_mention key) operands.now }
+{
+    operands.iter().any(|x| is_mention(*x, key))
+}
+
+/// Whether the place of an instruction comes before another.
+fn precedes(places: &[Place], id: InstrId, spot: Place) -> bool
+    ensures { result ≡ precedes places.now spot id }
+{
+    match places.get(id.0).copied() {
+        Some(place) => place.is_before(spot),
+        None => false,
+    }
+}
+
+/// How many instructions of a list stand before a place.
+fn rank(places: &[Place], ids: &[InstrId], spot: Place) -> usize
+    requires { IsPartitionedBy (precedes places.now spot) ids.now }
+    ensures point { IsPartitionPoint (λ id. precedes places.now spot id ≡ true) (λ id. precedes places.now spot id ≡ false) ids.now result }
+    ensures bound { result ≤ length ids.now }
+{
+    ids.partition_point(|id| precedes(places, *id, spot))
+}
+
+/// The first instruction of a list.
+pub(crate) fn first(ids: &[InstrId]) -> Option<InstrId>
+    ensures { result ≡ slice_get ids.now 0 }
+{
+    ids.first().copied()
+}
+
+/// Whether a list has an instruction at this index.
+fn has_at(ids: &[InstrId], at: usize, id: InstrId) -> bool
+    ensures { result ≡ has_at ids.now at id }
+{
+    match ids.get(at) {
+        Some(there) => there.0 == id.0,
+        None => false,
+    }
+}
+
+/// Puts an instruction into a list.
+fn insert(ids: &mut Vec<InstrId>, at: usize, id: InstrId) -> Result<(), Memory>
+    requires { at ≤ length ids.old.items }
+    ensures ok { OnOk result (ids.new.items ≡ insert ids.old.items at id) }
+    ensures err { OnErr result (ids.new.items ≡ ids.old.items) }
+{
+    ids.insert(at, id).map_err(|_| Memory)
+}
+
+/// Adds an instruction, which stands at this place, to a list unless it is there.
+fn put(ids: &mut Vec<InstrId>, places: &[Place], id: InstrId, spot: Place) -> Result<(), Memory>
+    requires { IsPartitionedBy (precedes places.now spot) ids.old.items }
+    ensures ok { OnOk result (ids.new.items ≡ noted (precedes places.now spot) id ids.old.items) }
+    ensures err { OnErr result (ids.new.items ≡ ids.old.items) }
+{
+    let at = rank(places, ids.as_slice(), spot);
+    if has_at(ids.as_slice(), at, id) {
+        Ok(())
+    } else {
+        insert(ids, at, id)
+    }
+}
+
+/// Takes an instruction out of a list.
+fn take_out(ids: &mut Vec<InstrId>, id: InstrId)
+    ensures { ids.new.items ≡ without id ids.old.items }
+{
+    ids.retain(|x| x.0 != id.0);
+}
+
+impl Mentions {
+    /// No mention.
+    pub(crate) fn new(alloc: Global) -> Mentions
+        ensures { (key : ℕ) → listed result key ≡ [] }
+    {
+        Mentions {
+            lists: IndexMap::new(alloc),
+        }
+    }
+
+    /// The instructions that are listed under a key.
+    pub(crate) fn of(&self, key: u64) -> &[InstrId]
+        ensures { result.now ≡ listed self.now key }
+    {
+        match self.lists.get(&key) {
+            Some(ids) => ids.as_slice(),
+            None => &[],
+        }
+    }
+
+    /// Begins a list with one instruction.
+    fn begin(&mut self, key: u64, id: InstrId) -> Result<(), Memory>
+        requires { listed self.old key ≡ [] }
+        ensures ok { OnOk result (IsListed self.old self.new key (id ∷ [])) }
+        ensures err { OnErr result (HasSameLists self.old self.new) }
+    {
+        let mut ids = Vec::new(*self.lists.allocator());
+        ids.push(id).map_err(|_| Memory)?;
+        self.lists.insert(key, ids).map_err(|_| Memory)?;
+        Ok(())
+    }
+
+    /// Lists an instruction, which stands at this place, under a key unless it is there.
+    fn note(&mut self, places: &[Place], key: u64, id: InstrId, spot: Place) -> Result<(), Memory>
+        requires { IsPartitionedBy (precedes places.now spot) (listed self.old key) }
+        ensures ok { OnOk result (IsListed self.old self.new key (noted (precedes places.now spot) id (listed self.old key))) }
+        ensures err { OnErr result (HasSameLists self.old self.new) }
+    {
+        match self.lists.get_mut(&key) {
+            Some(ids) => put(ids, places, id, spot),
+            None => self.begin(key, id),
+        }
+    }
+
+    /// Takes an instruction out of the list under a key.
+    fn forget(&mut self, key: u64, id: InstrId)
+        ensures { IsListed self.old self.new key (without id (listed self.old key)) }
+    {
+        if let Some(ids) = self.lists.get_mut(&key) {
+            take_out(ids, id);
+        }
+    }
+
+    /// Lists an instruction under the key that an operand mentions.
+    pub(crate) fn note_operand(
+        &mut self,
+        places: &[Place],
+        operand: Operand,
+        id: InstrId,
+        spot: Place,
+    ) -> Result<(), Memory>
+        requires { IsSorted places.now spot self.old }
+        ensures ok { OnOk result (IsNoted self.old self.new (precedes places.now spot) (operand ∷ []) id) }
+        ensures err { OnErr result (HasSameLists self.old self.new) }
+    {
+        match operand.mention() {
+            Some(key) => self.note(places, key, id, spot),
+            None => Ok(()),
+        }
+    }
+
+    /// Takes an instruction out of the list under the key that an operand mentions.
+    pub(crate) fn forget_operand(&mut self, operand: Operand, id: InstrId)
+        ensures { IsForgotten self.old self.new (operand ∷ []) id }
+    {
+        if let Some(key) = operand.mention() {
+            self.forget(key, id);
+        }
+    }
+
+    /// Lists a new instruction under the keys that its operands mention. Where memory runs out, the lists are
+    /// as they were.
+    pub(crate) fn note_all(
+        &mut self,
+        places: &[Place],
+        operands: &[Operand],
+        id: InstrId,
+        spot: Place,
+    ) -> Result<(), Memory>
+        requires sorted { IsSorted places.now spot self.old }
+        requires fresh { Lacks self.old id }
+        requires own { precedes places.now spot id ≡ false }
+        ensures ok { OnOk result (IsNoted self.old self.new (precedes places.now spot) operands.now id) }
+        ensures err { OnErr result (HasSameLists self.old self.new) }
+    {
+        for x in operands {
+            match self.note_operand(places, *x, id, spot) {
+                Ok(()) => {}
+                Err(_) => {
+                    self.forget_all(operands, id);
+                    return Err(Memory);
+                }
+            }
+        }
+        Ok(())
+    }
+
+    /// Takes an instruction out of the lists under the keys that its operands mention.
+    pub(crate) fn forget_all(&mut self, operands: &[Operand], id: InstrId)
+        ensures { IsForgotten self.old self.new operands.now id }
+    {
+        for x in operands {
+            self.forget_operand(*x, id);
+        }
+    }
+}
