@@ -6,12 +6,12 @@ pub mod Digits
 pub mod Header
 pub mod Keys
 pub mod Lines
+pub mod Messages
 pub mod Next
 pub mod NormalForm
 pub mod Options
 pub mod Promise
 pub mod Reading
-pub mod Refusals
 pub mod Refused
 pub mod Rows
 pub mod Selectable
