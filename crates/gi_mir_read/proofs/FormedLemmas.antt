@@ -1,11 +1,10 @@
 -- An instruction is formed whatever numbers its globals have.
-use Rattle.std.proofs.Common.{◌≡◌, ℕ, Bool, true, false, List, [], ◌∷◌, Option, Some, None, refl, sym, ap, ◌∙◌}
-use Rattle.std.specs.Prelude.{◌&&◌, ◌||◌}
-use Rattle.std.specs.List.{AllZip, list_any, list_all}
+use Rattle.std.proofs.Common.{◌≡◌, ℕ, false, List, [], ◌∷◌, Option, Some, None, refl, sym, ap, ◌∙◌}
+use Rattle.std.specs.List.{AllZip, list_all}
 use Rattle.std.specs.Option.{option_map_or}
 use Rattle.gi_mir.specs.Data.{InstrData}
-use Rattle.gi_mir.specs.Formed.{admits, taken, fits, fits_one_of, has_access, is_in_range, is_formed}
-use Rattle.gi_mir.specs.Row.{rows_of, access_of}
+use Rattle.gi_mir.specs.Formed.{admits, taken, fits, fits_one_of, is_in_range, is_formed}
+use Rattle.gi_mir.specs.Row.{rows_of}
 use Rattle.gi_mir.specs.declared.operand.Operand.{Operand}
 use Rattle.gi_mir.specs.declared.operand.Operand.TheVariants as operand
 use Rattle.gi_mir.specs.declared.operand.SymbolFlag.{SymbolFlag}

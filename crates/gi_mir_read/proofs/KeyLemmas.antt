@@ -1,6 +1,6 @@
 -- The first entry of each key, entry by entry.
 use Rattle.std.proofs.Common.{◌≡◌, ◌≢◌, ℕ, ◌==◌, Bool, true, false, cond, List, [], ◌∷◌, ◌++◌, Some, None, length, refl, sym, ap, ◌∙◌, subst}
-use Rattle.std.specs.Prelude.{not, ◌&&◌, ◌||◌, Option, IfSome, is_some, find, option_map, bytes_eq, codes}
+use Rattle.std.specs.Prelude.{not, ◌&&◌, ◌||◌, Option, IfSome, is_none, is_some, find, fold, option_map, bytes_eq, codes}
 use Rattle.std.specs.List.{list_any}
 use Rattle.std.proofs.lemmas.Slice.Eq.{bytes_eq-Decides}
 use Rattle.gi_spelling.specs.Lines as lines
@@ -8,7 +8,7 @@ use Rattle.gi_spelling.specs.Lines.{is_entry, is_entry_of, key_of}
 use Rattle.gi_spelling.specs.Blocks.{wrong}
 use Rattle.gi_spelling.specs.declared.written.Fault.TheVariants as fault
 use Rattle.gi_spelling.specs.declared.written.Wrong.{Wrong}
-use Rattle.gi_spelling.specs.Documents.{entry_of, entry_wrongs, is_again, key_wrongs, known_keys}
+use Rattle.gi_spelling.specs.Documents.{entry_of, entry_wrongs, is_again, is_missing, key_wrongs, known_keys, lower}
 use Rattle.gi_mir_read.specs.declared.keys.Firsts.{Firsts}
 use Rattle.gi_mir_read.specs.declared.keys.Key.{Key}
 use Rattle.gi_mir_read.specs.declared.keys.Key.TheVariants.{Name, Legalized, Banked, Selected, Registers, Stack, Body}
@@ -251,3 +251,27 @@ wrong_first text earlier firsts section key are is spelled none =
     ∙ ap (λ test. cond test (wrong section.head.number fault.Syntax ∷ []) (key_wrongs text (key_of section.head.bytes) section))
     (again_is text earlier firsts section key are spelled ∙ ap (λ first. is_some (option_map (section_at text) first)) none)
     ∙ ap (λ word. key_wrongs text word section) (spelled_word (key_of section.head.bytes) key spelled)
+
+pub missing_is : (text : List ℕ) (sections : List lines.Section) (firsts : Firsts) (key : Key) → AreFirsts text sections firsts → is_none (first_of firsts key) ≡ is_missing (word_of key) sections
+missing_is text sections firsts key are = none_there (first_of firsts key) ∙ ap (λ found. not (is_some found)) (are.first key) ∙ ap not (sym (any_found (is_entry_of (word_of key)) sections))
+  where
+    none_there : (found : Option Section) → is_none found ≡ not (is_some (option_map (section_at text) found))
+    none_there None = refl
+    none_there (Some section) = refl
+
+pub missing_noted : (name body : Bool) (end : ℕ) (old new : Option Wrong) → (name || body) ≡ true → new ≡ lower old (wrong end fault.Syntax)
+    → new ≡ fold lower old (cond (name || body) (wrong end fault.Syntax ∷ []) [])
+missing_noted name body end old new is noted = noted ∙ ap (λ test. fold lower old (cond test (wrong end fault.Syntax ∷ []) [])) (sym is)
+
+pub none_missing : (name body : Bool) (end : ℕ) (old : Option Wrong) → name ≡ false → body ≡ false → old ≡ fold lower old (cond (name || body) (wrong end fault.Syntax ∷ []) [])
+none_missing true body end old no_name no_body = cc
+none_missing false true end old no_name no_body = cc
+none_missing false false end old no_name no_body = refl
+
+pub or_right : (name body : Bool) → body ≡ true → (name || body) ≡ true
+or_right true body is = refl
+or_right false body is = is
+
+pub or_left : (name body : Bool) → name ≡ true → (name || body) ≡ true
+or_left true body is = refl
+or_left false body is = cc

@@ -1,6 +1,8 @@
+pub mod BlockLemmas
 pub mod BodyLemmas
 pub mod ConstantLemmas
 pub mod CountLemmas
+pub mod DocumentLemmas
 pub mod EachLemmas
 pub mod EntryLemmas
 pub mod FirstLemmas
@@ -11,10 +13,12 @@ pub mod KeyLemmas
 pub mod LineCuts
 pub mod LineTests
 pub mod MeantLemmas
+pub mod NamedBlocks
 pub mod NamingLemmas
 pub mod NoteLemmas
 pub mod NumberLemmas
 pub mod PartCuts
+pub mod ReadLemmas
 pub mod RunCuts
 pub mod SectionCuts
 pub mod SplitLemmas
@@ -22,3 +26,4 @@ pub mod TableLemmas
 pub mod TextLemmas
 pub mod ToldCuts
 pub mod ToldLemmas
+pub mod TripleLemmas

@@ -1,6 +1,6 @@
 -- The lines that say something, in order.
 use Rattle.std.proofs.Common.{◌≡◌, ℕ, ◌+◌, ◌<◌, Bool, true, false, List, [], ◌∷◌, ◌++◌, Option, Some, None, map, length, take, get_or, refl, ap, ◌∙◌}
-use Rattle.std.proofs.lemmas.List.{take_more}
+use Rattle.std.proofs.lemmas.List.{take_more, map-append}
 use Rattle.std.specs.Prelude.{All, filter, filter_map, not, if◌then◌else◌}
 use Rattle.std.proofs.lemmas.List.Elements.{filter_map-append, All-nil, All-cons, All-head, All-tail}
 use Rattle.std.specs.List.{cons_option}
@@ -43,4 +43,11 @@ pub filter_map-push : {X Y : Type 0} (h : X → Option Y) (xs : List X) (place :
 filter_map-push h xs place d so_far more found within so is pushed =
     let next : filter_map h (take (place + 1) xs) ≡ filter_map h (take place xs) ++ cons_option (h (get_or xs place d)) [] =
     ap (filter_map h) (take_more xs place d within) ∙ filter_map-append h (take place xs) (get_or xs place d ∷ []) in
+    cc
+
+pub map-push : {X Y : Type 0} (f : X → Y) (xs : List X) (place : ℕ) (d : X) (so_far more : List Y) (y : Y) → place < length xs
+    → so_far ≡ map f (take place xs) → y ≡ f (get_or xs place d) → more ≡ so_far ++ y ∷ [] → more ≡ map f (take (place + 1) xs)
+map-push f xs place d so_far more y within so is pushed =
+    let next : map f (take (place + 1) xs) ≡ map f (take place xs) ++ f (get_or xs place d) ∷ [] =
+    ap (map f) (take_more xs place d within) ∙ map-append f (take place xs) (get_or xs place d ∷ []) in
     cc

@@ -53,3 +53,6 @@ pub record IsNextBlock (text : List ℕ) (told : List Told) (head : Told) (under
   pub head_within : IsToldIn text head
   pub under_within : All (IsToldIn text) under
   pub later_within : All (IsToldIn text) later
+
+abbrev pub head_of : Told → Option ℕ
+head_of told = told.head

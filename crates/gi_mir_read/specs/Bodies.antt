@@ -38,3 +38,7 @@ pub record IsReadSoFar (text : List ℕ) (names : List (List ℕ)) (before : Not
 pub record Reads (text : List ℕ) (old_names new_names : List (List ℕ)) (step : Body → Body) (old_body : BodyData) (old_notes : NotesData) (new_body : BodyData) (new_notes : NotesData) : Type 0 where
   pub grown : Extends old_names new_names
   pub kept : (before : NotesData) (spelled : Body) → IsReadSoFar text old_names before spelled old_body old_notes → IsReadSoFar text new_names before (step spelled) new_body new_notes
+
+-- what a block that has been read spells
+abbrev pub spelled_by : BodyData → Body
+spelled_by body = record { lists = body.lists; instrs = body.instrs; shown = []; begun = body.begun; wrongs = [] }

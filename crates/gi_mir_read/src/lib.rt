@@ -3,9 +3,12 @@
 
 mod access;
 mod block;
+mod blocks;
 mod body;
+mod building;
 mod constant;
 mod definition;
+mod document;
 mod document_lines;
 mod entries;
 mod entry;
@@ -16,8 +19,6 @@ mod items;
 mod kept;
 mod keys;
 mod line_bytes;
-#[cfg(test)]
-mod line_tests;
 mod lines;
 mod list;
 mod memory;
@@ -27,15 +28,27 @@ mod number;
 mod numbering;
 mod objects;
 mod parts;
+mod read;
+mod refusal;
 mod registers;
 mod resolve;
 mod sections;
+mod sizes;
 mod source;
 mod split;
+mod stated;
 mod stop;
+mod successors;
 mod tables;
 mod told;
+mod triples;
 mod values;
 mod what;
 mod word;
 mod wrongs;
+
+pub use read::read_mir;
+pub use triples::triple;
+
+#[cfg(test)]
+mod line_tests;

@@ -66,6 +66,13 @@ impl Numbering {
         }
     }
 
+    /// How many numbers there are, as far as 32 bits hold that.
+    pub(crate) fn count(&self) -> Result<u32, Memory>
+        ensures { IfOk result (λ count. count ≡ length self.now) }
+    {
+        count(self.numbers.as_slice())
+    }
+
     /// The place where a number came first.
     pub(crate) fn place(&self, number: u32) -> Option<u32>
         ensures { result ≡ position (nat_eq number) self.now }

@@ -142,7 +142,7 @@ instrs_inner kinds names (instr ∷ instrs) named =
     let parts = and_parts (is_named_instr names instr) (list_all (is_named_instr names) instrs) named in
     (instr_inner kinds names instr parts.0, instrs_inner kinds names instrs parts.1)
 
-instr_items : (kinds : ℕ → Kind) (names : List (List ℕ)) (instr : ℕ × InstrData) → is_named_instr names instr ≡ true
+pub instr_items : (kinds : ℕ → Kind) (names : List (List ℕ)) (instr : ℕ × InstrData) → is_named_instr names instr ≡ true
     → line_items (instr_line kinds names instr.1) ≡ Some (piece_lexemes (instr_pieces kinds names instr.1))
 instr_items kinds names instr named = line_items-pieces 4 (instr_pieces kinds names instr.1) (instr_apart kinds names instr.1 named)
 
@@ -153,7 +153,7 @@ instrs_spelled kinds names (instr ∷ instrs) named =
     let parts = and_parts (is_named_instr names instr) (list_all (is_named_instr names) instrs) named in
     (instr_items kinds names instr parts.0, instrs_spelled kinds names instrs parts.1)
 
-instr_no_block : (kinds : ℕ → Kind) (names : List (List ℕ)) (instr : ℕ × InstrData) → is_named_instr names instr ≡ true → is_block_head (instr_line kinds names instr.1) ≡ false
+pub instr_no_block : (kinds : ℕ → Kind) (names : List (List ℕ)) (instr : ℕ × InstrData) → is_named_instr names instr ≡ true → is_block_head (instr_line kinds names instr.1) ≡ false
 instr_no_block kinds names instr named =
     ap begins_block (instr_items kinds names instr named) ∙ no_block (piece_lexemes (instr_pieces kinds names instr.1)) (instr_starts kinds names instr.1)
 
@@ -164,7 +164,7 @@ instrs_no_block kinds names (instr ∷ instrs) named =
     let parts = and_parts (is_named_instr names instr) (list_all (is_named_instr names) instrs) named in
     (instr_no_block kinds names instr parts.0, instrs_no_block kinds names instrs parts.1)
 
-instr_no_list : (kinds : ℕ → Kind) (names : List (List ℕ)) (instr : ℕ × InstrData) → is_named_instr names instr ≡ true → is_list_line (instr_line kinds names instr.1) ≡ false
+pub instr_no_list : (kinds : ℕ → Kind) (names : List (List ℕ)) (instr : ℕ × InstrData) → is_named_instr names instr ≡ true → is_list_line (instr_line kinds names instr.1) ≡ false
 instr_no_list kinds names instr named =
     ap (λ items. begins_list (codes "successors") items || begins_list (codes "liveins") items) (instr_items kinds names instr named)
     ∙ no_list (piece_lexemes (instr_pieces kinds names instr.1)) (instr_starts kinds names instr.1)
@@ -177,7 +177,7 @@ instrs_stop kinds names (instr ∷ instrs) named =
     ap not (instr_no_list kinds names instr parts.0)
 
 -- the line of a block's head
-head_apart : (place : ℕ) → IsApart (block_head_pieces place)
+pub head_apart : (place : ℕ) → IsApart (block_head_pieces place)
 head_apart place = (decimal_words place, refl, (refl, refl, tt))
 
 abbrev pub head_line : ℕ → List ℕ
@@ -208,10 +208,10 @@ colon_ended (cell ∷ cells) = refl
 listed_after : (cells : List (List Piece)) → AllSafe cells → IsApart (mark 58 ∷ sources_pieces cells)
 listed_after cells safe = (refl, colon_ended cells, subst IsApart (append-nil (sources_pieces cells)) (sources_apart cells safe [] tt refl))
 
-successors_apart : (successors : List ℕ) → IsApart (successors_pieces successors)
+pub successors_apart : (successors : List ℕ) → IsApart (successors_pieces successors)
 successors_apart successors = (refl, refl, listed_after (block_pieces successors) (blocks_safe successors))
 
-liveins_apart : (liveins : List ℕ) → IsApart (liveins_pieces liveins)
+pub liveins_apart : (liveins : List ℕ) → IsApart (liveins_pieces liveins)
 liveins_apart liveins = (refl, refl, listed_after (physical_pieces liveins) (physicals_safe liveins))
 
 abbrev pub successors_line : List ℕ → List ℕ

@@ -34,11 +34,11 @@ lists_no_head true successors (number ∷ numbers) = ((successors_listed success
 lists_no_head false successors [] = tt
 lists_no_head false successors (number ∷ numbers) = ((liveins_listed (number ∷ numbers)).no_head, tt)
 
-a_list : (line : List ℕ) (is_successors : Bool) → IsListLine line is_successors → is_list_line line ≡ true
+pub a_list : (line : List ℕ) (is_successors : Bool) → IsListLine line is_successors → is_list_line line ≡ true
 a_list line true listed = or_left (lists (codes "successors") line) (lists (codes "liveins") line) listed.one
 a_list line false listed = or_right (lists (codes "successors") line) (lists (codes "liveins") line) listed.other
 
-lists_listed : (stated : Bool) (successors liveins : List ℕ) → list_all is_list_line (stated_lists stated successors liveins) ≡ true
+pub lists_listed : (stated : Bool) (successors liveins : List ℕ) → list_all is_list_line (stated_lists stated successors liveins) ≡ true
 lists_listed true successors [] = both_true (a_list _ true (successors_listed successors)) refl
 lists_listed true successors (number ∷ numbers) =
     both_true (a_list _ true (successors_listed successors)) (both_true (a_list _ false (liveins_listed (number ∷ numbers))) refl)
@@ -262,27 +262,33 @@ raw_inner line inner = record { no_start = inner_no_start line inner.indented; n
 raw_empty : IsRaw []
 raw_empty = record { no_start = refl; no_feed = refl }
 
-raw_set_off : (lines : List (List ℕ)) → EachLine IsInner lines → EachLine IsRaw (set_off lines)
-raw_set_off [] each = tt
-raw_set_off (line ∷ lines) each = each-append IsRaw (line ∷ lines) ([] ∷ []) (each-weaker IsInner IsRaw raw_inner (line ∷ lines) each) (raw_empty, tt)
+-- what holds of a line that is indented and of an empty one holds of the lines of blocks
+module _ (P : List ℕ → Type 0) (of_inner : (line : List ℕ) → IsInner line → P line) (of_empty : P []) where
+  each_set_off : (lines : List (List ℕ)) → EachLine IsInner lines → EachLine P (set_off lines)
+  each_set_off [] each = tt
+  each_set_off (line ∷ lines) each = each-append P (line ∷ lines) ([] ∷ []) (each-weaker IsInner P of_inner (line ∷ lines) each) (of_empty, tt)
 
-raw_block : (kinds : ℕ → Kind) (names : List (List ℕ)) (place count : ℕ) (block : BlockData) → is_named_block names block ≡ true
-    → EachLine IsRaw (block_lines kinds names place count block)
-raw_block kinds names place count block named =
-    let stated = states_successors block.successors (implied_successors place count block.instrs) in
-    let heads = stated_lists stated block.successors block.liveins in (
-      raw_inner (head_line place) (head_inner place),
-      each-append IsRaw (set_off heads) (instr_lines kinds names block.instrs) (raw_set_off heads (lists_inner stated block.successors block.liveins))
-          (each-weaker IsInner IsRaw raw_inner (instr_lines kinds names block.instrs) (instrs_inner kinds names block.instrs named)),
-    )
+  each_block : (kinds : ℕ → Kind) (names : List (List ℕ)) (place count : ℕ) (block : BlockData) → is_named_block names block ≡ true
+      → EachLine P (block_lines kinds names place count block)
+  each_block kinds names place count block named =
+      let stated = states_successors block.successors (implied_successors place count block.instrs) in
+      let heads = stated_lists stated block.successors block.liveins in (
+        of_inner (head_line place) (head_inner place),
+        each-append P (set_off heads) (instr_lines kinds names block.instrs) (each_set_off heads (lists_inner stated block.successors block.liveins))
+            (each-weaker IsInner P of_inner (instr_lines kinds names block.instrs) (instrs_inner kinds names block.instrs named)),
+      )
+
+  pub each_blocks : (kinds : ℕ → Kind) (names : List (List ℕ)) (place count : ℕ) (blocks : List BlockData) → list_all (is_named_block names) blocks ≡ true
+      → EachLine P (blocks_lines kinds names place count blocks)
+  each_blocks kinds names place count [] named = tt
+  each_blocks kinds names place count (block ∷ []) named =
+      let parts = and_parts (is_named_block names block) true named in
+      each_block kinds names place count block parts.0
+  each_blocks kinds names place count (block ∷ next ∷ blocks) named =
+      let parts = and_parts (is_named_block names block) (list_all (is_named_block names) (next ∷ blocks)) named in
+      each-append P (block_lines kinds names place count block) ([] ∷ blocks_lines kinds names (suc place) count (next ∷ blocks))
+      (each_block kinds names place count block parts.0) (of_empty, each_blocks kinds names (suc place) count (next ∷ blocks) parts.1)
 
 pub raw_blocks : (kinds : ℕ → Kind) (names : List (List ℕ)) (place count : ℕ) (blocks : List BlockData) → list_all (is_named_block names) blocks ≡ true
     → EachLine IsRaw (blocks_lines kinds names place count blocks)
-raw_blocks kinds names place count [] named = tt
-raw_blocks kinds names place count (block ∷ []) named =
-    let parts = and_parts (is_named_block names block) true named in
-    raw_block kinds names place count block parts.0
-raw_blocks kinds names place count (block ∷ next ∷ blocks) named =
-    let parts = and_parts (is_named_block names block) (list_all (is_named_block names) (next ∷ blocks)) named in
-    each-append IsRaw (block_lines kinds names place count block) ([] ∷ blocks_lines kinds names (suc place) count (next ∷ blocks))
-    (raw_block kinds names place count block parts.0) (raw_empty, raw_blocks kinds names (suc place) count (next ∷ blocks) parts.1)
+raw_blocks kinds names place count blocks named = each_blocks IsRaw raw_inner raw_empty kinds names place count blocks named

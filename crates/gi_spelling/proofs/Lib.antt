@@ -1,5 +1,6 @@
 pub mod AddExample
 pub mod BlockLines
+pub mod BlockSpells
 pub mod Blocks
 pub mod Documents
 pub mod InstrPieces
@@ -9,13 +10,19 @@ pub mod NamedLemmas
 pub mod Numerals
 pub mod PlacedLines
 pub mod PrintExamples
+pub mod PrintedTokens
 pub mod ReadLines
 pub mod ReadPieces
+pub mod SignedNumbers
 pub mod SpelledLines
 pub mod SpellingExamples
 pub mod StatedLines
+pub mod StatedSpells
+pub mod StatedTexts
+pub mod TextSpells
 pub mod Texts
 pub mod TokenLists
 pub mod WrittenLines
 pub mod WrittenParts
 pub mod WrittenPieces
+pub mod Zips

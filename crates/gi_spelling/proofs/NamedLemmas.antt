@@ -22,7 +22,7 @@ extends_same names = record { more = []; grown = sym (append-nil names) }
 pub extends_more : (first second third : List (List ℕ)) → Extends first second → Extends second third → Extends first third
 extends_more first second third a b = record { more = a.more ++ b.more; grown = b.grown ∙ ap (λ names. names ++ b.more) a.grown ∙ append_assoc first a.more b.more }
 
-name_kept : (names more : List (List ℕ)) (number : ℕ) → number < length names → name_at (names ++ more) number ≡ name_at names number
+pub name_kept : (names more : List (List ℕ)) (number : ℕ) → number < length names → name_at (names ++ more) number ≡ name_at names number
 name_kept names more number within =
     unwrap_or-slice_get (names ++ more) number [] ∙ get_or_append_left names more [] number within ∙ sym (unwrap_or-slice_get names number [])
 

@@ -14,11 +14,11 @@ use Rattle.gi_mir.specs.Row.{is_branch_op}
 use Rattle.gi_spelling.specs.Printed.{listed, physical_pieces, liveins_pieces, instr_line, instr_lines, with_branches, falls_through, implied_successors, block_head_pieces, successors_lines, liveins_lines, set_off, blocks_lines}
 use Rattle.gi_spelling.specs.Stated.{StatedInstr, CopyIn, MakeConstant, AddUp, CopyOut, Return, stated_kind, stated_instr, stated_line, instrs_lines, physical_list, is_among, is_argument, is_stated_after, defined_after, live_after, is_return, are_stated, are_arguments, IsStatedInstr, IsStated}
 
-decimal_10 : decimal 10 ≡ codes "10"
+pub decimal_10 : decimal 10 ≡ codes "10"
 unfolding digits
 decimal_10 = refl
 
-decimal_32 : decimal 32 ≡ codes "32"
+pub decimal_32 : decimal 32 ≡ codes "32"
 unfolding digits
 decimal_32 = refl
 

@@ -216,7 +216,7 @@ abbrev documents_of : Layout → (names : List (List ℕ)) → List FunctionData
 documents_of layout names [] = []
 documents_of layout names (f ∷ functions) = record { head = codes "---"; under = function_lines layout names f } ∷ documents_of layout names functions
 
-sections_of-documents : (layout : Layout) (names : List (List ℕ)) (functions : List FunctionData) → AllPrintable names functions
+pub sections_of-documents : (layout : Layout) (names : List (List ℕ)) (functions : List FunctionData) → AllPrintable names functions
     → sections_of is_start (documents_lines layout names functions) ≡ record { before = []; sections = documents_of layout names functions }
 sections_of-documents layout names [] all = refl
 sections_of-documents layout names (f ∷ functions) all =
@@ -295,7 +295,7 @@ printed_spells m printable =
     ∙ lines_of-text_of (documents_lines printed_layout m.names m.functions) (documents_feeds printed_layout m.names m.functions printable.functions))
 
 -- the instructions that the program takes so far name nothing
-stated_named : (names : List (List ℕ)) (stated : StatedInstr) (line : ℕ) → list_all (is_named_operand names) (stated_instr stated line).operands ≡ true
+pub stated_named : (names : List (List ℕ)) (stated : StatedInstr) (line : ℕ) → list_all (is_named_operand names) (stated_instr stated line).operands ≡ true
 stated_named names (CopyIn reg physical) line = refl
 stated_named names (MakeConstant reg value) line = refl
 stated_named names (AddUp reg left right) line = refl
@@ -339,10 +339,10 @@ stated_printable names f instrs block stated =
       live_first = subst Live (sym stated.blocks) refl;
     }
 
-abbrev stated_layout : Gaps → (closed : Bool) → Layout
+abbrev pub stated_layout : Gaps → (closed : Bool) → Layout
 stated_layout gaps closed = record { name = suc gaps.name; legal = suc gaps.legal; banked = suc gaps.banked; chosen = 0; body = suc gaps.body; tracks = false; closed = closed }
 
-stated_lines-is : (gaps : Gaps) (closed : Bool) (names : List (List ℕ)) (f : FunctionData) (instrs : List StatedInstr) (block : BlockData)
+pub stated_lines-is : (gaps : Gaps) (closed : Bool) (names : List (List ℕ)) (f : FunctionData) (instrs : List StatedInstr) (block : BlockData)
     → IsStated names f instrs block → stated_lines gaps closed (name_at names f.name) block.liveins instrs ≡ documents_lines (stated_layout gaps closed) names (f ∷ [])
 stated_lines-is gaps closed names f instrs block stated =
     let layout = stated_layout gaps closed in

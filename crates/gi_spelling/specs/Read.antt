@@ -1,6 +1,6 @@
 -- What reading a text answers: the module that it spells, with the lines, ids and next numbers that reading gives; or
 -- the first line that spells nothing.
-use Rattle.std.specs.Prelude.{◌≡◌, ⊤, ℕ, List, Option, Some, None, map, option_map}
+use Rattle.std.specs.Prelude.{◌≡◌, ◌<◌, ⊤, ℕ, List, length, Option, Some, None, map, option_map}
 use Rattle.std.specs.List.{AllZip}
 use Rattle.gi_text.specs.declared.token.TextError.{TextError}
 use Rattle.gi_text.specs.declared.token.TextError.TheVariants as error
@@ -14,6 +14,7 @@ use Rattle.gi_spelling.specs.Documents.{Document, entries_of, read_document, fun
 use Rattle.gi_spelling.specs.Named.{IsNamedFunction}
 
 pub record IsReadAs (text : List ℕ) (names : List (List ℕ)) (document : Document) (f : FunctionData) : Type 0 where
+  pub within : f.name < length names
   pub name : name_at names f.name ≡ document.name
   pub same : IsNamedFunction text names (function_of text document) f
 

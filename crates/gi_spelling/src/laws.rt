@@ -2,14 +2,14 @@
 
 ghost use Rattle.std.specs.Prelude.{◌≡◌, List, ℕ, Ok};
 ghost use Rattle.gi_spelling.specs.Reading.{read_instr};
-ghost use Rattle.gi_spelling.specs.Spelling.{AreWritten};
+ghost use Rattle.gi_spelling.specs.Spelling.{AreWritten, Spells};
 ghost use Rattle.gi_spelling.specs.Written.{WrittenData};
 ghost use Rattle.gi_spelling.specs.declared.token.Item.{Item};
 ghost use Rattle.gi_spelling.specs.AddExample.{generic_module, selected_module, stated_text, selected_text};
 ghost use Rattle.gi_mir.specs.Data.{ModuleData};
 ghost use Rattle.gi_spelling.specs.Printable.{IsPrintableModule};
 ghost use Rattle.gi_spelling.specs.Printed.{printed};
-ghost use Rattle.gi_spelling.specs.Plain.{Spells};
+ghost use Rattle.gi_spelling.specs.Plain.{Spells as SpellsPlainly};
 ghost use Rattle.gi_spelling.specs.Stated.{IsStatedText};
 
 /// What is read of a line is what its tokens spell.
@@ -24,7 +24,7 @@ pub fn written_lines_are_read()
 
 /// The printed text of a module spells that module.
 pub fn printed_text_spells()
-    ensures { (m : ModuleData) → IsPrintableModule m → Spells (printed m) m }
+    ensures { (m : ModuleData) → IsPrintableModule m → SpellsPlainly (printed m) m }
 {}
 
 /// A text as the program takes it so far spells its module.
@@ -34,6 +34,6 @@ pub fn stated_text_spells()
 
 /// The texts of an example, before and after the selection of instructions, spell its two modules.
 pub fn example_texts_spell()
-    ensures stated { Spells stated_text generic_module }
-    ensures chosen { Spells selected_text selected_module }
+    ensures stated { SpellsPlainly stated_text generic_module }
+    ensures chosen { SpellsPlainly selected_text selected_module }
 {}

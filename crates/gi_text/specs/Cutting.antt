@@ -1,7 +1,9 @@
 -- The tokens of a line as slices of the text that it stands in, or what is wrong at the leftmost place
 -- where something is.
-use Rattle.std.specs.Prelude.{◌≡◌, ℕ, zero, suc, ◌+◌, ◌-◌, ◌<◌, ◌≤◌, false, List, [], ◌∷◌, ◌++◌, length, take, drop, Result, Ok, Err, if◌then◌else◌, ⊤}
+use Rattle.std.specs.Prelude.{◌≡◌, ℕ, zero, suc, ◌+◌, ◌-◌, ◌<◌, ◌≤◌, true, false, is_err, List, [], ◌∷◌, ◌++◌, length, take, drop, Result, Ok, Err, if◌then◌else◌, ⊤}
 use Rattle.gi_llt.specs.Tokens.{LexemeKind, Lexeme, lexeme, start_of, Found, FoundBlank, FoundComment, FoundToken, FoundNothing, found}
+use Rattle.gi_text.specs.declared.token.NextToken.{NextToken}
+use Rattle.gi_text.specs.declared.token.NextToken.TheVariants as next
 use Rattle.gi_text.specs.declared.token.Token.{Token}
 use Rattle.gi_text.specs.declared.token.Place.{Place}
 use Rattle.gi_text.specs.declared.token.LineError.{LineError}
@@ -79,3 +81,19 @@ pub record IsSlice (bytes : List ℕ) (token : Token) : Type 0 where
 -- the token is no number whose size 128 bits don't hold
 pub record IsSized (bytes : List ℕ) (token : Token) : Type 0 where
   pub sized : is_too_great (lexeme_kind token.kind) (slice token.start token.end bytes) ≡ false
+
+-- the tokens of the bytes from a place on
+abbrev pub cut_past_place : List ℕ → (place : ℕ) → Cut
+cut_past_place bytes place = cut_line place (drop place bytes)
+
+-- what comes next is the first token of a cut, or its end, or nothing where the cut has a fault
+abbrev pub IsNext : (bytes : List ℕ) → Cut → NextToken → Type 0
+IsNext bytes cut (next.Found token) = cut ≡ behind (token ∷ []) (cut_past_place bytes token.end)
+IsNext bytes cut next.End = cut ≡ Ok []
+IsNext bytes cut next.Wrong = is_err cut ≡ true
+
+-- a token that is found is a slice of the text
+abbrev pub IsSliceFound : (bytes : List ℕ) → NextToken → Type 0
+IsSliceFound bytes (next.Found token) = IsSlice bytes token
+IsSliceFound bytes next.End = ⊤
+IsSliceFound bytes next.Wrong = ⊤

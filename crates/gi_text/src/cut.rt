@@ -1,12 +1,13 @@
 //! The tokens of a line.
 
 ghost use Rattle.std.specs.Prelude.{◌≡◌, ◌+◌, ◌-◌, ◌<◌, ◌≤◌, ◌^◌, [], ◌∷◌, ◌++◌, Ok, length, take, drop, All, IfOk, IfErr, OnOk};
-ghost use Rattle.gi_text.specs.Cutting.{IsFaultOf, IsSized, IsSlice, cut_of, slice, told_place};
+ghost use Rattle.gi_text.specs.Cutting.{IsFaultOf, IsNext, IsSized, IsSlice, IsSliceFound, cut_of, cut_past_place, slice, told_place};
+ghost use Rattle.gi_text.specs.Steps.{step_at};
 ghost use Rattle.gi_text.specs.declared.token.LineError.TheVariants.{Memory};
 
 use crate::numbers::is_too_great;
 use crate::step::{Step, next_step};
-use crate::token::{LineError, Place, Token};
+use crate::token::{LineError, NextToken, Place, Token, TokenKind};
 use std::alloc::Global;
 
 /// The bytes from a place up to another.
@@ -98,6 +99,43 @@ pub fn tokens(
                 place += count;
             }
             Step::Nothing => return Err(LineError::BadToken(told_place(line, start, place))),
+        }
+    }
+}
+
+/// The token that begins at a place, with so many bytes after its first, unless it is a number that is too
+/// great.
+fn found_token(bytes: &[u8], place: usize, kind: TokenKind, more: usize) -> NextToken
+    requires within { place + more < length bytes.now }
+    requires step { Step.Token kind more ≡ step_at (drop place bytes.now) }
+    ensures next { IsNext bytes.now (cut_past_place bytes.now place) result }
+    ensures slice { IsSliceFound bytes.now result }
+{
+    let end = place + more + 1;
+    if is_too_great(kind, slice(bytes, place, end)) {
+        NextToken::Wrong
+    } else {
+        NextToken::Found(Token {
+            kind,
+            start: place,
+            end,
+        })
+    }
+}
+
+/// What comes next in a line from a place on.
+pub fn next_token(bytes: &[u8], place: usize) -> NextToken
+    requires { place ≤ length bytes.now }
+    ensures next { IsNext bytes.now (cut_past_place bytes.now place) result }
+    ensures slice { IsSliceFound bytes.now result }
+{
+    let mut start = place;
+    loop {
+        match next_step(after(bytes, start)) {
+            Step::Blank => start += 1,
+            Step::End => return NextToken::End,
+            Step::Token(kind, more) => return found_token(bytes, start, kind, more),
+            Step::Nothing => return NextToken::Wrong,
         }
     }
 }

@@ -11,9 +11,9 @@ mod token;
 
 pub use bytes::{digit_length, is_digit, is_word_byte, word_length};
 pub use cursor::Cursor;
-pub use cut::tokens;
+pub use cut::{next_token, tokens};
 pub use numbers::{digit_value, number};
-pub use token::{LineError, Number, Place, SizeError, TextError, Token, TokenKind};
+pub use token::{LineError, NextToken, Number, Place, SizeError, TextError, Token, TokenKind};
 
 #[cfg(test)]
 mod tests;

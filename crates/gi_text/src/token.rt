@@ -22,6 +22,16 @@ pub struct Token {
     pub end: usize,
 }
 
+/// What comes next in a line.
+#[derive(Clone, Copy, Debug, PartialEq, Eq)]
+pub enum NextToken {
+    Found(Token),
+    /// No token is left.
+    End,
+    /// A byte begins no token, or a number is too great.
+    Wrong,
+}
+
 /// A place in a text: a line, and a byte of the line, counted from 1.
 #[derive(Clone, Copy, Debug, PartialEq, Eq)]
 pub struct Place {

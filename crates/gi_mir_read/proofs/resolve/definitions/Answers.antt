@@ -1,5 +1,5 @@
-use Rattle.std.proofs.Common.{◌≡◌, Some, ap, sym, ◌∙◌, arith}
-use Rattle.gi_spelling.specs.Resolved.{each, resolved_definition}
+use Rattle.std.proofs.Common.{Some, ap, sym, ◌∙◌, arith}
+use Rattle.gi_spelling.specs.Resolved.{resolved_definition}
 use Rattle.gi_mir_read.proofs.EachLemmas.{each-more, each-none}
 use Rattle.gi_mir_read.proofs.resolve.definitions.Goals as goal
 

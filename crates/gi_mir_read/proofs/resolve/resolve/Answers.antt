@@ -1,4 +1,4 @@
-use Rattle.std.proofs.Common.{◌≡◌, Some, None, sym, ap, ◌∙◌, subst}
+use Rattle.std.proofs.Common.{sym, ap, ◌∙◌, subst}
 use Rattle.gi_mir.specs.Data.{InstrData}
 use Rattle.gi_spelling.specs.Resolved.{each, resolved, resolved_definition, resolved_source}
 use Rattle.gi_spelling.specs.Written.{WrittenData}

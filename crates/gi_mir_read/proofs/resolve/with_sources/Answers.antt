@@ -1,4 +1,4 @@
-use Rattle.std.proofs.Common.{◌≡◌, None, sym, ◌∙◌, arith}
+use Rattle.std.proofs.Common.{arith}
 use Rattle.gi_spelling.specs.Resolved.{resolved_source}
 use Rattle.gi_spelling.proofs.NamedLemmas.{extends_more}
 use Rattle.gi_mir_read.proofs.EachLemmas.{each-none, meant-more}

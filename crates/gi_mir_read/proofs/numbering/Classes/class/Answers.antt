@@ -1,4 +1,4 @@
-use Rattle.std.proofs.Common.{◌∙◌, sym, ap}
+use Rattle.std.proofs.Common.{◌∙◌, ap}
 use Rattle.gi_mir.specs.Data.{reg_of}
 use Rattle.gi_spelling.specs.Resolved.{class_in}
 use Rattle.gi_mir_read.proofs.FirstLemmas.{class-lookup}

@@ -1,4 +1,4 @@
-use Rattle.std.proofs.Common.{◌≡◌, ◌++◌, ◌∷◌, [], length, ◌∙◌, sym, ap}
+use Rattle.std.proofs.Common.{length, ◌∙◌, sym, ap}
 use Rattle.std.specs.Prelude.{nat_eq, position}
 use Rattle.gi_spelling.specs.Words.{or_else}
 use Rattle.gi_mir_read.specs.Numbered.{last_of}
