@@ -8,7 +8,7 @@ ghost use Rattle.gi_mir_read.specs.Noted.{has_kind, with_kind, with_lowest, with
 use crate::list::push;
 use crate::wrongs::Lowest;
 use gi_llt::{Llt, Memory};
-use gi_mir::accepted::same_type;
+use gi_mir::types::same_type;
 use gi_mir::operand::{Kind, Operand, Reg};
 use gi_spelling::written::{Fault, Shown, Source};
 use indexmap::IndexMap;
