@@ -2,6 +2,7 @@ pub mod AddRuns
 pub mod Answers
 pub mod Body
 pub mod Built
+pub mod Checks
 pub mod Digits
 pub mod Header
 pub mod Keys
@@ -21,4 +22,3 @@ pub mod Standing
 pub mod Statement
 pub mod Stop
 pub mod Text
-pub mod Words

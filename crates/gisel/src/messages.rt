@@ -6,6 +6,13 @@ ghost use Rattle.gisel.specs.Messages.{at_line, not_built, property};
 use gi_llt::Memory;
 use std::alloc::Global;
 
+/// Why there is no text: what is said of an input that is refused, or no memory.
+#[derive(Drop)]
+pub enum Refused {
+    Message(Vec<u8>),
+    Memory,
+}
+
 /// A line spells nothing.
 pub fn syntax(alloc: Global, line: u32) -> Result<Vec<u8>, Memory>
     ensures { IfOk result (λ message. message.items ≡ at_line line (codes "syntax")) }
@@ -18,10 +25,14 @@ pub fn syntax(alloc: Global, line: u32) -> Result<Vec<u8>, Memory>
 pub fn unknown(alloc: Global, line: u32, name: &[u8]) -> Result<Vec<u8>, Memory>
     ensures { IfOk result (λ message. message.items ≡ at_line line (codes "unknown " ++ name.now)) }
 {
-    let text = format!(in alloc; "gisel: line {line}: unknown ").map_err(|_| Memory)?;
+    let Ok(text) = format!(in alloc; "gisel: line {line}: unknown ") else {
+        return Err(Memory);
+    };
     let mut message = text.into_bytes();
-    message.extend_from_slice(name).map_err(|_| Memory)?;
-    Ok(message)
+    match message.extend_from_slice(name) {
+        Ok(()) => Ok(message),
+        Err(_) => Err(Memory),
+    }
 }
 
 /// A key of a function isn't as the start asks.
