@@ -47,7 +47,7 @@ mod what;
 mod word;
 mod wrongs;
 
-pub use read::read_mir;
+pub use read::{ir_number, read_mir};
 pub use triples::triple;
 
 #[cfg(test)]

@@ -1,4 +1,4 @@
-use Rattle.std.proofs.Common.{◌≡◌, ◌≢◌, List, ℕ, Option, map, ap, sym, subst, ◌∙◌, arith}
+use Rattle.std.proofs.Common.{◌≡◌, ◌≢◌, List, ℕ, Option, map, refl, ap, sym, subst, ◌∙◌, arith}
 use Rattle.std.specs.Prelude.{Ok, string_bytes, codes}
 use Rattle.gisel.specs.Stop.{Says, IsCause}
 use Rattle.gisel.specs.Answers.{input_in}
@@ -14,11 +14,11 @@ returns-in-Err-text_for-clause-refused g c = λ one tells.
 
 pub returns-in-Err-text_for-clause-usage : goal.returns-in-Err-text_for-clause-usage
 returns-in-Err-text_for-clause-usage g c = λ two.
-    says_no_usage c.in-Ok.options _ c.in-Err-text_for.why c.end_with-in-Err-text_for.result _ c.in-Ok.ensures.ok (c.in-Err-text_for.ensures.usage (Ok c.in-Ok.options) tt) c.end_with-in-Err-text_for.ensures.status two
+    says_no_usage c.in-Ok.options _ c.in-Err-text_for.why c.end_with-in-Err-text_for.result _ c.in-Ok.ensures.ok (c.in-Err-text_for.ensures.usage (Ok c.in-Ok.options) refl) c.end_with-in-Err-text_for.ensures.status two
 
 pub returns-in-Err-text_for-clause-read_fault_said : goal.returns-in-Err-text_for-clause-read_fault_said
 returns-in-Err-text_for-clause-read_fault_said g c = λ four tells.
     says_read_fault c.in-Ok.options c.in-Err-text_for.why c.end_with-in-Err-text_for.result
     (λ message. Says message (g.E.Output.faults c.args.err.now) (g.E.Output.faults c.end_with-in-Err-text_for.new.err) (g.E.Output.held c.args.err.now) (g.E.Output.held c.end_with-in-Err-text_for.new.err))
-    (c.in-Err-text_for.ensures.usage (Ok c.in-Ok.options) tt) c.end_with-in-Err-text_for.ensures.status four
+    (c.in-Err-text_for.ensures.usage (Ok c.in-Ok.options) refl) c.end_with-in-Err-text_for.ensures.status four
     (c.end_with-in-Err-text_for.ensures.said (λ three. (let bad : 4 ≡ 3 = sym four ∙ three in omega (arith, bad))) tells)
