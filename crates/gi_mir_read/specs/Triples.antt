@@ -1,12 +1,13 @@
 -- The target triple of an IR block: the first line whose tokens are `target`, `triple`, `=` and a quoted one. (The bytes
 -- of a token tell its kind.)
-use Rattle.std.specs.Prelude.{◌≡◌, ℕ, suc, Bool, true, false, bytes_eq, codes, List, [], ◌∷◌, Option, Some, None, Ok, Err, length, if◌then◌else◌}
+use Rattle.std.specs.Prelude.{◌≡◌, ℕ, suc, Bool, true, false, bytes_eq, codes, List, [], ◌∷◌, Option, Some, None, Ok, Err, length, slice_get, if◌then◌else◌}
 use Rattle.std.specs.Option.{option_map_or}
 use Rattle.gi_text.specs.declared.token.Token.{Token}
 use Rattle.gi_text.specs.declared.token.TokenKind.{TokenKind}
 use Rattle.gi_text.specs.declared.token.TokenKind.TheVariants as kind
 use Rattle.gi_text.specs.Cutting.{Cut, cut_of, cut_past_place, slice}
 use Rattle.gi_mir.specs.Data.{ModuleData}
+use Rattle.gi_spelling.specs.Lines.{Line, parts_of_text}
 
 abbrev pub is_spelled : (line spelling : List ℕ) → Token → Bool
 is_spelled line spelling token = bytes_eq (slice token.start token.end line) spelling
@@ -61,3 +62,11 @@ triple_from place (line ∷ lines) = placed_or place (triple_in line) (triple_fr
 
 abbrev pub triple_of : ModuleData → Option (ℕ × Token)
 triple_of m = option_map_or (triple_from 0) m.ir None
+
+-- the number of a line of the IR block
+abbrev pub number_at : Option (List Line) → (place : ℕ) → ℕ
+number_at None place = 0
+number_at (Some lines) place = option_map_or (λ line. line.number) (slice_get lines place) 0
+
+abbrev pub ir_number : (text : List ℕ) (place : ℕ) → ℕ
+ir_number text place = number_at (parts_of_text text).ir place

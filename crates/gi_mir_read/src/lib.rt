@@ -48,7 +48,7 @@ mod what;
 mod word;
 mod wrongs;
 
-pub use read::read_mir;
+pub use read::{ir_number, read_mir};
 pub use sizes::check_sizes;
 pub use triples::triple;
 

@@ -1,6 +1,6 @@
 //! The module that a text spells.
 
-ghost use Rattle.std.specs.Prelude.{◌≡◌, ◌-◌, ◌<◌, ◌^◌, [], ◌∷◌, ◌++◌, None, All, IfErr, IfOk, IfSome, OnOk, filter, length, map, option_map, string_bytes};
+ghost use Rattle.std.specs.Prelude.{ℕ, List, ◌≡◌, ◌-◌, ◌<◌, ◌^◌, [], ◌∷◌, ◌++◌, None, All, IfErr, IfOk, IfSome, OnOk, filter, length, map, option_map, string_bytes};
 ghost use Rattle.std.specs.List.{AllZip};
 ghost use Rattle.gi_spelling.specs.Documents.{document_wrongs, first_wrong, ir_wrongs, line_wrongs, lowest, wrong_in};
 ghost use Rattle.gi_spelling.specs.Lines.{is_stray, parts_of_text};
@@ -9,6 +9,7 @@ ghost use Rattle.gi_spelling.specs.Read.{IsReadFunction, IsReadModule, IsRefusal
 ghost use Rattle.gi_mir_read.specs.Parted.{IsPartsOf, block_at};
 ghost use Rattle.gi_mir_read.specs.Placed.{IsLineIn, lines_at};
 ghost use Rattle.gi_mir_read.specs.Sectioned.{sections_in};
+ghost use Rattle.gi_mir_read.specs.Triples.{ir_number, number_at};
 ghost use Rattle.gi_mir_read.specs.declared.sections.Mark.TheVariants.{Document};
 
 use crate::document::document;
@@ -19,6 +20,7 @@ use crate::parts::{Parts, parts_of};
 use crate::refusal::settle;
 use crate::sections::Mark;
 use crate::wrongs::Lowest;
+use gi_llt::Memory;
 use gi_mir::function::Function;
 use gi_mir::module::Module;
 use gi_mir::names::Names;
@@ -118,6 +120,30 @@ pub fn read_mir(alloc: Global, text: &[u8]) -> Result<Module, TextError>
     match lines(alloc, text) {
         Ok(lines) => module(alloc, text, parts_of(text, lines.as_slice())),
         Err(_) => Err(TextError::Memory),
+    }
+}
+
+/// The number of the line at a place of an IR block.
+fn number_at(block: Option<&[Line]>, place: usize) -> u32
+    ensures { (text : List ℕ) → result ≡ number_at (option_map (block_at text) block.entry) place }
+{
+    match block {
+        Some(lines) => match lines.get(place) {
+            Some(line) => line.number,
+            None => 0,
+        },
+        None => 0,
+    }
+}
+
+/// The number of a line of the IR block, by its place in the block.
+pub fn ir_number(alloc: Global, text: &[u8], place: usize) -> Result<u32, Memory>
+    requires { length text.now < 2 ^ 32 - 1 }
+    ensures { IfOk result (λ number. number ≡ ir_number text.now place) }
+{
+    match lines(alloc, text) {
+        Ok(lines) => Ok(number_at(parts_of(text, lines.as_slice()).ir, place)),
+        Err(_) => Err(Memory),
     }
 }
 

@@ -18,9 +18,9 @@ use gi_mir::instr::Instr;
 use gi_mir::module::Module;
 use gi_mir::opcode::Opcode;
 use gi_mir::operand::{Kind, MemOp, Operand, Reg, StackObject};
-use gi_text::SizeError;
 use gi_mir::row::Form;
 use gi_mir::types::{is_any, is_pointer, is_register, scalar_bits};
+use gi_text::SizeError;
 
 /// A fault of a line: its line, its place among the kinds of faults, and what is told.
 #[derive(Clone, Copy, Debug, PartialEq, Eq)]
@@ -261,8 +261,8 @@ fn with_memory(
 {
     match memory {
         Some(memory) => {
-            let is_right =
-                is_any(target.xlen, memory.ty) && is_memory_type(target, instr.op, memory.ty);
+            let is_right = is_any(target.xlen, memory.ty)
+                && is_memory_type(target, instr.op, memory.ty);
             let lowest = with_width(lowest, is_right, instr.line, width(memory.ty, target));
             with_limit(lowest, instr.line, 8, 4096, memory.align)
         }
@@ -286,13 +286,7 @@ fn kind_in_operand(operand: Operand, reg: Reg) -> Option<Kind>
     ensures { result ≡ kind_in_operand reg.0 operand }
 {
     match operand {
-        Operand::Def(defined, kind) => {
-            if defined.0 == reg.0 {
-                Some(kind)
-            } else {
-                None
-            }
-        }
+        Operand::Def(defined, kind) => { if defined.0 == reg.0 { Some(kind) } else { None } }
         _ => None,
     }
 }
@@ -530,7 +524,13 @@ fn with_count(lowest: Option<Fault>, line: u32, before: u32, count: usize) -> Op
     ensures { result ≡ lowest_after lowest (count_faults line before count) }
 {
     if before <= 262_144 {
-        with_limit(lowest, line, 1, 262_144, u64::from(count_after(before, count)))
+        with_limit(
+            lowest,
+            line,
+            1,
+            262_144,
+            u64::from(count_after(before, count)),
+        )
     } else {
         lowest
     }
@@ -605,7 +605,13 @@ fn with_numbers(lowest: Option<Fault>, before: u32, instr: &Instr) -> Option<Fau
     requires { before ≤ 262145 }
     ensures { result ≡ lowest_after lowest (numbers_faults before instr.now) }
 {
-    with_numbers_of(lowest, before, instr.line, instr.op, instr.operands.as_slice())
+    with_numbers_of(
+        lowest,
+        before,
+        instr.line,
+        instr.op,
+        instr.operands.as_slice(),
+    )
 }
 
 /// The lowest, where an instruction may have a fault, with so many operands before it in its function.

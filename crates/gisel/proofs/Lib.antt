@@ -1,4 +1,5 @@
 pub mod AddRuns
+pub mod AnswerLemmas
 pub mod BodyLemmas
 pub mod BuildLemmas
 pub mod ChosenLemmas
@@ -11,6 +12,7 @@ pub mod InstrLemmas
 pub mod LineLemmas
 pub mod LinesLemmas
 pub mod MachineSums
+pub mod MessageLemmas
 pub mod NormalForms
 pub mod OptionLemmas
 pub mod ReadLemmas

@@ -1,14 +1,18 @@
 //! GlobalISel for RISC-V: reads Machine IR, runs passes over it and prints it.
 #![tactic(auto)]
 
+mod answer;
 mod body;
 mod build;
+mod checks;
 mod compile;
 mod example;
 mod header;
+mod keys;
 mod laws;
 mod line;
 mod lines;
+mod messages;
 mod normal_form;
 mod options;
 mod read;
@@ -18,7 +22,6 @@ mod standing;
 mod statement;
 mod stop;
 mod top;
-mod words;
 
 use gi_io::{StdInput, StdOutput};
 pub use laws::{refused_line_is_one, stated_text_is_one};

@@ -8,5 +8,5 @@ pub returns : goal.returns
 returns c =
     let operands = c.args.operands.now in
     let three = lowest_of_three c.args.lowest (count_faults c.args.line c.args.before (length operands)) (flat_map (register_faults c.args.line) operands)
-        (above c.args.line 5 16 (parts_of c.args.op operands)) in
+    (above c.args.line 5 16 (parts_of c.args.op operands)) in
     rw (c.with_limit.ensures, c.with_registers-in_registers.ensures, c.with_count-in_count.ensures, c.parts_of.ensures) (sym three)
