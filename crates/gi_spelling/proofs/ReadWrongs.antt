@@ -1,7 +1,7 @@
 -- What holds of the entries of a document in which nothing is wrong.
-use Rattle.std.proofs.Common.{◌≡◌, ℕ, suc, Bool, true, false, List, [], ◌∷◌, ◌++◌, length, Option, Some, None, Result, Ok, Err, map, refl, sym, ap, ◌∙◌, subst, inl, inr}
-use Rattle.std.specs.Prelude.{◌⊎◌, ◌&&◌, ◌||◌, not, filter, filter_map, flat_map, find, fold, option_map, bytes_eq, nat_lt, ◌==◌, is_some, codes, min, if◌then◌else◌}
-use Rattle.std.specs.List.{list_all, list_any, AllZip}
+use Rattle.std.proofs.Common.{◌≡◌, ℕ, suc, Bool, true, false, List, [], ◌∷◌, ◌++◌, length, Option, Some, None, Ok, Err, map, refl, sym, ap, ◌∙◌, subst, inl, inr}
+use Rattle.std.specs.Prelude.{◌&&◌, ◌||◌, not, filter, find, fold, option_map, bytes_eq, nat_lt, ◌==◌, is_some, codes, min, if◌then◌else◌}
+use Rattle.std.specs.List.{list_all, list_any}
 use Rattle.std.specs.Option.{option_map_or}
 use Rattle.std.specs.Cmp.Derive.{both_true}
 use Rattle.std.proofs.lemmas.Bool.{and_parts, or_right, eqb-true}
@@ -21,12 +21,12 @@ use Rattle.gi_spelling.specs.declared.written.Wrong.{Wrong}
 use Rattle.gi_mir.specs.declared.operand.StackObject.{StackObject}
 use Rattle.gi_spelling.specs.Items.{what_in, value_items, items_of_line}
 use Rattle.gi_spelling.specs.Lines.{Line, Section, is_entry, is_entry_of, key_of}
-use Rattle.gi_spelling.specs.Reading.{Read, then_read}
+use Rattle.gi_spelling.specs.Reading.{Read}
 use Rattle.gi_spelling.specs.declared.written.Entry.{Entry}
 use Rattle.gi_spelling.specs.Entries.{is_at_end, has_all, whole_entry, steps, entry, no_fields, read_entry}
 use Rattle.gi_spelling.specs.Blocks.{wrong}
-use Rattle.gi_spelling.specs.Documents.{is_name, name_value, true_by, is_true, truth_word, truth_by, truth_fault, square_by, list_value, bar_by, is_bar, read_line_entry, line_entry, fields_wrong, register_wrongs, register_by, registers_in, Group, object_by, object_at, objects_from, object_wrong, object_wrongs, read_group_items, onto_there, known_keys, under_wrongs, fault_then, list_wrongs, key_wrongs, is_again, entry_wrongs, entries_wrongs, entry_of, is_key_true, under_list, list_under, body_lines, is_missing, line_wrongs, lower, lowest, first_wrong}
-use Rattle.gi_spelling.specs.Spelling.{word_what, entries_with, value_whats, SpellsTruth, Lists, SpellsName, SpellsBody}
+use Rattle.gi_spelling.specs.Documents.{is_name, name_value, is_true, truth_by, truth_fault, square_by, list_value, bar_by, is_bar, read_line_entry, line_entry, fields_wrong, register_wrongs, register_by, registers_in, Group, object_at, objects_from, object_wrong, object_wrongs, onto_there, known_keys, under_wrongs, fault_then, list_wrongs, key_wrongs, is_again, entry_wrongs, entries_wrongs, entry_of, is_key_true, list_under, body_lines, is_missing, lower, lowest, first_wrong}
+use Rattle.gi_spelling.specs.Spelling.{word_what, entries_with, SpellsTruth, Lists, SpellsName, SpellsBody}
 use Rattle.gi_spelling.proofs.TokenLists.{then_ok}
 
 -- ══ Nothing is wrong ══
@@ -92,7 +92,7 @@ any_last : {X : Type 0} (p : X → Bool) (xs : List X) (x : X) → p x ≡ true 
 any_last p [] x e = rw e refl
 any_last p (y ∷ ys) x e = or_right (p y) (list_any p (ys ++ (x ∷ []))) (any_last p ys x e)
 
-same_bytes : (xs ys : List ℕ) → bytes_eq xs ys ≡ true → xs ≡ ys
+pub same_bytes : (xs ys : List ℕ) → bytes_eq xs ys ≡ true → xs ≡ ys
 same_bytes [] [] e = refl
 same_bytes [] (y ∷ ys) e = absurd (cc)
 same_bytes (x ∷ xs) [] e = absurd (cc)
@@ -288,7 +288,7 @@ each_object place (group ∷ groups) e =
 
 -- ══ The name and the body ══
 
-any_filtered : {X : Type 0} (p : X → Bool) (xs : List X) → filter p xs ≡ [] → list_any p xs ≡ false
+pub any_filtered : {X : Type 0} (p : X → Bool) (xs : List X) → filter p xs ≡ [] → list_any p xs ≡ false
 any_filtered p [] e = refl
 any_filtered p (x ∷ xs) e = chosen (p x) e (any_filtered p xs)
   where
