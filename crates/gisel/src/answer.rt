@@ -93,12 +93,7 @@ fn passed(
 }
 
 /// The module of a text, and the width of its target's registers.
-fn checked(
-    alloc: Global,
-    options: &Options<'_>,
-    start: Pass,
-    text: &[u8],
-) -> Result<u16, Refused>
+fn checked(alloc: Global, options: &Options<'_>, start: Pass, text: &[u8]) -> Result<u16, Refused>
     requires within { length text.now ≤ limit }
     requires started { options.now.start ≡ Some start }
     ensures passes { IfOk result (IsChecked options.now text.now start) }

@@ -103,12 +103,7 @@ fn told_target(
 }
 
 /// The width of the registers of the target: what a word sets, or else what the IR block tells, or else 64.
-fn target(
-    alloc: Global,
-    word: Option<u16>,
-    text: &[u8],
-    m: &Module,
-) -> Result<u16, Refused>
+fn target(alloc: Global, word: Option<u16>, text: &[u8], m: &Module) -> Result<u16, Refused>
     requires { length text.now < 2 ^ 32 - 1 }
     ensures known { IfOk result (λ width. target_of word text.now m.now ≡ Ok width) }
     ensures refused { IfErr result (λ why. Tells why (λ message. target_of word text.now m.now ≡ Err message)) }

@@ -39,8 +39,7 @@ pub fn unknown(alloc: Global, line: u32, name: &[u8]) -> Result<Vec<u8>, Memory>
 pub fn property(alloc: Global, function: &str, key: &str) -> Result<Vec<u8>, Memory>
     ensures { IfOk result (λ message. message.items ≡ property function.now key.now) }
 {
-    let text =
-        format!(in alloc; "gisel: function {function}: property {key}").map_err(|_| Memory)?;
+    let text = format!(in alloc; "gisel: function {function}: property {key}").map_err(|_| Memory)?;
     Ok(text.into_bytes())
 }
 

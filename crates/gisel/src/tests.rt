@@ -122,7 +122,12 @@ fn refuses_words_and_texts(rt: HostRuntime) -> Result<(), Fail> {
             "gisel: function f: property regBankSelected\n",
         ),
         (&WORDS[1..], SUM, 1, "gisel: not built instruction-select\n"),
-        (&WORDS[..], difference, 1, "gisel: not built instruction-select\n"),
+        (
+            &WORDS[..],
+            difference,
+            1,
+            "gisel: not built instruction-select\n",
+        ),
         (
             &WORDS[..],
             "    %0:gprb(s32) = G_NONE %0\n",

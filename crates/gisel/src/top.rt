@@ -65,12 +65,7 @@ fn text_for<'a, I: Input>(
 }
 
 /// Writes a text to the output, and answers 0, or 5 after a fault.
-fn written<O: Output, E: Output>(
-    out: &mut O,
-    err: &mut E,
-    name: Option<&str>,
-    text: &[u8],
-) -> u8
+fn written<O: Output, E: Output>(out: &mut O, err: &mut E, name: Option<&str>, text: &[u8]) -> u8
     ensures place { result ≡ 0 → IsTrue (O.tells_place out.old) → option_copied name.entry ≡ O.place out.old }
     ensures status { (result ≡ 0) ⊎ (result ≡ 5) }
     ensures text { result ≡ 0 → IsTrue (O.tells out.old) → O.held out.new ≡ O.held out.old ++ text.now }
