@@ -23,7 +23,7 @@ mod statement;
 mod stop;
 mod top;
 
-use gi_io::{StdInput, StdOutput};
+use gi_io::{StdInput, StdOutput, write_all};
 pub use laws::{refused_line_is_one, stated_text_is_one};
 use std::process::ExitCode;
 use std::{env, io};
@@ -38,6 +38,20 @@ fn command_words(rt: &HostRuntime) -> io::Result<Vec<String>> {
     Ok(words)
 }
 
+/// What is told of the program where that is all that the words ask for.
+fn told(words: &[String]) -> Option<&'static str> {
+    match words {
+        [word] => match word.as_str() {
+            "--help" => Some(
+                "usage: gisel [-mtriple=T] [-mattr=+m] [-global-isel] [-start-after=P] [-stop-after=P] [-o FILE] [FILE]\n",
+            ),
+            "--version" => Some("gisel 0.1\n"),
+            _ => None,
+        },
+        _ => None,
+    }
+}
+
 fn main(rt: HostRuntime) -> ExitCode {
     let Ok(words) = command_words(&rt) else {
         return ExitCode::from(3);
@@ -45,6 +59,12 @@ fn main(rt: HostRuntime) -> ExitCode {
     let mut input = StdInput::new(&rt);
     let mut out = StdOutput::new(&rt, &rt);
     let mut err = StdOutput::new(&rt, rt.stderr());
+    if let Some(text) = told(words.as_slice()) {
+        return match write_all(&mut out, text.as_bytes()) {
+            Ok(()) => ExitCode::SUCCESS,
+            Err(_) => ExitCode::from(5),
+        };
+    }
     ExitCode::from(gisel(rt.alloc(), words.as_slice(), &mut input, &mut out, &mut err))
 }
 
