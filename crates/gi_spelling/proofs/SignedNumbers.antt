@@ -1,6 +1,6 @@
 -- A printed number is read as the number that it writes, and a printed constant as its bits.
-use Rattle.std.proofs.Common.{◌≡◌, ℕ, zero, suc, ◌+◌, ◌-◌, ◌*◌, ◌%◌, ◌^◌, ◌<◌, ◌≤◌, Bool, true, false, List, [], ◌∷◌, Option, Some, None, refl, sym, ap, ◌∙◌, subst, arith, lit<, pos, negsuc, neg_ℤ}
-use Rattle.std.specs.Prelude.{◌&&◌, not, ◌==◌, nat_lt, nat_le, min, decimal, ℤ, if◌then◌else◌}
+use Rattle.std.proofs.Common.{◌≡◌, ℕ, suc, ◌-◌, ◌*◌, ◌%◌, ◌^◌, ◌<◌, ◌≤◌, Bool, true, false, List, [], ◌∷◌, Some, refl, sym, ap, ◌∙◌, subst, arith, lit<, pos, negsuc}
+use Rattle.std.specs.Prelude.{◌&&◌, ◌==◌, nat_lt, nat_le, min, decimal}
 use Rattle.std.specs.Fmt.{signed_decimal}
 use Rattle.std.specs.List.{list_all}
 use Rattle.std.proofs.lemmas.Bool.{and_parts, and_right}
@@ -9,9 +9,7 @@ use Rattle.std.proofs.Math.Nat.{pow-suc, pow-le-pow_right, mod-eq_of_lt}
 use Rattle.gi_llt.specs.Bits.{signed}
 use Rattle.gi_llt.specs.Tokens.{is_digit, Number as OfNumber}
 use Rattle.gi_llt.proofs.Apart.{is_digits, decimal_digits}
-use Rattle.gi_text.specs.declared.token.Number.{Number as NumberData}
 use Rattle.gi_text.specs.Numbers.{value_after, size_spelled, is_negative, is_too_great}
-use Rattle.gi_mir.specs.declared.operand.Operand.{Operand}
 use Rattle.gi_mir.specs.declared.operand.Operand.TheVariants as operand
 use Rattle.gi_spelling.specs.Words.{number_written}
 use Rattle.gi_spelling.specs.Resolved.{is_in_width, constant_value, resolved_constant}

@@ -1,35 +1,25 @@
 -- The lines of a text as the program takes it so far spell its instructions.
-use Rattle.std.proofs.Common.{◌≡◌, ℕ, suc, ◌+◌, ◌-◌, ◌<◌, ◌≤◌, ◌^◌, Bool, true, false, List, [], ◌∷◌, ◌++◌, Option, Some, None, map, refl, sym, ap, ◌∙◌, subst, arith, inl, inr}
-use Rattle.std.specs.Prelude.{◌⊎◌, ◌||◌, ◌&&◌, ◌==◌, not, nat_lt, nat_le, nat_eq, min, decimal, codes, ℤ, pos, negsuc, ⊤, if◌then◌else◌}
+use Rattle.std.proofs.Common.{◌≡◌, ℕ, ◌<◌, true, List, [], ◌∷◌, None, refl}
+use Rattle.std.specs.Prelude.{nat_lt, decimal, ⊤}
 use Rattle.std.specs.Fmt.{signed_decimal}
-use Rattle.std.specs.List.{list_all, list_any, AllZip}
-use Rattle.std.specs.Cmp.Derive.{both_true}
-use Rattle.std.proofs.lemmas.Bool.{and_parts, or_cases, false≢true, eqb-true}
-use Rattle.std.proofs.lemmas.Bool.Decides.{nat_tests}
 use Rattle.gi_llt.specs.Bits.{signed}
 use Rattle.gi_llt.specs.Tokens.{lexeme, Physical, piece_lexemes}
-use Rattle.gi_llt.specs.declared.Llt.{Llt}
 use Rattle.gi_llt.specs.declared.Llt.TheVariants.{Scalar}
-use Rattle.gi_text.specs.declared.token.Number.{Number as NumberData}
 use Rattle.gi_mir.specs.declared.opcode.Opcode.TheVariants.{Copy, GenericConstant, GenericAdd, PseudoReturn}
 use Rattle.gi_mir.specs.declared.operand.Kind.{Kind}
-use Rattle.gi_mir.specs.Data.{InstrData, BlockData, FunctionData, ModuleData, reg_of, no_flags}
-use Rattle.gi_mir.specs.Formed.{is_formed}
-use Rattle.gi_mir.specs.Registers.{kind_of}
+use Rattle.gi_mir.specs.Data.{reg_of, no_flags}
 use Rattle.gi_mir.specs.Row.{opcode_of}
 use Rattle.gi_spelling.specs.declared.token.Word.TheVariants as word
-use Rattle.gi_spelling.specs.declared.token.What.{What}
 use Rattle.gi_spelling.specs.declared.token.What.TheVariants as what
 use Rattle.gi_spelling.specs.declared.written.Definition.TheVariants as definition
 use Rattle.gi_spelling.specs.declared.written.Source.TheVariants as source
 use Rattle.gi_spelling.specs.Words.{word_of, what_of, whats, number_written, is_plain_signed}
 use Rattle.gi_spelling.specs.Written.{WrittenData}
-use Rattle.gi_spelling.specs.Resolved.{Tables, is_in_width, constant_value, resolved}
 use Rattle.gi_spelling.specs.Spelling.{whats_of}
-use Rattle.gi_spelling.specs.Printed.{instr_pieces, instr_line}
-use Rattle.gi_spelling.specs.Stated.{StatedInstr, CopyIn, MakeConstant, AddUp, CopyOut, Return, stated_kind, stated_instr, is_among, is_argument, is_short, is_new}
-use Rattle.gi_spelling.proofs.PrintedTokens.{register_is, physical_is, reads_pieces}
-use Rattle.gi_spelling.proofs.StatedLines.{decimal_10, decimal_32}
+use Rattle.gi_spelling.specs.Printed.{instr_pieces}
+use Rattle.gi_spelling.specs.Stated.{StatedInstr, CopyIn, MakeConstant, AddUp, CopyOut, Return, stated_kind, stated_instr, is_short}
+use Rattle.gi_spelling.proofs.PrintedTokens.{register_is, physical_is}
+use Rattle.gi_spelling.proofs.StatedLines.{decimal_32}
 
 -- what each line writes
 abbrev pub number_of : (value : ℕ) → List ℕ

@@ -1,42 +1,37 @@
 -- A text as the program takes it so far spells its module.
-use Rattle.std.proofs.Common.{◌≡◌, ℕ, suc, ◌<◌, ◌^◌, Bool, true, false, List, [], ◌∷◌, Option, Some, None, map, refl, sym, ap, ◌∙◌, subst, arith, inl, inr}
-use Rattle.std.specs.Prelude.{◌⊎◌, ◌||◌, ◌&&◌, ◌==◌, not, nat_lt, nat_le}
+use Rattle.std.proofs.Common.{◌≡◌, ℕ, ◌<◌, ◌^◌, Bool, true, false, List, [], ◌∷◌, Some, map, refl, sym, ap, ◌∙◌, subst, arith, inl}
+use Rattle.std.specs.Prelude.{◌||◌, ◌&&◌, ◌==◌, not, nat_lt, nat_le}
 use Rattle.std.specs.Fmt.{signed_decimal}
 use Rattle.std.specs.List.{list_all, AllZip}
 use Rattle.std.specs.Cmp.Derive.{both_true}
-use Rattle.std.proofs.lemmas.Bool.{and_parts, or_cases, or_left, or_right, false≢true, eqb-true}
+use Rattle.std.proofs.lemmas.Bool.{and_parts, or_left, or_right, false≢true, eqb-true}
 use Rattle.std.proofs.lemmas.Bool.Decides.{nat_tests}
 use Rattle.gi_llt.specs.Bits.{signed}
 use Rattle.gi_llt.specs.Tokens.{piece_lexemes}
-use Rattle.gi_llt.specs.declared.Llt.{Llt}
-use Rattle.gi_llt.specs.declared.Llt.TheVariants.{Scalar}
 use Rattle.gi_mir.specs.declared.operand.Kind.{Kind}
 use Rattle.gi_mir.specs.Data.{InstrData, BlockData, FunctionData, ModuleData}
 use Rattle.gi_mir.specs.Formed.{is_formed}
 use Rattle.gi_mir.specs.Registers.{kind_of, type_of_kind}
-use Rattle.gi_spelling.specs.declared.token.Item.{Item}
-use Rattle.gi_spelling.specs.Lines.{Line}
 use Rattle.gi_spelling.specs.Named.{IsNamedInstr}
 use Rattle.gi_spelling.specs.Blocks.{shown_types}
 use Rattle.gi_spelling.specs.Resolved.{Tables, block_place, resolved}
-use Rattle.gi_spelling.specs.Spelling.{whats_of, places_of, type_at, types_in, SpellsInstr, Spells}
-use Rattle.gi_spelling.specs.Printed.{name_at, instr_pieces, instr_line, instr_lines}
+use Rattle.gi_spelling.specs.Spelling.{whats_of, places_of, type_at, types_in, Spells}
+use Rattle.gi_spelling.specs.Printed.{instr_pieces, instr_line, instr_lines}
 use Rattle.gi_spelling.specs.Printable.{is_named_block, IsPrintable}
 use Rattle.gi_spelling.specs.Plain.{lines_of, is_start, sections_of}
 use Rattle.gi_spelling.specs.Stated.{StatedInstr, CopyIn, MakeConstant, AddUp, CopyOut, Return, stated_kind, stated_instr, is_among, is_argument, is_short, is_new, is_stated_after, defined_after, live_after, is_return, are_stated, are_arguments, IsStatedInstr, IsStated, IsStatedText}
 use Rattle.gi_spelling.proofs.TokenLists.{names_nothing}
 use Rattle.gi_spelling.proofs.WrittenParts.{quiet_places}
-use Rattle.gi_spelling.proofs.PlacedLines.{IsLine, is_sized, Reads}
+use Rattle.gi_spelling.proofs.PlacedLines.{is_sized, Reads}
 use Rattle.gi_spelling.proofs.KeptLines.{are_loud, keeps_all}
 use Rattle.gi_spelling.proofs.InstrPieces.{instr_apart}
 use Rattle.gi_spelling.proofs.PrintedTokens.{reads_pieces}
 use Rattle.gi_spelling.proofs.SignedNumbers.{WritesConstant, constant_written}
-use Rattle.gi_spelling.proofs.BlockSpells.{IsInstrLine, ListsFit, IsBlockOf, AreBlocksOf}
+use Rattle.gi_spelling.proofs.BlockSpells.{IsInstrLine, ListsFit, AreBlocksOf}
 use Rattle.gi_spelling.proofs.StatedLines.{defines, defines_any, kind_of-stated}
 use Rattle.gi_spelling.proofs.StatedSpells.{stated_written, is_small, stated_whats}
-use Rattle.gi_spelling.proofs.Documents.{Layout}
 use Rattle.gi_spelling.proofs.Texts.{sections_of-documents, stated_named, stated_printable, stated_layout, stated_lines-is}
-use Rattle.gi_spelling.proofs.TextSpells.{tables_for, IsFunctionOf, AreFunctionsOf, documents_lines, documents_of, text_spelled}
+use Rattle.gi_spelling.proofs.TextSpells.{tables_for, AreFunctionsOf, documents_lines, documents_of, text_spelled}
 
 -- ══ A line ══
 

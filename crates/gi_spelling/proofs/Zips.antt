@@ -1,6 +1,6 @@
 -- Lines that agree with bytes one by one, through filters, runs and sections.
-use Rattle.std.proofs.Common.{◌≡◌, ℕ, Bool, true, false, List, [], ◌∷◌, ◌++◌, length, refl, sym, ap, ◌∙◌, subst}
-use Rattle.std.specs.Prelude.{filter, if◌then◌else◌, ⊤}
+use Rattle.std.proofs.Common.{◌≡◌, ℕ, Bool, true, false, List, [], ◌∷◌}
+use Rattle.std.specs.Prelude.{filter, if◌then◌else◌}
 use Rattle.std.specs.List.{AllZip}
 use Rattle.gi_llt.specs.Tokens.{run_of, past_run}
 use Rattle.gi_spelling.specs.Lines.{Line, Section as LineSection, Sections as LineSections, with_head as head_line, with_line as next_line, sections_of as line_sections}

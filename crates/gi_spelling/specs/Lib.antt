@@ -4,6 +4,7 @@ pub mod Documents
 pub mod Entries
 pub mod Items
 pub mod Kept
+pub mod LineExample
 pub mod Lines
 pub mod Named
 pub mod Plain

@@ -11,7 +11,8 @@ use Rattle.gi_spelling.specs.Printed.{name_at, printed}
 use Rattle.gi_spelling.specs.Plain.{is_name, Spells}
 use Rattle.gi_spelling.specs.Stated.{StatedInstr, IsStated, IsStatedText}
 use Rattle.gi_mir.proofs.NumberingLaws.{number_in_apart}
-use Rattle.gi_spelling.proofs.Texts.{stated_printable, printed_spells, stated_spells}
+use Rattle.gi_spelling.proofs.Texts.{stated_printable, printed_spells}
+use Rattle.gi_spelling.proofs.StatedTexts.{stated_text_spelled}
 use Rattle.gi_meaning.proofs.Renaming.{runs_renamed}
 use Rattle.gi_refine.specs.Refinement.{IsRefinement}
 use Rattle.gi_refine.proofs.Refining.{refines_through}
@@ -164,7 +165,7 @@ compiled text written m s h made wrote =
     record {
       old = m;
       new = numbered_module s;
-      spells_old = stated_spells text m h;
+      spells_old = stated_text_spelled text m h;
       spells_new = subst (λ bytes. Spells bytes (numbered_module s)) (sym wrote) (printed_spells (numbered_module s) printable);
       refines = subst (λ names. AllZip (Refines 32 m.names names) m.functions (map numbered s.functions)) (sym made.names)
           (subst (λ fs. AllZip (Refines 32 m.names m.names) fs (map numbered s.functions)) (sym h.functions)

@@ -1,6 +1,8 @@
 pub mod AddRuns
+pub mod AnswerLemmas
 pub mod BodyLemmas
 pub mod BuildLemmas
+pub mod ChosenLemmas
 pub mod ClassedRuns
 pub mod CompileLaws
 pub mod DigitsLemmas
@@ -10,7 +12,9 @@ pub mod InstrLemmas
 pub mod LineLemmas
 pub mod LinesLemmas
 pub mod MachineSums
+pub mod MessageLemmas
 pub mod NormalForms
+pub mod OptionLemmas
 pub mod ReadLemmas
 pub mod RefusedLemmas
 pub mod SelectFits

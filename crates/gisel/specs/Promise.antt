@@ -3,7 +3,8 @@ use Rattle.std.specs.Prelude.{◌≡◌, ℕ, List, ◌++◌}
 use Rattle.std.specs.List.{AllZip}
 use Rattle.gi_mir.specs.Data.{FunctionData, ModuleData}
 use Rattle.gi_spelling.specs.Printed.{name_at}
-use Rattle.gi_spelling.specs.Plain.{Spells}
+use Rattle.gi_spelling.specs.Plain.{Spells as SpellsPlainly}
+use Rattle.gi_spelling.specs.Spelling.{Spells}
 use Rattle.gi_meaning.specs.State.{World, IsWorld, Outcome}
 use Rattle.gi_meaning.specs.Runs.{Runs, Allows}
 
@@ -19,7 +20,7 @@ pub record Compiles (x : ℕ) (read written : List ℕ) : Type 0 where
   pub old : ModuleData
   pub new : ModuleData
   pub spells_old : Spells read old
-  pub spells_new : Spells written new
+  pub spells_new : SpellsPlainly written new
   pub refines : AllZip (Refines x old.names new.names) old.functions new.functions
 
 -- what was held before, and then a text that keeps the promise

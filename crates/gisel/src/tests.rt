@@ -104,18 +104,37 @@ fn stops_at_faults(rt: HostRuntime) -> Result<(), Fail> {
 }
 
 #[test]
-fn refuses_words_and_lines(rt: HostRuntime) -> Result<(), Fail> {
+fn refuses_words_and_texts(rt: HostRuntime) -> Result<(), Fail> {
     let alloc = rt.alloc();
     let difference = "    %0:gprb(s32) = G_SUB %0, %0\n    PseudoRET implicit $x10\n";
     for (words, instructions, status, err) in [
         (
-            &WORDS[..1],
+            &["-mtriple=riscv16"][..],
             SUM,
             2u8,
-            "gisel: usage: -start-after=regbankselect\n",
+            "gisel: usage: -mtriple=riscv16\n",
         ),
-        (&WORDS[..], difference, 1, "gisel: line 9: not built\n"),
-        (&WORDS[..], "", 1, "gisel: line 8: not built\n"),
+        (&WORDS[..1], SUM, 1, "gisel: not built irtranslator\n"),
+        (
+            &["-start-after=legalizer"],
+            SUM,
+            1,
+            "gisel: function f: property regBankSelected\n",
+        ),
+        (&WORDS[1..], SUM, 1, "gisel: not built instruction-select\n"),
+        (
+            &WORDS[..],
+            difference,
+            1,
+            "gisel: not built instruction-select\n",
+        ),
+        (
+            &WORDS[..],
+            "    %0:gprb(s32) = G_NONE %0\n",
+            1,
+            "gisel: line 9: unknown G_NONE\n",
+        ),
+        (&WORDS[..], "    )\n", 1, "gisel: line 9: syntax\n"),
     ] {
         let answered = run(alloc, words, text_of(alloc, instructions)?, &[], &[])?;
         assert_eq!(rt; answered.status, status);
@@ -130,7 +149,7 @@ fn refuses_an_input_that_is_too_long(rt: HostRuntime) -> Result<(), Fail> {
     let alloc = rt.alloc();
     for (length, err) in [
         (8_388_609usize, "gisel: input: limit 8388608\n"),
-        (8_388_608, "gisel: line 1: not built\n"),
+        (8_388_608, "gisel: line 1: syntax\n"),
     ] {
         let answered = run(alloc, &WORDS, vec![in alloc; b'-'; length]?, &[], &[])?;
         assert_eq!(rt; answered.status, 1);
