@@ -4,11 +4,12 @@
 
 ghost use Rattle.std.specs.Prelude.{◌≡◌, ◌<◌, ◌≤◌, IfOk, vec_len};
 
-use gi_text::{LineError, tokens};
+use gi_mir_read::read_mir;
+use gi_text::{LineError, TextError, tokens};
 use std::alloc::{AllocError, Global};
 use std::io;
 
-/// The greatest line that is cut.
+/// The greatest line that is cut, and about the greatest text that is read.
 const GREATEST: usize = 8_388_608;
 
 /// What a line repeats: twelve tokens in 32 bytes.
@@ -47,6 +48,42 @@ fn cut(alloc: Global, size: usize) -> Result<String, AllocError>
     }
 }
 
+/// What stands before the instructions of a text.
+const HEAD: &str = "---\nname: f\nbody: |\n  bb.0:\n    liveins: $x10\n\n    %0:_(s32) = COPY $x10\n";
+
+/// A text of about so many bytes: a function with one block of sums, each of the two sums before it.
+fn text_of(alloc: Global, size: usize) -> Result<String, AllocError> {
+    let mut text = String::from_str(alloc, HEAD)?;
+    let mut number: u32 = 1;
+    while text.len() < size && number < 4_194_303 {
+        let last = number - 1;
+        let earlier = last / 2;
+        let line = format!(in alloc; "    %{number}:_(s32) = G_ADD %{last}, %{earlier}\n")?;
+        text.push_str(line.as_str())?;
+        number += 1;
+    }
+    Ok(text)
+}
+
+/// Reads a text of about so many bytes, and tells how many functions it has.
+fn read(alloc: Global, size: usize) -> Result<String, AllocError> {
+    let text = text_of(alloc, size)?;
+    let length = text.len();
+    if u32::MAX as usize <= length {
+        return format!(in alloc; "read {length} bytes: too long");
+    }
+    match read_mir(alloc, text.as_bytes()) {
+        Ok(m) => {
+            let count = m.functions.len();
+            format!(in alloc; "read {length} bytes {count} functions")
+        }
+        Err(TextError::Syntax { line } | TextError::Unknown { line, .. }) => {
+            format!(in alloc; "read {length} bytes: wrong line {line}")
+        }
+        Err(TextError::Memory) => Err(AllocError),
+    }
+}
+
 /// Does the work that a line asks for.
 fn work(alloc: Global, request: &str) -> Result<String, AllocError> {
     let Some((kind, size)) = request.split_once(' ') else {
@@ -55,10 +92,11 @@ fn work(alloc: Global, request: &str) -> Result<String, AllocError> {
     let Ok(size) = size.trim().parse::<usize>() else {
         return format!(in alloc; "no size in {request:?}");
     };
-    if kind != "tokens" {
-        return format!(in alloc; "no work in {request:?}");
+    match kind {
+        "tokens" => cut(alloc, size.min(GREATEST)),
+        "read" => read(alloc, size.min(GREATEST)),
+        _ => format!(in alloc; "no work in {request:?}"),
     }
-    cut(alloc, size.min(GREATEST))
 }
 
 fn main(rt: HostRuntime) -> io::Result<()> {

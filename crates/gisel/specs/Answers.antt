@@ -10,6 +10,8 @@ use Rattle.gi_spelling.specs.Plain.{lines_of}
 use Rattle.gi_spelling.specs.Read.{IsReadModule}
 use Rattle.gi_spelling.specs.declared.written.Wrong.{Wrong}
 use Rattle.gisel.specs.Checks.{check_of}
+use Rattle.gisel.specs.declared.machine.Machine.{Machine}
+use Rattle.gisel.specs.declared.machine.Machine.TheVariants.{Riscv32}
 use Rattle.gisel.specs.Messages.{message_of_wrong, not_built}
 use Rattle.gisel.specs.Options.{OptionsData, options_of}
 use Rattle.gisel.specs.Refused.{IsStatedLines}
@@ -28,26 +30,26 @@ abbrev pub input_of : (words : List (List ℕ)) → Option (List ℕ)
 input_of words = input_in (options_of words)
 
 -- the passes that are built: selection on RV32
-abbrev pub selects : (start stop : Pass) (width : ℕ) → Bool
-selects RegBankSelect Select width = width == 32
-selects start stop width = false
+abbrev pub selects : (start stop : Pass) → Machine → Bool
+selects RegBankSelect Select Riscv32 = true
+selects start stop machine = false
 
 -- ══ The text that is written ══
 
--- the input is read as a module that passes the checks, with this width of registers
-pub record IsChecked (options : OptionsData) (read : List ℕ) (start : Pass) (width : ℕ) : Type 0 where
+-- the input is read as a module that passes the checks, for this machine
+pub record IsChecked (options : OptionsData) (read : List ℕ) (start : Pass) (machine : Machine) : Type 0 where
   pub started : options.start ≡ Some start
   pub source : ModuleData
   pub reads : IsReadModule read source
-  pub right : check_of options.target start read source ≡ Ok width
+  pub right : check_of options.target start read source ≡ Ok machine
 
 -- the text for these options and this input
 pub record IsAnswer (options : OptionsData) (read written : List ℕ) : Type 0 where
   pub within : length read ≤ limit
   pub start : Pass
-  pub width : ℕ
-  pub passes : IsChecked options read start width
-  pub built : selects start options.stop width ≡ true
+  pub machine : Machine
+  pub passes : IsChecked options read start machine
+  pub built : selects start options.stop machine ≡ true
   pub text : IsText read written
 
 -- the text for these words and this input
@@ -90,7 +92,7 @@ pub record IsWrongText (options : OptionsData) (read message : List ℕ) : Type 
   pub started : options.start ≡ Some start
   pub line : IsWrongLine read message
 
--- its target is unknown, or a function hasn't the keys that the start asks for
+-- its target is unknown, a function hasn't the keys that the start asks for, or a size isn't handled
 pub record IsWrongModule (options : OptionsData) (read message : List ℕ) : Type 0 where
   pub start : Pass
   pub started : options.start ≡ Some start
@@ -106,9 +108,9 @@ first_of start stop = if place_of stop == place_of start then start else next_of
 
 pub record IsNotBuilt (options : OptionsData) (read message : List ℕ) : Type 0 where
   pub start : Pass
-  pub width : ℕ
-  pub passes : IsChecked options read start width
-  pub other : selects start options.stop width ≡ true → IsStatedLines (lines_of read) → ⊥
+  pub machine : Machine
+  pub passes : IsChecked options read start machine
+  pub other : selects start options.stop machine ≡ true → IsStatedLines (lines_of read) → ⊥
   pub says : message ≡ not_built (word_of (first_of start options.stop))
 
 abbrev pub IsRefusedText : (options : OptionsData) (read message : List ℕ) → Type 0

@@ -10,6 +10,7 @@ ghost use Rattle.gi_observe.specs.Passes.{word_of};
 
 use crate::checks::{check, slice};
 use crate::compile::compile;
+use crate::machine::Machine;
 use crate::messages::{Refused, not_built, syntax, unknown};
 use crate::options::Options;
 use crate::refusal::Refusal;
@@ -29,12 +30,12 @@ fn refused_pass(alloc: Global, pass: Pass) -> Refused
 }
 
 /// Whether the passes are built that are asked for: selection on RV32.
-fn selects(start: Pass, stop: Pass, width: u16) -> bool
-    ensures { result ≡ selects start stop width }
+fn selects(start: Pass, stop: Pass, machine: Machine) -> bool
+    ensures { result ≡ selects start stop machine }
 {
     match start {
         Pass::RegBankSelect => match stop {
-            Pass::Select => width == 32,
+            Pass::Select => matches!(machine, Machine::Riscv32),
             _ => false,
         },
         _ => false,
@@ -73,16 +74,16 @@ fn passed(
     alloc: Global,
     options: &Options<'_>,
     start: Pass,
-    width: u16,
+    machine: Machine,
     text: &[u8],
 ) -> Result<Vec<u8>, Refused>
     requires within { length text.now ≤ limit }
-    requires passes { IsChecked options.now text.now start width }
+    requires passes { IsChecked options.now text.now start machine }
     ensures compiled { IfOk result (λ written. Compiles 32 text.now written.items) }
     ensures answer { IfOk result (λ written. IsAnswer options.now text.now written.items) }
     ensures refused { IfErr result (λ why. Tells why (IsNotBuilt options.now text.now)) }
 {
-    if selects(start, options.stop, width) {
+    if selects(start, options.stop, machine) {
         match compile(alloc, text) {
             Ok(written) => return Ok(written),
             Err(Refusal::Memory) => return Err(Refused::Memory),
@@ -92,8 +93,8 @@ fn passed(
     Err(refused_pass(alloc, first_of(start, options.stop)))
 }
 
-/// The module of a text, and the width of its target's registers.
-fn checked(alloc: Global, options: &Options<'_>, start: Pass, text: &[u8]) -> Result<u16, Refused>
+/// The machine that the module of a text is for, if the module passes the checks.
+fn checked(alloc: Global, options: &Options<'_>, start: Pass, text: &[u8]) -> Result<Machine, Refused>
     requires within { length text.now ≤ limit }
     requires started { options.now.start ≡ Some start }
     ensures passes { IfOk result (IsChecked options.now text.now start) }
@@ -116,7 +117,7 @@ pub fn answer(alloc: Global, options: &Options<'_>, text: &[u8]) -> Result<Vec<u
         return Err(refused_pass(alloc, Pass::IrTranslator));
     };
     match checked(alloc, options, start, text) {
-        Ok(width) => passed(alloc, options, start, width, text),
+        Ok(machine) => passed(alloc, options, start, machine, text),
         Err(why) => Err(why),
     }
 }

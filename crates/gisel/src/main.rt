@@ -12,6 +12,7 @@ mod keys;
 mod laws;
 mod line;
 mod lines;
+mod machine;
 mod messages;
 mod normal_form;
 mod options;
