@@ -7,7 +7,10 @@ pub mod InstrPieces
 pub mod ItemParts
 pub mod KeptLines
 pub mod NamedLemmas
+pub mod NumberedAgain
+pub mod NumberedSame
 pub mod Numerals
+pub mod OneModule
 pub mod PlacedLines
 pub mod PrintExamples
 pub mod PrintedTokens
@@ -18,6 +21,7 @@ pub mod ReadLines
 pub mod ReadPieces
 pub mod ReadSpells
 pub mod ReadWrongs
+pub mod SamePrints
 pub mod SignedNumbers
 pub mod SpelledEntries
 pub mod SpelledLines

@@ -13,6 +13,7 @@ pub mod Printed
 pub mod Read
 pub mod Reading
 pub mod Resolved
+pub mod Same
 pub mod Spelling
 pub mod Stated
 pub mod Words
