@@ -8,6 +8,7 @@ pub mod LineExample
 pub mod Lines
 pub mod Named
 pub mod Plain
+pub mod PlainPrintable
 pub mod Printable
 pub mod Printed
 pub mod Read
