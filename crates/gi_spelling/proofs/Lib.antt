@@ -1,4 +1,5 @@
 pub mod AddExample
+pub mod AlikeFormed
 pub mod BlockLines
 pub mod BlockSpells
 pub mod Blocks
@@ -8,6 +9,7 @@ pub mod ItemParts
 pub mod KeptLines
 pub mod NamedLemmas
 pub mod NumberedAgain
+pub mod NumberedPrintable
 pub mod NumberedSame
 pub mod Numerals
 pub mod OneModule
@@ -21,6 +23,7 @@ pub mod ReadLines
 pub mod ReadPieces
 pub mod ReadSpells
 pub mod ReadWrongs
+pub mod SamePrintable
 pub mod SamePrints
 pub mod SignedNumbers
 pub mod SpelledEntries

@@ -97,7 +97,7 @@ all_among seen (r ∷ rs) = both_true (kept_on r (with_register seen r) rs (adde
 pub registers_among : (f : FunctionData) → list_all (is_among (order_of f)) (flat_map registers_in_block f.blocks) ≡ true
 registers_among f = all_among [] (flat_map registers_in_block f.blocks)
 
-before_end : (r : ℕ) (order : List ℕ) → is_among order r ≡ true → position_or_len (nat_eq r) order < length order
+pub before_end : (r : ℕ) (order : List ℕ) → is_among order r ≡ true → position_or_len (nat_eq r) order < length order
 before_end r [] there = absurd (cc)
 before_end r (x ∷ order) there = chosen (nat_eq r x) there (before_end r order)
   where

@@ -3,6 +3,7 @@
 ghost use Rattle.std.specs.Prelude.{◌≡◌, List, ℕ};
 ghost use Rattle.gi_mir.specs.Data.{FunctionData, ModuleData};
 ghost use Rattle.gi_mir.specs.Numbering.{numbered, numbered_module};
+ghost use Rattle.gi_spelling.specs.Printable.{IsPrintableModule};
 ghost use Rattle.gi_spelling.specs.Printed.{printed};
 ghost use Rattle.gi_spelling.specs.Same.{IsSameModule};
 ghost use Rattle.gi_spelling.specs.Spelling.{Spells};
@@ -25,4 +26,14 @@ pub fn same_modules_are_numbered_alike()
 /// Registers that are numbered keep their numbers when they are numbered again.
 pub fn numbered_again()
     ensures { (f : FunctionData) → numbered (numbered f) ≡ numbered f }
+{}
+
+/// A module that is the same as a printable one is printable.
+pub fn same_modules_are_printable()
+    ensures { (m n : ModuleData) → IsSameModule m n → IsPrintableModule m → IsPrintableModule n }
+{}
+
+/// A printable module stays printable when the registers of its functions are numbered.
+pub fn numbered_modules_are_printable()
+    ensures { (m : ModuleData) → IsPrintableModule m → IsPrintableModule (numbered_module m) }
 {}
