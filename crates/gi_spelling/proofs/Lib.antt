@@ -5,6 +5,7 @@ pub mod BlockSpells
 pub mod Blocks
 pub mod Documents
 pub mod InstrPieces
+pub mod ItemBounds
 pub mod ItemParts
 pub mod KeptLines
 pub mod NamedLemmas
@@ -27,7 +28,10 @@ pub mod SamePrintable
 pub mod SamePrints
 pub mod SignedNumbers
 pub mod SpelledEntries
+pub mod SpelledInstrs
 pub mod SpelledLines
+pub mod SpelledObjects
+pub mod SpelledPrintable
 pub mod SpelledReads
 pub mod SpelledRight
 pub mod SpellingExamples
@@ -36,6 +40,7 @@ pub mod StatedSpells
 pub mod StatedTexts
 pub mod TextSpells
 pub mod Texts
+pub mod TokenBounds
 pub mod TokenLists
 pub mod WrittenLines
 pub mod WrittenParts

@@ -1,7 +1,7 @@
 -- A function whose registers are numbered stays as it is when they are numbered again.
 use mathlib.Core.Path.{fun_ext}
-use Rattle.std.proofs.Common.{◌≡◌, ℕ, suc, ◌+◌, ◌<◌, Bool, true, false, List, [], ◌∷◌, ◌++◌, length, Option, Some, None, map, refl, sym, ap, ap₂, ◌∙◌, subst, arith}
-use Rattle.std.specs.Prelude.{◌||◌, ◌==◌, not, nat_eq, nat_lt, if◌then◌else◌, unwrap_or, position, flat_map, fold}
+use Rattle.std.proofs.Common.{◌≡◌, ℕ, suc, ◌+◌, ◌<◌, Bool, true, false, List, [], ◌∷◌, ◌++◌, length, Some, map, refl, sym, ap, ap₂, ◌∙◌, arith}
+use Rattle.std.specs.Prelude.{◌||◌, not, nat_eq, nat_lt, if◌then◌else◌, unwrap_or, position, flat_map, fold}
 use Rattle.std.specs.List.{list_all, list_any, position_or_len}
 use Rattle.std.specs.Cmp.Derive.{both_true}
 use Rattle.std.proofs.lemmas.Bool.{and_parts}
@@ -10,9 +10,9 @@ use Rattle.std.proofs.lemmas.List.{map-append}
 use Rattle.std.proofs.lemmas.List.Folds.{list_all-append, list_any-append}
 use Rattle.gi_mir.specs.declared.operand.Operand.{Operand}
 use Rattle.gi_mir.specs.declared.operand.Operand.TheVariants as operand
-use Rattle.gi_mir.specs.Data.{InstrData, BlockData, FunctionData, ModuleData}
+use Rattle.gi_mir.specs.Data.{InstrData, BlockData, FunctionData}
 use Rattle.gi_mir.specs.Numbering.{registers_in_operand, registers_in_instr, registers_in_block, with_register, order_of, number_in, numbered}
-use Rattle.gi_mir.specs.Renaming.{IsInjective, renamed_operand, renamed_instr, renamed_pair, renamed_block, renamed}
+use Rattle.gi_mir.specs.Renaming.{IsInjective, renamed_operand, renamed_pair, renamed_block, renamed}
 use Rattle.gi_mir.proofs.KindLemmas.{same_test}
 use Rattle.gi_mir.proofs.NamesLemmas.{position-map}
 use Rattle.gi_mir.proofs.NumberingLaws.{number_in_apart}

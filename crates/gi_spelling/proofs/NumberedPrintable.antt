@@ -1,5 +1,5 @@
 -- What is printable stays so when registers are numbered: they are at most as many as there are numbers of registers.
-use Rattle.std.proofs.Common.{◌≡◌, ℕ, suc, ◌+◌, ◌<◌, ◌≤◌, Bool, true, false, List, [], ◌∷◌, ◌++◌, length, map, refl, sym, ap, ap₂, ◌∙◌, subst, arith}
+use Rattle.std.proofs.Common.{◌≡◌, ℕ, suc, ◌+◌, ◌<◌, ◌≤◌, Bool, true, false, List, [], ◌∷◌, ◌++◌, length, map, refl, sym, ap, ◌∙◌, subst, arith}
 use Rattle.std.specs.Prelude.{◌&&◌, ◌||◌, nat_eq, nat_lt, nat_le, if◌then◌else◌, unwrap_or, flat_map, fold}
 use Rattle.std.specs.List.{list_all, list_any, AllByRecursion, AllZip, IsDistinct, position_or_len}
 use Rattle.std.specs.Cmp.Derive.{both_true}
@@ -77,13 +77,13 @@ writable_order seen (r ∷ rs) all fine =
     let parts = and_parts (is_writable_register r) (list_all is_writable_register rs) fine in
     writable_order (with_register seen r) rs (writable_with seen r all parts.0) parts.1
 
-below_greatest : (q : ℕ) (xs : List ℕ) → list_all is_writable_register xs ≡ true → list_any (nat_eq q) xs ≡ true → q < suc greatest_register
-below_greatest q [] all there = absurd (cc)
-below_greatest q (x ∷ xs) all there =
-    let parts = and_parts (is_writable_register x) (list_all is_writable_register xs) all in
-    chosen (nat_eq q x) refl there parts.0 (below_greatest q xs parts.1)
+pub among_below : (bound q : ℕ) (xs : List ℕ) → list_all (λ n. nat_le n bound) xs ≡ true → list_any (nat_eq q) xs ≡ true → q < suc bound
+among_below bound q [] all there = absurd (cc)
+among_below bound q (x ∷ xs) all there =
+    let parts = and_parts (nat_le x bound) (list_all (λ n. nat_le n bound) xs) all in
+    chosen (nat_eq q x) refl there parts.0 (among_below bound q xs parts.1)
   where
-    chosen : (b : Bool) → nat_eq q x ≡ b → (b || list_any (nat_eq q) xs) ≡ true → is_writable_register x ≡ true → (list_any (nat_eq q) xs ≡ true → q < suc greatest_register) → q < suc greatest_register
+    chosen : (b : Bool) → nat_eq q x ≡ b → (b || list_any (nat_eq q) xs) ≡ true → nat_le x bound ≡ true → (list_any (nat_eq q) xs ≡ true → q < suc bound) → q < suc bound
     chosen true is there fine later =
         let same : q ≡ x = eqb-true q x is in
         grind (arith, nat_tests)
@@ -93,7 +93,7 @@ few_registers : (f : FunctionData) → list_all is_writable_register (flat_map r
 unfolding IsDistinct
 few_registers f fine =
     let registers = flat_map registers_in_block f.blocks in
-    length-le_from_distinct_below (order_of f) (suc greatest_register) (distinct_order [] registers tt) (λ q there. below_greatest q (order_of f) (writable_order [] registers refl fine) there)
+    length-le_from_distinct_below (order_of f) (suc greatest_register) (distinct_order [] registers tt) (λ q there. among_below greatest_register q (order_of f) (writable_order [] registers refl fine) there)
 
 -- ══ With the new numbers ══
 

@@ -1,5 +1,5 @@
 -- Modules that are the same stay the same when the registers of their functions are numbered.
-use Rattle.std.proofs.Common.{◌≡◌, ℕ, List, [], ◌∷◌, ◌++◌, map, refl, sym, ap, ap₂, ◌∙◌, subst}
+use Rattle.std.proofs.Common.{◌≡◌, ℕ, List, [], ◌∷◌, ◌++◌, map, refl, sym, ap, ap₂, subst}
 use Rattle.std.specs.Prelude.{flat_map, fold}
 use Rattle.std.specs.List.{AllZip}
 use Rattle.gi_mir.specs.declared.operand.Operand.{Operand}

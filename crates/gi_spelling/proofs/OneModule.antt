@@ -1,28 +1,26 @@
 -- Two modules that one text spells are the same.
-use Rattle.std.proofs.Common.{◌≡◌, ℕ, zero, suc, Bool, true, false, List, [], ◌∷◌, length, Option, Some, None, Ok, map, refl, sym, ap, ◌∙◌, subst, inl, inr}
-use Rattle.std.specs.Prelude.{◌≢◌, if◌then◌else◌, codes}
+use Rattle.std.proofs.Common.{◌≡◌, ℕ, zero, suc, Bool, true, false, List, [], ◌∷◌, length, Option, Some, Ok, map, refl, sym, ap, ◌∙◌, subst, inl, inr}
+use Rattle.std.specs.Prelude.{codes}
 use Rattle.std.specs.List.{AllZip}
 use Rattle.gi_llt.specs.Tokens.{past_run}
 use Rattle.gi_llt.specs.declared.Llt.{Llt}
 use Rattle.gi_mir.specs.declared.operand.Operand.{Operand}
 use Rattle.gi_mir.specs.declared.operand.Operand.TheVariants as operand
 use Rattle.gi_mir.specs.Data.{InstrData, BlockData, FunctionData, ModuleData}
-use Rattle.gi_spelling.specs.declared.token.Item.{Item}
 use Rattle.gi_spelling.specs.declared.token.Word.TheVariants as word
-use Rattle.gi_spelling.specs.declared.token.What.{What}
 use Rattle.gi_spelling.specs.declared.token.What.TheVariants as what
 use Rattle.gi_spelling.specs.declared.written.ListKind.TheVariants.{Successors, Liveins}
 use Rattle.gi_spelling.specs.Items.{kept_items}
 use Rattle.gi_spelling.specs.Lines.{Line, Section, parts_of_text}
 use Rattle.gi_spelling.specs.Named.{IsNamedOperand}
 use Rattle.gi_spelling.specs.Printed.{name_at, implied_successors}
-use Rattle.gi_spelling.specs.Reading.{Read, read_instr}
+use Rattle.gi_spelling.specs.Reading.{read_instr}
 use Rattle.gi_spelling.specs.Resolved.{Tables, resolved, block_place}
 use Rattle.gi_spelling.specs.Same.{IsSameOperand, IsSameInstr, IsSameBlock, IsSameFunction, IsSameModule}
 use Rattle.gi_spelling.specs.Written.{WrittenData}
-use Rattle.gi_spelling.specs.Blocks.{listed_in, read_successors, read_liveins, blocks_in, block_numbers}
+use Rattle.gi_spelling.specs.Blocks.{listed_in, blocks_in, block_numbers}
 use Rattle.gi_spelling.specs.Documents.{entries_of, registers_in, objects_from, groups_of}
-use Rattle.gi_spelling.specs.Spelling.{AreWritten, SpellsInstr, is_list_line, lists_of, SpellsSuccessors, SpellsLiveins, SpellsBlock, SpellsBlocks, entries_with, value_whats, SpellsTruth, Lists, SpellsName, SpellsBody, types_in, SpellsEntries, SpellsDocument, SpellsIr, Spells}
+use Rattle.gi_spelling.specs.Spelling.{SpellsInstr, is_list_line, lists_of, SpellsSuccessors, SpellsLiveins, SpellsBlock, SpellsBlocks, entries_with, SpellsTruth, Lists, SpellsName, SpellsBody, types_in, SpellsEntries, SpellsDocument, Spells}
 use Rattle.gi_spelling.proofs.SamePrints.{implied_same}
 use Rattle.gi_spelling.proofs.SpelledReads.{at_line, resolved_at, successors_read, liveins_read}
 use Rattle.gi_spelling.proofs.WrittenLines.{line_read}

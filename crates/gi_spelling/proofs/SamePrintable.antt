@@ -1,11 +1,10 @@
 -- What is printable stays so in a module that is the same.
-use Rattle.std.proofs.Common.{◌≡◌, ℕ, Bool, true, List, [], ◌∷◌, length, Option, refl, sym, ap, ap₂, ◌∙◌, subst}
+use Rattle.std.proofs.Common.{◌≡◌, ℕ, Bool, List, [], ◌∷◌, length, refl, sym, ap, ap₂, ◌∙◌, subst}
 use Rattle.std.specs.Prelude.{◌&&◌, nat_lt}
 use Rattle.std.specs.List.{list_all, AllByRecursion, AllZip}
 use Rattle.gi_mir.specs.declared.operand.Operand.{Operand}
 use Rattle.gi_mir.specs.declared.operand.Operand.TheVariants as operand
 use Rattle.gi_mir.specs.Data.{InstrData, BlockData, FunctionData, ModuleData}
-use Rattle.gi_mir.specs.Formed.{is_formed}
 use Rattle.gi_spelling.specs.Printable.{Counts, counts_of, is_writable_operand, is_writable_memory, IsPrintableInstr, IsPrintableBlock, is_none_live, is_live_first, IsPrintableFunction, are_ir_lines, IsPrintableModule}
 use Rattle.gi_spelling.specs.Same.{IsSameOperand, IsSameInstr, IsSameBlock, IsSameFunction, IsSameModule}
 use Rattle.gi_spelling.proofs.AlikeFormed.{IsAlike, formed_alike, same_alike}

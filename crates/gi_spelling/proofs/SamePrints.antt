@@ -1,10 +1,8 @@
 -- Modules that are the same are printed alike.
 use mathlib.Core.Path.{fun_ext}
-use Rattle.std.proofs.Common.{◌≡◌, ℕ, suc, Bool, true, false, List, [], ◌∷◌, ◌++◌, length, Option, Some, None, map, refl, sym, ap, ap₂, ◌∙◌, subst}
+use Rattle.std.proofs.Common.{◌≡◌, ℕ, suc, Bool, List, [], ◌∷◌, ◌++◌, length, refl, sym, ap, ap₂, ◌∙◌}
 use Rattle.std.specs.Prelude.{◌&&◌, not, ◌==◌, if◌then◌else◌, unwrap_or}
 use Rattle.std.specs.List.{AllZip}
-use Rattle.gi_llt.specs.Tokens.{Piece}
-use Rattle.gi_mir.specs.declared.operand.Flags.{Flags}
 use Rattle.gi_mir.specs.declared.operand.Kind.{Kind}
 use Rattle.gi_mir.specs.declared.operand.Kind.TheVariants.{Class}
 use Rattle.gi_mir.specs.declared.operand.Operand.{Operand}
@@ -13,7 +11,7 @@ use Rattle.gi_mir.specs.declared.row.Form.{Form}
 use Rattle.gi_mir.specs.Data.{InstrData, BlockData, FunctionData, ModuleData}
 use Rattle.gi_mir.specs.Registers.{first_there, kind_in_operand, kind_in_operands, kind_in_instrs, kind_in_blocks, kind_of}
 use Rattle.gi_mir.specs.Row.{is_branch_op, is_unconditional_op, rows_of}
-use Rattle.gi_spelling.specs.Printed.{name_at, operand_pieces, definitions_of, sources_of, source_forms, first_row, is_typed_by, forms_after, source_pieces, definition_pieces, instr_line, instr_lines, with_place, with_targets, with_branches, falls_through, implied_successors, block_lines, blocks_lines, printed_lines, functions_lines, ir_lines, text_of, printed}
+use Rattle.gi_spelling.specs.Printed.{operand_pieces, definitions_of, sources_of, source_forms, first_row, is_typed_by, forms_after, source_pieces, instr_line, instr_lines, with_place, with_targets, with_branches, falls_through, implied_successors, block_lines, blocks_lines, printed_lines, functions_lines, ir_lines, text_of, printed}
 use Rattle.gi_spelling.specs.Same.{IsSameOperand, IsSameInstr, IsSameBlock, IsSameFunction, IsSameModule}
 
 -- a list of pairs has one length

@@ -17,5 +17,6 @@ pub mod Resolved
 pub mod Same
 pub mod Spelling
 pub mod Stated
+pub mod There
 pub mod Words
 pub mod Written

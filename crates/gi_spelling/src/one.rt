@@ -7,6 +7,7 @@ ghost use Rattle.gi_spelling.specs.Printable.{IsPrintableModule};
 ghost use Rattle.gi_spelling.specs.Printed.{printed};
 ghost use Rattle.gi_spelling.specs.Same.{IsSameModule};
 ghost use Rattle.gi_spelling.specs.Spelling.{Spells};
+ghost use Rattle.gi_spelling.specs.There.{NamesBlocksThatAreThere};
 
 /// A text spells one module, up to what a text doesn't show.
 pub fn spelled_module_is_one()
@@ -36,4 +37,9 @@ pub fn same_modules_are_printable()
 /// A printable module stays printable when the registers of its functions are numbered.
 pub fn numbered_modules_are_printable()
     ensures { (m : ModuleData) → IsPrintableModule m → IsPrintableModule (numbered_module m) }
+{}
+
+/// What a text spells is printable where it names no block that isn't there.
+pub fn spelled_modules_are_printable()
+    ensures { (text : List ℕ) (m : ModuleData) → Spells text m → NamesBlocksThatAreThere m → IsPrintableModule m }
 {}
