@@ -17,7 +17,7 @@ use Rattle.gi_mir.specs.Data.{InstrData}
 use Rattle.gi_mir.specs.Row.{word_of, rows_of}
 use Rattle.gi_spelling.specs.Printed.{mark, word, listed, kind_pieces, definitions_of, sources_of, source_forms, first_row, source_pieces, definition_pieces, defined_pieces, flag_pieces, flags_pieces, sources_pieces, memory_pieces, instr_pieces, instr_line, instr_lines, block_pieces, physical_pieces, block_head_pieces, successors_pieces, liveins_pieces}
 use Rattle.gi_spelling.specs.Plain.{line_items, is_empty_line, is_dropped, is_word_kind, begins_block, is_block_head, begins_list, lists, is_list_line, SpellsInstr}
-use Rattle.gi_spelling.specs.Printable.{is_named_instr}
+use Rattle.gi_spelling.specs.PlainPrintable.{is_named_instr}
 use Rattle.gi_spelling.proofs.InstrPieces.{AllSafe, sources_apart, instr_apart, block_safe, physical_safe}
 
 -- the first token of an instruction is no block's head and no list's key

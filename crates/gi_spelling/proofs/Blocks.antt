@@ -15,7 +15,7 @@ use Rattle.gi_mir.specs.declared.operand.Kind.{Kind}
 use Rattle.gi_mir.specs.Data.{BlockData}
 use Rattle.gi_spelling.specs.Printed.{instr_lines, implied_successors, states_successors, liveins_lines, set_off, block_lines, blocks_lines}
 use Rattle.gi_spelling.specs.Plain.{is_dropped, kept_lines, Section, Sections, with_head, with_line, sections_of, without_comment, with_byte, without_last_blanks, line_bytes, is_start, is_end, is_block_head, lists, is_list_line, SpellsSuccessors, SpellsLiveins, SpellsInstr, SpellsBlock, SpellsBlocks}
-use Rattle.gi_spelling.specs.Printable.{is_named_block}
+use Rattle.gi_spelling.specs.PlainPrintable.{is_named_block}
 use Rattle.gi_spelling.proofs.BlockLines.{EachLine, each-append, each-weaker, begins_blank, IsInner, instrs_inner, instrs_spelled, instrs_no_block, instrs_stop, head_line, head_items, head_inner, head_begins, successors_line, successors_items, liveins_items, IsListLine, successors_listed, liveins_listed}
 
 -- the lists of a block, by whether its successors are stated

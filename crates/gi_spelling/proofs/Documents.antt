@@ -12,7 +12,7 @@ use Rattle.gi_mir.specs.Data.{FunctionData}
 use Rattle.gi_mir.specs.Registers.{kind_of}
 use Rattle.gi_spelling.specs.Printed.{name_at, blocks_lines, key_lines}
 use Rattle.gi_spelling.specs.Plain.{is_empty_line, is_dropped, kept_lines, Section, with_head, sections_of, without_comment, with_byte, without_last_blanks, line_bytes, value_bytes, is_end, up_to_end, is_at_column_one, is_name}
-use Rattle.gi_spelling.specs.Printable.{IsPrintable}
+use Rattle.gi_spelling.specs.PlainPrintable.{IsPrintable}
 use Rattle.gi_spelling.proofs.BlockLines.{EachLine, each-append, each-weaker, begins_blank, IsInner}
 use Rattle.gi_spelling.proofs.Blocks.{kept-append, kept_blocks, kept_blocks_lines, kept_blocks_inner, each_blocks, sections_of-append, IsRaw, begins, no_end, no_start}
 

@@ -258,7 +258,7 @@ registers_right text (line ∷ lines) e = chosen (line_entry text line) e (regis
     chosen (Err error) e later less = absurd (omega (arith, e, less))
     chosen (Ok fields) e later less = later (some_by (register_by (Ok fields)) e less)
 
-there_fewer : (place : ℕ) (groups : List Group) → length (objects_from place groups) ≤ length groups
+pub there_fewer : (place : ℕ) (groups : List Group) → length (objects_from place groups) ≤ length groups
 there_fewer place [] = omega arith
 there_fewer place (group ∷ groups) = chosen (object_at place group) (there_fewer (suc place) groups)
   where

@@ -63,14 +63,14 @@ blocks_some : (n : ℕ) (numbers : List ℕ) → [] ≡ listed_whats (map block_
 blocks_some n [] e = cc
 blocks_some n (next ∷ numbers) e = cc
 
-successors_read : (items : List Item) (numbers : List ℕ) → map what_in items ≡ listed_whats (map block_whats numbers) → read_successors items ≡ Ok numbers
+pub successors_read : (items : List Item) (numbers : List ℕ) → map what_in items ≡ listed_whats (map block_whats numbers) → read_successors items ≡ Ok numbers
 successors_read [] [] e = refl
 successors_read [] (n ∷ numbers) e = absurd (blocks_some n numbers e)
 successors_read (item ∷ rest) [] e = absurd (cc)
 successors_read (item ∷ rest) (n ∷ numbers) e =
     all_read block_whats read_block block_read (parts_of (item ∷ rest)) (n ∷ numbers) (parts_written block_whats (λ n. refl) n numbers (item ∷ rest) e)
 
-liveins_read : (items : List Item) (numbers : List ℕ) → numbers ≢ [] → map what_in items ≡ listed_whats (map physical_whats numbers) → read_liveins items ≡ Ok numbers
+pub liveins_read : (items : List Item) (numbers : List ℕ) → numbers ≢ [] → map what_in items ≡ listed_whats (map physical_whats numbers) → read_liveins items ≡ Ok numbers
 liveins_read items [] some e = absurd (some refl)
 liveins_read items (n ∷ numbers) some e = all_read physical_whats read_livein livein_read (parts_of items) (n ∷ numbers) (parts_written physical_whats (λ n. refl) n numbers items e)
 
@@ -113,7 +113,7 @@ formed_at instr meant n e = chosen (is_formed instr) refl e
         rw own (ap (λ i. Some (at_line n i)) same)
     chosen false is e = absurd (cc)
 
-resolved_at : (tables : Tables) (written : WrittenData) (n k : ℕ) (meant : InstrData) → resolved tables written n ≡ Some meant → resolved tables written k ≡ Some (at_line k meant)
+pub resolved_at : (tables : Tables) (written : WrittenData) (n k : ℕ) (meant : InstrData) → resolved tables written n ≡ Some meant → resolved tables written k ≡ Some (at_line k meant)
 resolved_at tables written n k meant e =
     chosen (each (resolved_definition tables.classes) written.definitions) (each (resolved_source tables) written.sources) (resolved_memory written.memory) e
   where

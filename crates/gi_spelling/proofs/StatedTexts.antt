@@ -17,7 +17,7 @@ use Rattle.gi_spelling.specs.Blocks.{shown_types}
 use Rattle.gi_spelling.specs.Resolved.{Tables, block_place, resolved}
 use Rattle.gi_spelling.specs.Spelling.{whats_of, places_of, type_at, types_in, Spells}
 use Rattle.gi_spelling.specs.Printed.{instr_pieces, instr_line, instr_lines}
-use Rattle.gi_spelling.specs.Printable.{is_named_block, IsPrintable}
+use Rattle.gi_spelling.specs.PlainPrintable.{is_named_block, IsPrintable}
 use Rattle.gi_spelling.specs.Plain.{lines_of, is_start, sections_of}
 use Rattle.gi_spelling.specs.Stated.{StatedInstr, CopyIn, MakeConstant, AddUp, CopyOut, Return, stated_kind, stated_instr, is_among, is_argument, is_short, is_new, is_stated_after, defined_after, live_after, is_return, are_stated, are_arguments, IsStatedInstr, IsStated, IsStatedText}
 use Rattle.gi_spelling.proofs.TokenLists.{names_nothing}

@@ -20,7 +20,7 @@ use Rattle.gi_spelling.specs.Documents.{is_name, entries_of, ir_wrongs}
 use Rattle.gi_spelling.specs.Spelling.{word_what, types_in, SpellsBlocks, entries_with, value_whats, SpellsTruth, Lists, SpellsName, SpellsBody, are_distinct, SpellsEntries, SpellsDocument, Spells}
 use Rattle.gi_spelling.specs.Printed.{name_at, key_lines}
 use Rattle.gi_spelling.specs.Plain.{lines_of, is_dropped, is_start, is_end, is_at_column_one, Section, Sections, sections_of, kept_lines, value_bytes, is_block_head}
-use Rattle.gi_spelling.specs.Printable.{IsPrintable}
+use Rattle.gi_spelling.specs.PlainPrintable.{IsPrintable}
 use Rattle.gi_spelling.proofs.PlacedLines.{IsLine, lines_placed, Reads, read_range, back_slice}
 use Rattle.gi_spelling.proofs.Zips.{filter_zip, run_zip, past_zip, SectionsAgree, AllAgree, sections_zip}
 use Rattle.gi_spelling.proofs.Blocks.{kept_blocks, block_sections, sections_of-blocks}

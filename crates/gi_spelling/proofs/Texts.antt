@@ -12,7 +12,7 @@ use Rattle.gi_mir.specs.Data.{InstrData, BlockData, FunctionData, ModuleData}
 use Rattle.gi_mir.specs.Registers.{kind_of}
 use Rattle.gi_spelling.specs.Printed.{name_at, blocks_lines, key_lines, printed_lines, functions_lines, ir_lines, text_of, printed}
 use Rattle.gi_spelling.specs.Plain.{onto_first, lines_of, is_dropped, Section, Sections, with_head, sections_of, value_bytes, is_start, is_entry, entries_of, SpellsTruth, is_name, is_block_head, SpellsBlocks, SpellsBody, SpellsEntries, SpellsDocument, Spells}
-use Rattle.gi_spelling.specs.Printable.{is_named_operand, is_named_instr, is_named_block, are_none, has_no_liveins, later_blocks, IsPrintable, AllPrintable, IsPrintableModule}
+use Rattle.gi_spelling.specs.PlainPrintable.{is_named_operand, is_named_instr, is_named_block, are_none, has_no_liveins, later_blocks, IsPrintable, AllPrintable, IsPrintableModule}
 use Rattle.gi_spelling.specs.Stated.{StatedInstr, CopyIn, MakeConstant, AddUp, CopyOut, Return, stated_instr, IsStatedInstr, is_name_byte, is_stated_name, IsStated, Gaps, stated_lines, IsStatedText}
 use Rattle.gi_spelling.proofs.BlockLines.{EachLine, each-append, each-weaker}
 use Rattle.gi_spelling.proofs.Blocks.{AllLiveAt, block_sections, blocks_spelled, kept_blocks, sections_of-append, sections_of-blocks, IsRaw, raw_blocks}

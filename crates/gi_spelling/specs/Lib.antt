@@ -8,12 +8,15 @@ pub mod LineExample
 pub mod Lines
 pub mod Named
 pub mod Plain
+pub mod PlainPrintable
 pub mod Printable
 pub mod Printed
 pub mod Read
 pub mod Reading
 pub mod Resolved
+pub mod Same
 pub mod Spelling
 pub mod Stated
+pub mod There
 pub mod Words
 pub mod Written

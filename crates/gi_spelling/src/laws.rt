@@ -18,7 +18,7 @@ ghost use Rattle.gi_spelling.specs.declared.written.Fault.TheVariants as fault;
 ghost use Rattle.gi_spelling.specs.declared.token.Item.{Item};
 ghost use Rattle.gi_spelling.specs.AddExample.{generic_module, selected_module, stated_text, selected_text};
 ghost use Rattle.gi_mir.specs.Data.{ModuleData};
-ghost use Rattle.gi_spelling.specs.Printable.{IsPrintableModule};
+ghost use Rattle.gi_spelling.specs.PlainPrintable.{IsPrintableModule};
 ghost use Rattle.gi_spelling.specs.Printed.{printed};
 ghost use Rattle.gi_spelling.specs.Plain.{Spells as SpellsPlainly};
 ghost use Rattle.gi_spelling.specs.Stated.{IsStatedText};

@@ -6,7 +6,7 @@ use Rattle.gi_mir.specs.declared.operand.Operand.{Operand}
 use Rattle.gi_mir.specs.declared.operand.Operand.TheVariants as operand
 use Rattle.gi_mir.specs.Numbering.{order_of, number_in, numbered, numbered_module}
 use Rattle.gi_mir.specs.Renaming.{renamed_operand, renamed_pair, renamed_block}
-use Rattle.gi_spelling.specs.Printable.{is_named_operand, is_named_instr, is_named_block, has_no_liveins, later_blocks, IsPrintable, AllPrintable, IsPrintableModule}
+use Rattle.gi_spelling.specs.PlainPrintable.{is_named_operand, is_named_instr, is_named_block, has_no_liveins, later_blocks, IsPrintable, AllPrintable, IsPrintableModule}
 use Rattle.gi_spelling.specs.Printed.{name_at, printed}
 use Rattle.gi_spelling.specs.Plain.{is_name, Spells}
 use Rattle.gi_spelling.specs.Stated.{StatedInstr, IsStated, IsStatedText}

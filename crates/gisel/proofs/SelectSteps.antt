@@ -9,7 +9,7 @@ use Rattle.gi_mir.specs.Edit.{defines, is_def_of}
 use Rattle.gi_mir.specs.declared.operand.Operand.{Operand}
 use Rattle.gi_mir.specs.declared.operand.Operand.TheVariants as operand
 use Rattle.gi_spelling.specs.Stated.{StatedInstr, CopyIn, MakeConstant, AddUp, CopyOut, Return, stated_instr, IsStatedInstr, is_among, is_stated_after, defined_after, live_after}
-use Rattle.gi_spelling.specs.Printable.{is_named_instr}
+use Rattle.gi_spelling.specs.PlainPrintable.{is_named_instr}
 use Rattle.gi_meaning.specs.Runs.{phis_of}
 use Rattle.gi_refine.specs.Refinement.{IsRefinement}
 use Rattle.gi_refine.specs.Replacing.{touches, any_touches}

@@ -14,7 +14,7 @@ use Rattle.gi_mir.specs.declared.row.Form.{Form}
 use Rattle.gi_mir.specs.Numbering.{registers_in_instr, with_register, order_of, number_in, numbered}
 use Rattle.gi_mir.specs.Registers.{first_there, kind_in_operands, kind_in_instrs, kind_of}
 use Rattle.gi_mir.specs.Renaming.{renamed_pair}
-use Rattle.gi_spelling.specs.Printable.{is_named_operand, is_named_instr}
+use Rattle.gi_spelling.specs.PlainPrintable.{is_named_operand, is_named_instr}
 use Rattle.gi_spelling.specs.Printed.{name_at, operand_pieces, is_definition, sources_of, is_typed_by, forms_after, source_pieces, sources_pieces, defined_pieces, definition_pieces, definitions_of, flags_pieces, word, memory_pieces, source_forms, first_row, instr_line, instr_lines, with_place, block_head_pieces, set_off, successors_lines, liveins_lines, with_targets, with_branches, falls_through, implied_successors, block_lines, printed_lines, functions_lines, ir_lines, text_of}
 use Rattle.gi_mir.specs.Row.{word_of, rows_of, is_branch_op}
 use Rattle.gi_llt.specs.Tokens.{Spaces, piece_bytes}
