@@ -15,6 +15,7 @@ pub mod MachineSums
 pub mod MessageLemmas
 pub mod NormalForms
 pub mod OptionLemmas
+pub mod PrintedLaws
 pub mod ReadLemmas
 pub mod RefusedLemmas
 pub mod SelectFits

@@ -23,3 +23,4 @@ pub mod Standing
 pub mod Statement
 pub mod Stop
 pub mod Text
+pub mod Unrun

@@ -23,6 +23,7 @@ mod standing;
 mod statement;
 mod stop;
 mod top;
+mod unrun;
 
 use gi_io::{StdInput, StdOutput, write_all};
 pub use laws::{refused_line_is_one, stated_text_is_one};
