@@ -10,6 +10,8 @@ pub mod NamedLemmas
 pub mod Numerals
 pub mod PlacedLines
 pub mod PrintExamples
+pub mod PrintedOperands
+pub mod PrintedPieces
 pub mod PrintedTokens
 pub mod ReadBlocks
 pub mod ReadHeads
