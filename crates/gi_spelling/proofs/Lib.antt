@@ -10,6 +10,7 @@ pub mod NamedLemmas
 pub mod Numerals
 pub mod PlacedLines
 pub mod PrintExamples
+pub mod PrintedForms
 pub mod PrintedOperands
 pub mod PrintedPieces
 pub mod PrintedTokens
