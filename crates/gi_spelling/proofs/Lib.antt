@@ -13,6 +13,7 @@ pub mod PrintExamples
 pub mod PrintedForms
 pub mod PrintedOperands
 pub mod PrintedPieces
+pub mod PrintedSources
 pub mod PrintedTokens
 pub mod ReadBlocks
 pub mod ReadHeads
