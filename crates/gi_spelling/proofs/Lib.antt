@@ -6,6 +6,7 @@ pub mod Documents
 pub mod InstrPieces
 pub mod ItemParts
 pub mod KeptLines
+pub mod NamePlaces
 pub mod NamedLemmas
 pub mod Numerals
 pub mod PlacedLines
