@@ -12,6 +12,7 @@ pub mod Numerals
 pub mod PlacedLines
 pub mod PrintExamples
 pub mod PrintedForms
+pub mod PrintedInstrs
 pub mod PrintedOperands
 pub mod PrintedPieces
 pub mod PrintedSources

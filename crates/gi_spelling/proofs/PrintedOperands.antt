@@ -159,6 +159,7 @@ place_of_name (Some name) place = Some place
 
 -- what a line of a function rests on, as far as printing does
 pub record AreTables (counts : Counts) (tables : Tables) (kinds : ℕ → Kind) : Type 0 where
+  pub unclassed : tables.classes ≡ []
   pub few : counts.blocks < 4294901761
   pub placed : (place : ℕ) → place < counts.blocks → block_place tables.blocks place ≡ place
   pub objects : tables.objects ≡ counts.objects
