@@ -11,6 +11,7 @@ pub mod NamedLemmas
 pub mod Numerals
 pub mod PlacedLines
 pub mod PrintExamples
+pub mod PrintedBlocks
 pub mod PrintedForms
 pub mod PrintedInstrs
 pub mod PrintedOperands
