@@ -17,6 +17,7 @@ pub mod PrintedInstrs
 pub mod PrintedOperands
 pub mod PrintedPieces
 pub mod PrintedSources
+pub mod PrintedStacks
 pub mod PrintedTokens
 pub mod ReadBlocks
 pub mod ReadHeads
