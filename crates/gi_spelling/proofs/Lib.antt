@@ -12,6 +12,7 @@ pub mod Numerals
 pub mod PlacedLines
 pub mod PrintExamples
 pub mod PrintedBlocks
+pub mod PrintedDocuments
 pub mod PrintedForms
 pub mod PrintedInstrs
 pub mod PrintedOperands
