@@ -19,6 +19,7 @@ pub mod PrintedOperands
 pub mod PrintedPieces
 pub mod PrintedSources
 pub mod PrintedStacks
+pub mod PrintedTexts
 pub mod PrintedTokens
 pub mod ReadBlocks
 pub mod ReadHeads
