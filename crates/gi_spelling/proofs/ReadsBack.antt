@@ -1,5 +1,5 @@
 -- What is printed reads back, and is printed with the same bytes again.
-use Rattle.std.proofs.Common.{◌≡◌, List, [], ◌∷◌, map, refl, sym, ap, ap₂, ◌∙◌}
+use Rattle.std.proofs.Common.{◌≡◌, List, [], ◌∷◌, map, refl, sym, ap, ap₂, ◌∙◌, subst}
 use Rattle.gi_mir.specs.Data.{FunctionData, ModuleData}
 use Rattle.gi_mir.specs.Numbering.{numbered, numbered_module}
 use Rattle.gi_spelling.specs.Printable.{IsPrintableModule}
@@ -35,6 +35,26 @@ pub printed_again : (m n : ModuleData) → IsSameModule (numbered_module m) n �
 printed_again m n same =
     sym (printed_alike (numbered_module (numbered_module m)) (numbered_module n) (numbered_same (numbered_module m) n same)) ∙ ap printed (module_again m)
 
+-- from here on by what a printed text spells
 module _ (printed_spells : (m : ModuleData) → IsPrintableModule m → Spells (printed m) m) where
-  pub read_back : (m n : ModuleData) → IsPrintableModule m → Spells (printed (numbered_module m)) n → IsSameModule (numbered_module m) n
-  read_back m n printable spells = spelled_one (printed (numbered_module m)) (numbered_module m) n (printed_spells (numbered_module m) (numbered_printable m printable)) spells
+  pub numbered_spells : (m : ModuleData) → IsPrintableModule m → Spells (printed (numbered_module m)) (numbered_module m)
+  numbered_spells m printable = printed_spells (numbered_module m) (numbered_printable m printable)
+
+  pub reads_back : (m n : ModuleData) → IsPrintableModule m → Spells (printed (numbered_module m)) n → IsSameModule (numbered_module m) n
+  reads_back m n printable spells = spelled_one (printed (numbered_module m)) (numbered_module m) n (numbered_spells m printable) spells
+
+  pub prints_again : (m n : ModuleData) → IsPrintableModule m → Spells (printed (numbered_module m)) n → printed (numbered_module n) ≡ printed (numbered_module m)
+  prints_again m n printable spells = printed_again m n (reads_back m n printable spells)
+
+  pub told_apart : (m n : ModuleData) → IsPrintableModule m → IsPrintableModule n → printed m ≡ printed n → IsSameModule m n
+  told_apart m n first second same =
+      spelled_one (printed m) m n (printed_spells m first) (subst (λ text. Spells text n) (sym same) (printed_spells n second))
+
+  pub some_spells : (m : ModuleData) → IsSpelled m → NamesBlocksThatAreThere m → Spells (printed (numbered_module m)) (numbered_module m)
+  some_spells m spelled there = printed_spells (numbered_module m) (some_printable m spelled there)
+
+  pub some_read : (m n : ModuleData) → IsSpelled m → NamesBlocksThatAreThere m → Spells (printed (numbered_module m)) n → IsSameModule (numbered_module m) n
+  some_read m n spelled there spells = spelled_one (printed (numbered_module m)) (numbered_module m) n (some_spells m spelled there) spells
+
+  pub some_again : (m n : ModuleData) → IsSpelled m → NamesBlocksThatAreThere m → Spells (printed (numbered_module m)) n → printed (numbered_module n) ≡ printed (numbered_module m)
+  some_again m n spelled there spells = printed_again m n (some_read m n spelled there spells)
