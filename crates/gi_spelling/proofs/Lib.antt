@@ -34,6 +34,7 @@ pub mod ReadLines
 pub mod ReadPieces
 pub mod ReadSpells
 pub mod ReadWrongs
+pub mod ReadsBack
 pub mod SamePrintable
 pub mod SamePrints
 pub mod SignedNumbers
@@ -50,6 +51,7 @@ pub mod StatedSpells
 pub mod StatedTexts
 pub mod TextSpells
 pub mod Texts
+pub mod ThereSame
 pub mod TokenBounds
 pub mod TokenLists
 pub mod WrittenLines

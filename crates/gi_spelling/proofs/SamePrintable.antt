@@ -19,7 +19,7 @@ all_zip R P Q step [] (y ∷ ys) all holds = absurd all
 all_zip R P Q step (x ∷ xs) [] all holds = absurd all
 all_zip R P Q step (x ∷ xs) (y ∷ ys) all holds = (step x y all.0 holds.0, all_zip R P Q step xs ys all.1 holds.1)
 
-test_zip : {A B : Type 0} (R : A → B → Type 0) (p : A → Bool) (q : B → Bool) → ((a : A) (b : B) → R a b → q b ≡ p a) → (xs : List A) (ys : List B) → AllZip R xs ys → list_all q ys ≡ list_all p xs
+pub test_zip : {A B : Type 0} (R : A → B → Type 0) (p : A → Bool) (q : B → Bool) → ((a : A) (b : B) → R a b → q b ≡ p a) → (xs : List A) (ys : List B) → AllZip R xs ys → list_all q ys ≡ list_all p xs
 test_zip R p q same [] [] all = refl
 test_zip R p q same [] (y ∷ ys) all = absurd all
 test_zip R p q same (x ∷ xs) [] all = absurd all

@@ -15,6 +15,7 @@ pub mod Read
 pub mod Reading
 pub mod Resolved
 pub mod Same
+pub mod Spelled
 pub mod Spelling
 pub mod Stated
 pub mod There

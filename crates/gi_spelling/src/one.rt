@@ -6,6 +6,7 @@ ghost use Rattle.gi_mir.specs.Numbering.{numbered, numbered_module};
 ghost use Rattle.gi_spelling.specs.Printable.{IsPrintableModule};
 ghost use Rattle.gi_spelling.specs.Printed.{printed};
 ghost use Rattle.gi_spelling.specs.Same.{IsSameModule};
+ghost use Rattle.gi_spelling.specs.Spelled.{IsSpelled};
 ghost use Rattle.gi_spelling.specs.Spelling.{Spells};
 ghost use Rattle.gi_spelling.specs.There.{NamesBlocksThatAreThere};
 
@@ -42,4 +43,15 @@ pub fn numbered_modules_are_printable()
 /// What a text spells is printable where it names no block that isn't there.
 pub fn spelled_modules_are_printable()
     ensures { (text : List ℕ) (m : ModuleData) → Spells text m → NamesBlocksThatAreThere m → IsPrintableModule m }
+{}
+
+/// What some text spells, up to the numbers of registers, is printable with its registers numbered where it names no
+/// block that isn't there.
+pub fn modules_of_texts_are_printable()
+    ensures { (m : ModuleData) → IsSpelled m → NamesBlocksThatAreThere m → IsPrintableModule (numbered_module m) }
+{}
+
+/// What is the same as a module with its registers numbered is printed with the same bytes.
+pub fn same_modules_print_again()
+    ensures { (m n : ModuleData) → IsSameModule (numbered_module m) n → printed (numbered_module n) ≡ printed (numbered_module m) }
 {}
