@@ -14,6 +14,7 @@ use Rattle.gi_spelling.specs.Read.{IsReadModule}
 use Rattle.gi_spelling.specs.Spelling.{Spells}
 use Rattle.gi_spelling.specs.There.{names_blocks_there}
 use Rattle.gi_spelling.proofs.NumberedPrintable.{numbered_printable}
+use Rattle.gi_spelling.proofs.PrintedTexts.{printed_spells}
 use Rattle.gi_spelling.proofs.ReadSpells.{read_spelled}
 use Rattle.gi_spelling.proofs.SpelledPrintable.{spelled_printable}
 use Rattle.gisel.specs.Messages.{not_built}
@@ -50,6 +51,6 @@ kept x read written start stop source reads built wrote =
       old = source;
       new = numbered_module source;
       spells_old = spelled;
-      spells_new = subst (λ bytes. Spells bytes (numbered_module source)) (sym wrote) (printed_spelled (numbered_module source) (numbered_printable source printable));
+      spells_new = subst (λ bytes. Spells bytes (numbered_module source)) (sym wrote) (printed_spells (numbered_module source) (numbered_printable source printable));
       refines = numbered_refine x source.names source.functions;
     }
