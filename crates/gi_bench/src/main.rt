@@ -4,7 +4,9 @@
 
 ghost use Rattle.std.specs.Prelude.{◌≡◌, ◌<◌, ◌≤◌, IfOk, vec_len};
 
+use gi_mir_print::print;
 use gi_mir_read::read_mir;
+use gi_mir::module::Module;
 use gi_text::{LineError, TextError, tokens};
 use std::alloc::{AllocError, Global};
 use std::io;
@@ -65,23 +67,36 @@ fn text_of(alloc: Global, size: usize) -> Result<String, AllocError> {
     Ok(text)
 }
 
-/// Reads a text of about so many bytes, and tells how many functions it has.
-fn read(alloc: Global, size: usize) -> Result<String, AllocError> {
+/// Reads a text of about so many bytes, prints it so many times, and tells how many bytes that gives.
+fn read(alloc: Global, size: usize, times: u32) -> Result<String, AllocError> {
     let text = text_of(alloc, size)?;
     let length = text.len();
     if u32::MAX as usize <= length {
-        return format!(in alloc; "read {length} bytes: too long");
+        return format!(in alloc; "{length} bytes: too long");
     }
     match read_mir(alloc, text.as_bytes()) {
         Ok(m) => {
-            let count = m.functions.len();
-            format!(in alloc; "read {length} bytes {count} functions")
+            let printed = print_often(alloc, &m, times)?;
+            format!(in alloc; "{length} bytes read, {printed} printed")
         }
         Err(TextError::Syntax { line } | TextError::Unknown { line, .. }) => {
-            format!(in alloc; "read {length} bytes: wrong line {line}")
+            format!(in alloc; "{length} bytes: wrong line {line}")
         }
         Err(TextError::Memory) => Err(AllocError),
     }
+}
+
+/// Prints a module so many times, and tells how many bytes the last time gives.
+fn print_often(alloc: Global, m: &Module, times: u32) -> Result<usize, AllocError> {
+    let mut length = 0;
+    for _ in 0..times {
+        let mut text = Vec::new(alloc);
+        if print(m, &mut text).is_err() {
+            return Err(AllocError);
+        }
+        length = text.len();
+    }
+    Ok(length)
 }
 
 /// Does the work that a line asks for.
@@ -94,7 +109,8 @@ fn work(alloc: Global, request: &str) -> Result<String, AllocError> {
     };
     match kind {
         "tokens" => cut(alloc, size.min(GREATEST)),
-        "read" => read(alloc, size.min(GREATEST)),
+        "read" => read(alloc, size.min(GREATEST), 0),
+        "print" => read(alloc, size.min(GREATEST), 4),
         _ => format!(in alloc; "no work in {request:?}"),
     }
 }
