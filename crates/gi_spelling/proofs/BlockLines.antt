@@ -123,7 +123,7 @@ pub record IsInner (line : List ℕ) : Type 0 where
 line_items-pieces : (count : ℕ) (pieces : List Piece) → IsApart pieces → line_items (piece_bytes (Spaces count ∷ pieces)) ≡ Some (piece_lexemes pieces)
 line_items-pieces count pieces apart = tokens_of-pieces (Spaces count ∷ pieces) apart
 
-inner_line : (count : ℕ) (pieces : List Piece) (first : Lexeme) (rest : List Lexeme) → IsApart pieces → piece_lexemes pieces ≡ first ∷ rest
+pub inner_line : (count : ℕ) (pieces : List Piece) (first : Lexeme) (rest : List Lexeme) → IsApart pieces → piece_lexemes pieces ≡ first ∷ rest
     → IsInner (piece_bytes (Spaces (suc count) ∷ pieces))
 inner_line count pieces first rest apart whole =
     let read : tokens_of (piece_bytes (Spaces (suc count) ∷ pieces)) ≡ Some (first ∷ rest) = tokens_of-pieces (Spaces (suc count) ∷ pieces) apart ∙ ap Some whole in

@@ -197,7 +197,7 @@ header_outer layout name legal banked chosen solid =
     )
 
 -- such lines are kept, and each begins an entry with nothing under it
-kept_outer : (lines : List (List ℕ)) → EachLine IsOuter lines → kept_lines lines ≡ lines
+pub kept_outer : (lines : List (List ℕ)) → EachLine IsOuter lines → kept_lines lines ≡ lines
 kept_outer [] each = refl
 kept_outer (line ∷ lines) each = rw (each.0.kept) (ap (λ more. line ∷ more) (kept_outer lines each.1))
 
@@ -205,19 +205,19 @@ abbrev pub bare : List (List ℕ) → List Section
 bare [] = []
 bare (line ∷ lines) = record { head = line; under = [] } ∷ bare lines
 
-bare_sections : (xs ys : List (List ℕ)) (sections : List Section) → EachLine IsOuter xs → sections_of is_at_column_one ys ≡ record { before = []; sections = sections }
+pub bare_sections : (xs ys : List (List ℕ)) (sections : List Section) → EachLine IsOuter xs → sections_of is_at_column_one ys ≡ record { before = []; sections = sections }
     → sections_of is_at_column_one (xs ++ ys) ≡ record { before = []; sections = bare xs ++ sections }
 bare_sections [] ys sections each e = e
 bare_sections (line ∷ xs) ys sections each e = rw (each.0.at_column_one) (ap (with_head line) (bare_sections xs ys sections each.1 e))
 
-blank_at_no_column : (line : List ℕ) → IsInner line → is_at_column_one line ≡ false
+pub blank_at_no_column : (line : List ℕ) → IsInner line → is_at_column_one line ≡ false
 blank_at_no_column line inner = go line inner.indented
   where
     go : (line : List ℕ) → begins_blank line ≡ true → is_at_column_one line ≡ false
     go [] blank = refl
     go (byte ∷ rest) blank = rw blank refl
 
-body_sections : (line : List ℕ) (lines : List (List ℕ)) → is_at_column_one line ≡ true → EachLine IsInner lines
+pub body_sections : (line : List ℕ) (lines : List (List ℕ)) → is_at_column_one line ≡ true → EachLine IsInner lines
     → sections_of is_at_column_one (line ∷ lines) ≡ record { before = []; sections = record { head = line; under = lines } ∷ [] }
 body_sections line lines first each =
     let Goal : List (List ℕ) → Type 0 = λ under. sections_of is_at_column_one under ≡ record { before = lines; sections = [] } in
@@ -252,10 +252,10 @@ function_sections layout names f =
     bare (header_lines layout (name_at names f.name) f.legalized f.banked f.selected)
     ++ (record { head = body_line layout; under = kept_blocks (kind_of f) names 0 (length f.blocks) f.blocks } ∷ [])
 
-outer_no_end : (line : List ℕ) → IsOuter line → is_end line ≡ false
+pub outer_no_end : (line : List ℕ) → IsOuter line → is_end line ≡ false
 outer_no_end line outer = outer.no_end
 
-inner_no_end : (line : List ℕ) → IsInner line → is_end line ≡ false
+pub inner_no_end : (line : List ℕ) → IsInner line → is_end line ≡ false
 inner_no_end line inner = no_end line (begins_no_dot line inner.indented)
 
 pub kept_function : (layout : Layout) (names : List (List ℕ)) (f : FunctionData) → IsPrintable names f
@@ -302,7 +302,7 @@ pub function_lines-front : (layout : Layout) (names : List (List ℕ)) (f : Func
 function_lines-front layout names f =
     sym (append_assoc (header_lines layout (name_at names f.name) f.legalized f.banked f.selected) (body_line layout ∷ blocks_lines (kind_of f) names 0 (length f.blocks) f.blocks) (end_lines layout.closed))
 
-each_unended : (lines : List (List ℕ)) → EachLine (λ line. is_end line ≡ false) lines → list_all (λ line. not (is_end line)) lines ≡ true
+pub each_unended : (lines : List (List ℕ)) → EachLine (λ line. is_end line ≡ false) lines → list_all (λ line. not (is_end line)) lines ≡ true
 each_unended [] each = refl
 each_unended (line ∷ lines) each = rw (each.0) (each_unended lines each.1)
 

@@ -8,6 +8,7 @@ pub mod InstrPieces
 pub mod ItemBounds
 pub mod ItemParts
 pub mod KeptLines
+pub mod NamePlaces
 pub mod NamedLemmas
 pub mod NumberedAgain
 pub mod NumberedPrintable
@@ -16,6 +17,15 @@ pub mod Numerals
 pub mod OneModule
 pub mod PlacedLines
 pub mod PrintExamples
+pub mod PrintedBlocks
+pub mod PrintedDocuments
+pub mod PrintedForms
+pub mod PrintedInstrs
+pub mod PrintedOperands
+pub mod PrintedPieces
+pub mod PrintedSources
+pub mod PrintedStacks
+pub mod PrintedTexts
 pub mod PrintedTokens
 pub mod ReadBlocks
 pub mod ReadHeads

@@ -165,7 +165,7 @@ pub read_line : (text : List ℕ) (line : Line) (bytes : List ℕ) (ws : List Wh
 read_line text line bytes ws is reads = read_range text line.start (end_of line) bytes ws (line_slice text line bytes is) reads
 
 -- the end of a line
-drop_next : (n : ℕ) (xs ys : List ℕ) (x : ℕ) → drop n xs ≡ x ∷ ys → drop (suc n) xs ≡ ys
+pub drop_next : (n : ℕ) (xs ys : List ℕ) (x : ℕ) → drop n xs ≡ x ∷ ys → drop (suc n) xs ≡ ys
 drop_next zero [] ys x is = cc
 drop_next zero (z ∷ xs) ys x is = cc
 drop_next (suc n) [] ys x is = cc

@@ -41,7 +41,7 @@ all_digits : (bytes : List ℕ) → is_digits bytes ≡ true → list_all is_dig
 all_digits [] some = refl
 all_digits (byte ∷ bytes) some = some
 
-numeral_alone : (bound n : ℕ) → n < 10 ^ 64 → n < bound + 1 → numeral_before_name bound (decimal n) ≡ Some n
+pub numeral_alone : (bound n : ℕ) → n < 10 ^ 64 → n < bound + 1 → numeral_before_name bound (decimal n) ≡ Some n
 numeral_alone bound n within small = rw (past_digits (decimal n) (all_digits (decimal n) (decimal_digits n))) (numeral-decimal bound n within small)
 
 pub head_is : (n : ℕ) → n < 4294901760 → word_of (codes "bb." ++ decimal n) ≡ word.BlockHead n

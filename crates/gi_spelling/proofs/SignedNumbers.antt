@@ -15,7 +15,7 @@ use Rattle.gi_spelling.specs.Words.{number_written}
 use Rattle.gi_spelling.specs.Resolved.{is_in_width, constant_value, resolved_constant}
 use Rattle.gi_spelling.proofs.Numerals.{decimal_value}
 
-digit_no_minus : (byte : ℕ) → is_digit byte ≡ true → (byte == 45) ≡ false
+pub digit_no_minus : (byte : ℕ) → is_digit byte ≡ true → (byte == 45) ≡ false
 digit_no_minus byte digit = grind (arith, nat_tests)
 
 digit_no_letter : (byte : ℕ) → is_digit byte ≡ true → (byte == 120) ≡ false
@@ -66,7 +66,7 @@ in_width value power within = grind (arith, nat_tests)
 below_in_width : (size half : ℕ) → size ≤ half → nat_le size half ≡ true
 below_in_width size half within = grind (arith, nat_tests)
 
-plain_constant : (bits value : ℕ) → value < 2 ^ bits → resolved_constant bits (record { negative = false; size = value }) ≡ Some (operand.Constant bits value)
+pub plain_constant : (bits value : ℕ) → value < 2 ^ bits → resolved_constant bits (record { negative = false; size = value }) ≡ Some (operand.Constant bits value)
 plain_constant bits value within = rw (in_width value (2 ^ bits) within) refl
 
 negative_constant : (k n value : ℕ) → k < 128 → 2 ^ suc k ≡ 2 ^ k * 2 → 2 ^ k ≤ value → value < 2 ^ suc k → suc n ≡ 2 ^ suc k - value → 0 < 2 ^ k
@@ -84,7 +84,7 @@ negative_constant k n value small twice above within size some =
     let valued : constant_value (suc k) (record { negative = true; size = suc n }) ≡ value = rw (some_size, least, whole, back, kept) refl in
     rw (fine, valued) refl
 
-signed_low : (k value : ℕ) → value < 2 ^ k → signed (suc k) value ≡ pos value
+pub signed_low : (k value : ℕ) → value < 2 ^ k → signed (suc k) value ≡ pos value
 signed_low k value below =
     let less : suc k - 1 ≡ k = omega arith in
     let test : nat_lt value (2 ^ k) ≡ true = in_width value (2 ^ k) below in

@@ -38,7 +38,7 @@ entries_by layout name under legal banked chosen tracks =
     ++ (record { head = body_line layout; under = under } ∷ [])
 
 -- what holds whichever of four flags are set
-by_flags : (P : Bool → Bool → Bool → Bool → Type 0)
+pub by_flags : (P : Bool → Bool → Bool → Bool → Type 0)
     → P true true true true
     → P true true true false
     → P true true false true
@@ -74,7 +74,7 @@ by_flags P p0 p1 p2 p3 p4 p5 p6 p7 p8 p9 p10 p11 p12 p13 p14 p15 false false fal
 by_flags P p0 p1 p2 p3 p4 p5 p6 p7 p8 p9 p10 p11 p12 p13 p14 p15 false false false false = p15
 
 -- an entry of a key, by its bytes
-abbrev keyed_as : (key : List ℕ) → Section → Bool
+abbrev pub keyed_as : (key : List ℕ) → Section → Bool
 keyed_as key section = is_entry section.head && bytes_eq (key_of section.head) key
 
 keyed_by : (layout : Layout) (name : List ℕ) (under : List (List ℕ)) (legal banked chosen tracks : Bool)
@@ -82,7 +82,7 @@ keyed_by : (layout : Layout) (name : List ℕ) (under : List (List ℕ)) (legal 
 keyed_by layout name under legal banked chosen tracks =
     by_flags (λ a b c d. list_all (λ (section : Section). is_entry section.head) (entries_by layout name under a b c d) ≡ true) refl refl refl refl refl refl refl refl refl refl refl refl refl refl refl refl legal banked chosen tracks
 
-abbrev alone : List ℕ → List Section
+abbrev pub alone : List ℕ → List Section
 alone line = record { head = line; under = [] } ∷ []
 
 named_by : (layout : Layout) (name : List ℕ) (under : List (List ℕ)) (legal banked chosen tracks : Bool)
@@ -127,16 +127,16 @@ body_by layout name under legal banked chosen tracks =
 
 -- ══ Values ══
 
-reads_spaced : (gap : ℕ) (value : List ℕ) (ws : List What) → Reads value ws → Reads (replicate gap 32 ++ value) ws
+pub reads_spaced : (gap : ℕ) (value : List ℕ) (ws : List What) → Reads value ws → Reads (replicate gap 32 ++ value) ws
 reads_spaced gap value ws reads = record { lexemes = reads.lexemes; read = tokens_past-spaces gap value ∙ reads.read; sized = reads.sized; same = reads.same }
 
-reads_true : Reads (codes "true") (word_what word.True ∷ [])
+pub reads_true : Reads (codes "true") (word_what word.True ∷ [])
 reads_true = record { lexemes = lexeme OfWord (codes "true") ∷ []; read = refl; sized = refl; same = refl }
 
-reads_bar : Reads (codes "|") (what.Bar ∷ [])
+pub reads_bar : Reads (codes "|") (what.Bar ∷ [])
 reads_bar = record { lexemes = lexeme OfMark (codes "|") ∷ []; read = refl; sized = refl; same = refl }
 
-value_is : (text : List ℕ) (section : LineSection) (key back : List ℕ) (ws : List What) → IsLine text section.head (key ++ (58 ∷ back)) → behind_colon (key ++ (58 ∷ back)) ≡ back → Reads back ws
+pub value_is : (text : List ℕ) (section : LineSection) (key back : List ℕ) (ws : List What) → IsLine text section.head (key ++ (58 ∷ back)) → behind_colon (key ++ (58 ∷ back)) ≡ back → Reads back ws
     → value_whats text section ≡ Some ws
 value_is text section key back ws is behind reads =
     let line = section.head in
@@ -149,11 +149,11 @@ value_is text section key back ws is behind reads =
 
 -- ══ Sections one by one ══
 
-none_zip : {A B : Type 0} (R : A → B → Type 0) (xs : List A) → AllZip R xs [] → xs ≡ []
+pub none_zip : {A B : Type 0} (R : A → B → Type 0) (xs : List A) → AllZip R xs [] → xs ≡ []
 none_zip R [] all = refl
 none_zip R (x ∷ xs) all = absurd all
 
-one_zip : {A B : Type 0} (R : A → B → Type 0) (xs : List A) (y : B) → AllZip R xs (y ∷ []) → (x : A) × (xs ≡ x ∷ []) × R x y
+pub one_zip : {A B : Type 0} (R : A → B → Type 0) (xs : List A) (y : B) → AllZip R xs (y ∷ []) → (x : A) × (xs ≡ x ∷ []) × R x y
 one_zip R [] y all = absurd all
 one_zip R (x ∷ []) y all = (x, refl, all.0)
 one_zip R (x ∷ next ∷ xs) y all = absurd all.1
@@ -161,12 +161,12 @@ one_zip R (x ∷ next ∷ xs) y all = absurd all.1
 keyed_same : (text key : List ℕ) (section : LineSection) (known : Section) → SectionsAgree (IsLine text) section known → is_entry_of key section ≡ keyed_as key known
 keyed_same text key section known agree = ap (λ bytes. is_entry bytes && bytes_eq (key_of bytes) key) agree.head.same
 
-with_key : (text key : List ℕ) (sections : List LineSection) (known found : List Section) → AllZip (SectionsAgree (IsLine text)) sections known → filter (keyed_as key) known ≡ found
+pub with_key : (text key : List ℕ) (sections : List LineSection) (known found : List Section) → AllZip (SectionsAgree (IsLine text)) sections known → filter (keyed_as key) known ≡ found
     → AllZip (SectionsAgree (IsLine text)) (entries_with key sections) found
 with_key text key sections known found agree e =
     subst (AllZip (SectionsAgree (IsLine text)) (entries_with key sections)) e (filter_zip (SectionsAgree (IsLine text)) (is_entry_of key) (keyed_as key) (keyed_same text key) sections known agree)
 
-all_keyed : (text : List ℕ) (sections : List LineSection) (known : List Section) → AllZip (SectionsAgree (IsLine text)) sections known → list_all (λ (section : Section). is_entry section.head) known ≡ true
+pub all_keyed : (text : List ℕ) (sections : List LineSection) (known : List Section) → AllZip (SectionsAgree (IsLine text)) sections known → list_all (λ (section : Section). is_entry section.head) known ≡ true
     → list_all (λ (section : LineSection). is_entry section.head.bytes) sections ≡ true
 all_keyed text [] known agree e = refl
 all_keyed text (section ∷ sections) [] agree e = absurd agree
@@ -174,7 +174,7 @@ all_keyed text (section ∷ sections) (known ∷ more) agree e =
     let parts = and_parts (is_entry known.head) (list_all (λ (section : Section). is_entry section.head) more) e in
     both_true (ap is_entry agree.0.head.same ∙ parts.0) (all_keyed text sections more agree.1 parts.1)
 
-truth_spelled : (text key : List ℕ) (gap : ℕ) (truth : Bool) (sections : List LineSection) → behind_colon (entry_line key gap (codes "true")) ≡ replicate gap 32 ++ codes "true"
+pub truth_spelled : (text key : List ℕ) (gap : ℕ) (truth : Bool) (sections : List LineSection) → behind_colon (entry_line key gap (codes "true")) ≡ replicate gap 32 ++ codes "true"
     → AllZip (SectionsAgree (IsLine text)) sections (if truth then alone (entry_line key gap (codes "true")) else []) → SpellsTruth text sections truth
 truth_spelled text key gap false [] behind agree = refl
 truth_spelled text key gap false (section ∷ sections) behind agree = absurd agree
@@ -185,7 +185,7 @@ truth_spelled text key gap true (section ∷ []) behind agree = (
 )
 truth_spelled text key gap true (section ∷ next ∷ sections) behind agree = absurd agree.1
 
-name_spelled : (text name : List ℕ) (gap : ℕ) (sections : List LineSection) → is_name name ≡ true → AllZip (SectionsAgree (IsLine text)) sections (alone (entry_line (codes "name") gap name))
+pub name_spelled : (text name : List ℕ) (gap : ℕ) (sections : List LineSection) → is_name name ≡ true → AllZip (SectionsAgree (IsLine text)) sections (alone (entry_line (codes "name") gap name))
     → SpellsName name sections
 name_spelled text name gap [] named agree = absurd agree
 name_spelled text name gap (section ∷ []) named agree = (
@@ -282,23 +282,23 @@ entries_spelled text layout names f sections function agree =
 
 -- ══ A document ══
 
-ends_same : (text : List ℕ) (line : Line) (bytes : List ℕ) → IsLine text line bytes → not (line_specs.is_end line.bytes) ≡ not (is_end bytes)
+pub ends_same : (text : List ℕ) (line : Line) (bytes : List ℕ) → IsLine text line bytes → not (line_specs.is_end line.bytes) ≡ not (is_end bytes)
 ends_same text line bytes is = ap (λ bytes. not (is_end bytes)) is.same
 
-drops_same : (text : List ℕ) (line : Line) (bytes : List ℕ) → IsLine text line bytes → not (line_specs.is_dropped line.bytes) ≡ not (is_dropped bytes)
+pub drops_same : (text : List ℕ) (line : Line) (bytes : List ℕ) → IsLine text line bytes → not (line_specs.is_dropped line.bytes) ≡ not (is_dropped bytes)
 drops_same text line bytes is = ap (λ bytes. not (is_dropped bytes)) is.same
 
-column_same : (text : List ℕ) (line : Line) (bytes : List ℕ) → IsLine text line bytes → line_specs.is_at_column_one line ≡ is_at_column_one bytes
+pub column_same : (text : List ℕ) (line : Line) (bytes : List ℕ) → IsLine text line bytes → line_specs.is_at_column_one line ≡ is_at_column_one bytes
 column_same text line bytes is = ap is_at_column_one is.same
 
-starts_same : (text : List ℕ) (line : Line) (bytes : List ℕ) → IsLine text line bytes → line_specs.starts line ≡ is_start bytes
+pub starts_same : (text : List ℕ) (line : Line) (bytes : List ℕ) → IsLine text line bytes → line_specs.starts line ≡ is_start bytes
 starts_same text line bytes is = ap is_start is.same
 
-end_stops : (closed : Bool) → is_stopped (λ line. not (is_end line)) (end_lines closed) ≡ true
+pub end_stops : (closed : Bool) → is_stopped (λ line. not (is_end line)) (end_lines closed) ≡ true
 end_stops true = refl
 end_stops false = refl
 
-no_strays_behind : (text : List ℕ) (closed : Bool) (lines : List Line) → AllZip (IsLine text) lines (end_lines closed) → filter is_stray (without_line lines) ≡ []
+pub no_strays_behind : (text : List ℕ) (closed : Bool) (lines : List Line) → AllZip (IsLine text) lines (end_lines closed) → filter is_stray (without_line lines) ≡ []
 no_strays_behind text true [] all = absurd all
 no_strays_behind text true (line ∷ []) all = refl
 no_strays_behind text true (line ∷ next ∷ lines) all = absurd all.1

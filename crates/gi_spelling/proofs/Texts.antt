@@ -258,7 +258,7 @@ documents_feeds layout names (f ∷ functions) all = (
 )
 
 -- the layout of printed text
-abbrev printed_layout : Layout
+abbrev pub printed_layout : Layout
 printed_layout = record { name = 12; legal = 7; banked = 1; chosen = 8; body = 13; tracks = true; closed = true }
 
 printed_header : (name : List ℕ) (legal banked chosen : Bool) (rest : List (List ℕ))

@@ -18,7 +18,7 @@ ghost use Rattle.gi_spelling.specs.declared.written.Fault.TheVariants as fault;
 ghost use Rattle.gi_spelling.specs.declared.token.Item.{Item};
 ghost use Rattle.gi_spelling.specs.AddExample.{generic_module, selected_module, stated_text, selected_text};
 ghost use Rattle.gi_mir.specs.Data.{ModuleData};
-ghost use Rattle.gi_spelling.specs.PlainPrintable.{IsPrintableModule};
+ghost use Rattle.gi_spelling.specs.Printable.{IsPrintableModule};
 ghost use Rattle.gi_spelling.specs.Printed.{printed};
 ghost use Rattle.gi_spelling.specs.Plain.{Spells as SpellsPlainly};
 ghost use Rattle.gi_spelling.specs.Stated.{IsStatedText};
@@ -56,7 +56,7 @@ pub fn example_lines()
 
 /// The printed text of a module spells that module.
 pub fn printed_text_spells()
-    ensures { (m : ModuleData) → IsPrintableModule m → SpellsPlainly (printed m) m }
+    ensures { (m : ModuleData) → IsPrintableModule m → Spells (printed m) m }
 {}
 
 /// A text as the program takes it so far spells its module.
