@@ -1,5 +1,6 @@
 pub mod AddRuns
 pub mod AnswerLemmas
+pub mod AnyTexts
 pub mod BodyLemmas
 pub mod BuildLemmas
 pub mod ChosenLemmas
@@ -17,6 +18,7 @@ pub mod NormalForms
 pub mod OptionLemmas
 pub mod ReadLemmas
 pub mod RefusedLemmas
+pub mod SameRuns
 pub mod SelectFits
 pub mod SelectFronts
 pub mod SelectLoops
