@@ -55,3 +55,23 @@ pub fn modules_of_texts_are_printable()
 pub fn same_modules_print_again()
     ensures { (m n : ModuleData) → IsSameModule (numbered_module m) n → printed (numbered_module n) ≡ printed (numbered_module m) }
 {}
+
+/// The printed text of a printable module, whose registers it numbers by first appearance, spells no other module: what
+/// is read of it is the same, and is printed with the same bytes.
+pub fn printed_text_reads_back()
+    ensures spelled { (m : ModuleData) → IsPrintableModule m → Spells (printed (numbered_module m)) (numbered_module m) }
+    ensures same { (m n : ModuleData) → IsPrintableModule m → Spells (printed (numbered_module m)) n → IsSameModule (numbered_module m) n }
+    ensures again { (m n : ModuleData) → IsPrintableModule m → Spells (printed (numbered_module m)) n → printed (numbered_module n) ≡ printed (numbered_module m) }
+{}
+
+/// The same holds of what some text spells up to the numbers of registers, where it names no block that isn't there.
+pub fn modules_of_texts_read_back()
+    ensures spelled { (m : ModuleData) → IsSpelled m → NamesBlocksThatAreThere m → Spells (printed (numbered_module m)) (numbered_module m) }
+    ensures same { (m n : ModuleData) → IsSpelled m → NamesBlocksThatAreThere m → Spells (printed (numbered_module m)) n → IsSameModule (numbered_module m) n }
+    ensures again { (m n : ModuleData) → IsSpelled m → NamesBlocksThatAreThere m → Spells (printed (numbered_module m)) n → printed (numbered_module n) ≡ printed (numbered_module m) }
+{}
+
+/// Printable modules that are printed alike are the same.
+pub fn modules_printed_alike_are_the_same()
+    ensures { (m n : ModuleData) → IsPrintableModule m → IsPrintableModule n → printed m ≡ printed n → IsSameModule m n }
+{}

@@ -1,5 +1,6 @@
 pub mod AddRuns
 pub mod AnswerLemmas
+pub mod AnyTexts
 pub mod BodyLemmas
 pub mod BuildLemmas
 pub mod ChosenLemmas
@@ -18,6 +19,7 @@ pub mod OptionLemmas
 pub mod PrintedLaws
 pub mod ReadLemmas
 pub mod RefusedLemmas
+pub mod SameRuns
 pub mod SelectFits
 pub mod SelectFronts
 pub mod SelectLoops

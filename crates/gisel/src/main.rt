@@ -18,6 +18,7 @@ mod normal_form;
 mod options;
 mod read;
 mod refusal;
+mod same;
 mod select;
 mod standing;
 mod statement;
