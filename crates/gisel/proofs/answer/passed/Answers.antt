@@ -1,14 +1,23 @@
-use Rattle.std.proofs.Common.{◌≡◌, true, false, ◌∙◌, sym, ap}
-use Rattle.gisel.specs.Answers.{selects, first_of}
-use Rattle.gisel.specs.Options.{OptionsData}
-use Rattle.gisel.proofs.AnswerLemmas.{tells_not_built, not_stated}
+use Rattle.std.proofs.Common.{rules, ◌≡◌, None, subst}
+use Rattle.std.specs.Prelude.{IfSome}
+use Rattle.gi_mir.specs.Numbering.{numbered_module}
+use Rattle.gi_spelling.specs.Printed.{printed}
+use Rattle.gisel.specs.Machine.{width_of}
+use Rattle.gisel.specs.Promise.{Compiles, IsCompiled}
+use Rattle.gisel.specs.Unrun.{unbuilt}
+use Rattle.gisel.proofs.AnswerLemmas.{each_right, its_compiled}
+use Rattle.gisel.proofs.PrintedLaws.{kept}
 use Rattle.gisel.proofs.answer.passed.Goals as goal
-use Rattle.gisel.proofs.answer.passed.Goals.{then-selects+in-Err-NotBuilt, else-selects}
 
-pub returns-clause-refused : goal.returns-clause-refused
-returns-clause-refused c = tells_not_built _ c.args.text.now c.args.start c.args.machine c.requires.passes
-    (elim c.if-selects.branch [
-      | then-selects+in-Err-NotBuilt w ↦ λ built. not_stated c.args.text.now w.in-Err-NotBuilt.field-0-0 w.in-Err-NotBuilt.field-0 w.in-Err-NotBuilt.field-0-is w.in-Err-NotBuilt.ensures.refused
-      | else-selects w ↦ λ built stated. (let no : true ≡ false = sym built ∙ ap (λ (o : OptionsData). selects c.args.start o.stop c.args.machine) (sym c.options.view_is) ∙ sym c.selects.ensures ∙ w.if-selects.false in cc)
-    ])
-    _ (c.first_of.ensures ∙ ap (λ (o : OptionsData). first_of c.args.start o.stop) c.options.view_is) c.refused_pass.result c.refused_pass.ensures
+pub returns-in-Some-clause-compiled : goal.returns-in-Some-clause-compiled
+returns-in-Some-clause-compiled c =
+    its_compiled c.args.options.now c.args.text.now c.in-Some.written.items c.args.start c.args.machine c.args.m.now c.requires.passes
+    (subst (λ found. IfSome found (λ written. Compiles (width_of c.args.machine) c.args.text.now written.items)) c.in-Some.is c.in_ok-written.ensures.compiled)
+
+pub returns-clause-compiled : goal.returns-clause-compiled
+returns-clause-compiled c =
+    let built : unbuilt c.args.start c.args.options.now.stop c.args.m.now.functions ≡ None = search rules in
+    each_right (λ text. text.items ≡ printed (numbered_module c.args.m.now)) (λ written. IsCompiled c.args.options.now c.args.text.now written.items) c.printed.result
+    (λ text same. its_compiled c.args.options.now c.args.text.now text.items c.args.start c.args.machine c.args.m.now c.requires.passes
+        (kept (width_of c.args.machine) c.args.text.now text.items c.args.start c.args.options.now.stop c.args.m.now c.requires.passes.reads built same))
+    c.printed.ensures.text
