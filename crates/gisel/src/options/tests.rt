@@ -1,5 +1,6 @@
 //! The words of the command line, by tables.
 
+use crate::machine::Machine;
 use crate::options::Options;
 use gi_observe::Pass;
 use std::alloc::Global;
@@ -92,7 +93,7 @@ fn tells_what_is_asked_for(rt: HostRuntime) -> Result<(), Fail> {
         ("-", None, None, Pass::Select, None, None),
         (
             "-mtriple=riscv32 --start-after=legalizer",
-            Some(32u16),
+            Some(Machine::Riscv32),
             Some(Pass::Legalizer),
             Pass::Select,
             None,
@@ -100,7 +101,7 @@ fn tells_what_is_asked_for(rt: HostRuntime) -> Result<(), Fail> {
         ),
         (
             "a.mir -mattr=+m --mtriple=riscv64-unknown-elf -o - -global-isel -stop-after=regbankselect",
-            Some(64),
+            Some(Machine::Riscv64),
             None,
             Pass::RegBankSelect,
             Some("a.mir"),

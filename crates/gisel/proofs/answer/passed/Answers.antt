@@ -19,5 +19,5 @@ returns-clause-compiled c =
     let built : unbuilt c.args.start c.args.options.now.stop c.args.m.now.functions ≡ None = search rules in
     each_right (λ text. text.items ≡ printed (numbered_module c.args.m.now)) (λ written. IsCompiled c.args.options.now c.args.text.now written.items) c.printed.result
     (λ text same. its_compiled c.args.options.now c.args.text.now text.items c.args.start c.args.machine c.args.m.now c.requires.passes
-        (kept (width_of c.args.machine) c.args.text.now text.items c.args.start c.args.options.now.stop c.args.m.now c.requires.passes.reads built same))
+    (kept (width_of c.args.machine) c.args.text.now text.items c.args.start c.args.options.now.stop c.args.m.now c.requires.passes.reads built same))
     c.printed.ensures.text
