@@ -29,16 +29,25 @@ is_printable = record {
       objects = refl;
       few_blocks = refl;
       live_first = refl;
-      blocks = (record {
-        successors = refl;
-        instrs = (
-          record { formed = refl; operands = refl; memory = refl },
-          (record { formed = refl; operands = refl; memory = refl },
-          (record { formed = refl; operands = refl; memory = refl },
-          (record { formed = refl; operands = refl; memory = refl },
-          (record { formed = refl; operands = refl; memory = refl }, tt)))),
-        );
-      }, tt);
+      blocks = (
+        record {
+          successors = refl;
+          instrs = (
+            record { formed = refl; operands = refl; memory = refl },
+            (
+              record { formed = refl; operands = refl; memory = refl },
+              (
+                record { formed = refl; operands = refl; memory = refl },
+                (
+                  record { formed = refl; operands = refl; memory = refl },
+                  (record { formed = refl; operands = refl; memory = refl }, tt),
+                ),
+              ),
+            ),
+          );
+        },
+        tt,
+      );
     },
     tt,
   );

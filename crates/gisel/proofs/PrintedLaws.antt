@@ -36,12 +36,14 @@ there start stop (f ∷ functions) h = by (runs_none start stop) (list_all names
 -- the numbers of registers don't matter to a run
 numbered_refine : (x : ℕ) (names : List (List ℕ)) (functions : List FunctionData) → AllZip (Refines x names names) functions (map numbered functions)
 numbered_refine x names [] = tt
-numbered_refine x names (f ∷ functions) =
-    (record {
-      name = refl;
-      runs = λ world is_world n outcome run.
-          (refines_itself x names f).runs world is_world n outcome (runs_renamed (number_in (order_of f)) (number_in_apart (order_of f)) x names f world n outcome run);
-    }, numbered_refine x names functions)
+numbered_refine x names (f ∷ functions) = (
+  record {
+    name = refl;
+    runs = λ world is_world n outcome run.
+        (refines_itself x names f).runs world is_world n outcome (runs_renamed (number_in (order_of f)) (number_in_apart (order_of f)) x names f world n outcome run);
+  },
+  numbered_refine x names functions,
+)
 
 pub kept : (x : ℕ) (read written : List ℕ) (start stop : Pass) (source : ModuleData) → IsReadModule read source → unbuilt start stop source.functions ≡ None → written ≡ printed (numbered_module source) → Compiles x read written
 kept x read written start stop source reads built wrote =
