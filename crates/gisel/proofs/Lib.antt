@@ -26,6 +26,7 @@ pub mod SelectLoops
 pub mod SelectRuns
 pub mod SelectShapes
 pub mod SelectSteps
+pub mod SelectedPrintable
 pub mod StandingLemmas
 pub mod TextLaws
 pub mod TextLemmas
