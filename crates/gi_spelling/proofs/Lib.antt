@@ -47,7 +47,6 @@ pub mod SpelledReads
 pub mod SpelledRight
 pub mod SpellingExamples
 pub mod StatedLines
-pub mod StatedSpells
 pub mod StatedTexts
 pub mod TextSpells
 pub mod Texts

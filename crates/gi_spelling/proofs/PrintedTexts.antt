@@ -29,7 +29,7 @@ use Rattle.gi_spelling.proofs.Zips.{run_zip, past_zip, SectionsAgree, AllAgree, 
 
 -- ══ Documents one after the other ══
 
-abbrev documents_lines : Layout → (names : List (List ℕ)) → List FunctionData → List (List ℕ)
+abbrev pub documents_lines : Layout → (names : List (List ℕ)) → List FunctionData → List (List ℕ)
 documents_lines layout names [] = []
 documents_lines layout names (f ∷ functions) = codes "---" ∷ (function_lines layout names f ++ documents_lines layout names functions)
 

@@ -324,7 +324,7 @@ name_bytes_words (byte ∷ bytes) all =
     let parts = and_parts (is_name_byte byte) (list_all is_name_byte bytes) all in
     both_true (name_byte_word byte parts.0) (name_bytes_words bytes parts.1)
 
-stated_name : (name : List ℕ) → is_stated_name name ≡ true → is_name name ≡ true
+pub stated_name : (name : List ℕ) → is_stated_name name ≡ true → is_name name ≡ true
 stated_name [] named = named
 stated_name (byte ∷ more) named = name_bytes_words (byte ∷ more) named
 
