@@ -1,31 +1,23 @@
 -- What entries and lines of a printed document spell, one by one.
-use Rattle.std.proofs.Common.{◌≡◌, ℕ, ◌-◌, Bool, true, false, List, [], ◌∷◌, ◌++◌, length, Some, None, map, sym, refl, ap, ◌∙◌, subst, append_assoc}
-use Rattle.std.specs.Prelude.{◌&&◌, not, filter, bytes_eq, option_map, replicate, codes, ⊤, if◌then◌else◌}
+use Rattle.std.proofs.Common.{◌≡◌, ℕ, ◌-◌, Bool, true, false, List, [], ◌∷◌, ◌++◌, length, Some, map, sym, refl, ap, ◌∙◌, subst, append_assoc}
+use Rattle.std.specs.Prelude.{◌&&◌, not, filter, bytes_eq, option_map, replicate, codes, if◌then◌else◌}
 use Rattle.std.specs.List.{list_all, AllZip}
 use Rattle.std.specs.Cmp.Derive.{both_true}
 use Rattle.std.proofs.lemmas.Bool.{and_parts}
-use Rattle.gi_llt.specs.Tokens.{lexeme, Word as OfWord, Mark as OfMark, past_run}
-use Rattle.gi_llt.proofs.Pieces.{is_stopped, run_of-append, past_run-append, tokens_past-spaces}
-use Rattle.gi_mir.specs.Data.{FunctionData, ModuleData}
-use Rattle.gi_mir.specs.Registers.{kind_of}
+use Rattle.gi_llt.specs.Tokens.{lexeme, Word as OfWord, Mark as OfMark}
+use Rattle.gi_llt.proofs.Pieces.{is_stopped, tokens_past-spaces}
 use Rattle.gi_spelling.specs.declared.token.Word.TheVariants as word
 use Rattle.gi_spelling.specs.declared.token.What.{What}
 use Rattle.gi_spelling.specs.declared.token.What.TheVariants as what
 use Rattle.gi_spelling.specs.Items.{items_in, end_of, what_in}
 use Rattle.gi_spelling.specs.Lines as line_specs
-use Rattle.gi_spelling.specs.Lines.{Line, Section as LineSection, Sections as LineSections, behind_colon, is_entry, key_of, is_entry_of, in_documents, Parts, parts_of_text, document_lines, document_rest, document_strays, document_entries, without_line, is_stray, counted_lines, lines_in}
-use Rattle.gi_spelling.specs.Resolved.{Tables}
-use Rattle.gi_spelling.specs.Blocks.{is_block_head as is_head_line, blocks_in, block_numbers}
-use Rattle.gi_spelling.specs.Documents.{is_name, entries_of, ir_wrongs}
-use Rattle.gi_spelling.specs.Spelling.{word_what, types_in, SpellsBlocks, entries_with, value_whats, SpellsTruth, Lists, SpellsName, SpellsBody, are_distinct, SpellsEntries, SpellsDocument, Spells}
-use Rattle.gi_spelling.specs.Printed.{name_at, key_lines}
-use Rattle.gi_spelling.specs.Plain.{lines_of, is_dropped, is_start, is_end, is_at_column_one, Section, Sections, sections_of, kept_lines, value_bytes, is_block_head}
-use Rattle.gi_spelling.specs.PlainPrintable.{IsPrintable}
-use Rattle.gi_spelling.proofs.PlacedLines.{IsLine, lines_placed, Reads, read_range, back_slice}
-use Rattle.gi_spelling.proofs.Zips.{filter_zip, run_zip, past_zip, SectionsAgree, AllAgree, sections_zip}
-use Rattle.gi_spelling.proofs.Blocks.{kept_blocks, block_sections, sections_of-blocks}
-use Rattle.gi_spelling.proofs.BlockSpells.{TellsLine, zip_each, all_told, AreBlocksOf, blocks_tell, blocks_spelled, places_from, numbers_are, places_distinct, places_count, tells_head}
-use Rattle.gi_spelling.proofs.Documents.{entry_line, value_bytes-gap, name_solid, Layout, end_lines, body_line, function_lines, bare, function_sections, front_lines, function_lines-front, front_unended, sections_of-front}
+use Rattle.gi_spelling.specs.Lines.{Line, Section as LineSection, behind_colon, is_entry, key_of, is_entry_of, without_line, is_stray}
+use Rattle.gi_spelling.specs.Documents.{is_name}
+use Rattle.gi_spelling.specs.Spelling.{word_what, entries_with, value_whats, SpellsTruth, SpellsName}
+use Rattle.gi_spelling.specs.Plain.{is_dropped, is_start, is_end, is_at_column_one, Section, value_bytes}
+use Rattle.gi_spelling.proofs.PlacedLines.{IsLine, Reads, read_range, back_slice}
+use Rattle.gi_spelling.proofs.Zips.{filter_zip, SectionsAgree}
+use Rattle.gi_spelling.proofs.Documents.{entry_line, value_bytes-gap, name_solid, end_lines}
 
 -- what holds whichever of four flags are set
 pub by_flags : (P : Bool → Bool → Bool → Bool → Type 0)
