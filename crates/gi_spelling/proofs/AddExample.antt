@@ -1,13 +1,18 @@
 -- The example's texts spell its two modules.
-use Rattle.std.proofs.Common.{◌≡◌, [], ◌∷◌, true, false, refl}
+use Rattle.std.proofs.Common.{◌≡◌, [], ◌∷◌, true, false, refl, subst}
 use Rattle.std.specs.Fmt.{digits}
 use Rattle.gi_spelling.specs.AddExample.{block_of, function_of, generic_module, selected_module, stated_text, selected_text}
 use Rattle.gi_mir.specs.declared.opcode.Opcode.TheVariants.{GenericAdd, Add}
 use Rattle.gi_mir.specs.declared.operand.Kind.TheVariants.{Banked, Class}
+use Rattle.gi_mir.specs.Formed.{is_formed}
 use Rattle.gi_llt.specs.declared.Llt.TheVariants.{Scalar}
 use Rattle.gi_spelling.specs.Printed.{printed}
 use Rattle.gi_spelling.specs.Plain.{Spells}
+use Rattle.gi_spelling.specs.Printable.{IsPrintableModule}
+use Rattle.gi_spelling.specs.Spelling.{Spells as SpellsWhole}
 use Rattle.gi_spelling.specs.Stated.{CopyIn, AddUp, CopyOut, Return, IsStatedText}
+use Rattle.gi_spelling.proofs.PrintedTexts.{printed_spells}
+use Rattle.gi_spelling.proofs.StatedTexts.{stated_text_spelled}
 
 pub prints_selected : printed selected_module ≡ selected_text
 unfolding digits
@@ -87,6 +92,42 @@ is_stated = record {
   };
   lines = refl;
 }
+
+-- the selected module is printable, and both texts spell their modules by the whole definition
+selected_printable : IsPrintableModule selected_module
+unfolding is_formed
+selected_printable = record {
+  ir = refl;
+  functions = (
+    record {
+      named = refl;
+      few_objects = refl;
+      objects = refl;
+      few_blocks = refl;
+      live_first = refl;
+      blocks = (
+        record {
+          successors = refl;
+          instrs = (
+            record { formed = refl; operands = refl; memory = refl },
+            (
+              record { formed = refl; operands = refl; memory = refl },
+              (record { formed = refl; operands = refl; memory = refl }, (record { formed = refl; operands = refl; memory = refl }, (record { formed = refl; operands = refl; memory = refl }, tt))),
+            ),
+          );
+        },
+        tt,
+      );
+    },
+    tt,
+  );
+}
+
+pub spells_selected_whole : SpellsWhole selected_text selected_module
+spells_selected_whole = subst (λ text. SpellsWhole text selected_module) prints_selected (printed_spells selected_module selected_printable)
+
+pub spells_stated_whole : SpellsWhole stated_text generic_module
+spells_stated_whole = stated_text_spelled stated_text generic_module is_stated
 
 -- a text that says nothing of the key `selected` doesn't spell a function that is selected
 pub spells_no_selected : Spells stated_text selected_module → ⊥

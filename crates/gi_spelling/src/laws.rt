@@ -64,8 +64,11 @@ pub fn stated_text_spells()
     ensures { (text : List ℕ) (m : ModuleData) → IsStatedText text m → Spells text m }
 {}
 
-/// The texts of an example, before and after the selection of instructions, spell its two modules.
+/// The texts of an example, before and after the selection of instructions, spell its two modules, and so by the narrow
+/// definition of printed lines.
 pub fn example_texts_spell()
-    ensures stated { SpellsPlainly stated_text generic_module }
-    ensures chosen { SpellsPlainly selected_text selected_module }
+    ensures stated { Spells stated_text generic_module }
+    ensures chosen { Spells selected_text selected_module }
+    ensures stated_plainly { SpellsPlainly stated_text generic_module }
+    ensures chosen_plainly { SpellsPlainly selected_text selected_module }
 {}
