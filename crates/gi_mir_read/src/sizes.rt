@@ -2,7 +2,7 @@
 
 ghost use Rattle.std.specs.Prelude.{◌≡◌, ◌≤◌, ◌<◌, ◌^◌, ◌⊎◌, ℕ, ◌+◌, None, Some, flat_map, length, if◌then◌else◌, OnOk, IfErr};
 ghost use Rattle.std.specs.List.{list_any};
-ghost use Rattle.gi_mir.specs.Registers.{kind_in_instrs, kind_in_operand, kind_in_operands, kind_of, type_of_kind};
+ghost use Rattle.gi_mir.specs.Registers.{kind_of, type_of_kind};
 ghost use Rattle.gi_mir.specs.Row.{rows_of};
 ghost use Rattle.gi_mir.specs.Types.{is_any};
 ghost use Rattle.gi_spelling.specs.Printed.{definitions_of, first_row, is_definition, sources_of, forms_after, is_typed_by, is_typed_form, source_forms};
@@ -281,52 +281,6 @@ fn with_register(lowest: Option<Fault>, line: u32, operand: Operand) -> Option<F
     }
 }
 
-/// The kind of a register, if an operand defines it.
-fn kind_in_operand(operand: Operand, reg: Reg) -> Option<Kind>
-    ensures { result ≡ kind_in_operand reg.0 operand }
-{
-    match operand {
-        Operand::Def(defined, kind) => { if defined.0 == reg.0 { Some(kind) } else { None } }
-        _ => None,
-    }
-}
-
-/// The kind of a register at its first definition among operands.
-fn kind_in_operands(operands: &[Operand], reg: Reg) -> Option<Kind>
-    ensures { result ≡ kind_in_operands reg.0 operands.now }
-{
-    for operand in operands {
-        if let Some(kind) = kind_in_operand(*operand, reg) {
-            return Some(kind);
-        }
-    }
-    None
-}
-
-/// The kind of a register at its first definition among instructions.
-fn kind_in_instrs(instrs: &[Numbered], reg: Reg) -> Option<Kind>
-    ensures { result ≡ kind_in_instrs reg.0 instrs.now }
-{
-    for instr in instrs {
-        if let Some(kind) = kind_in_operands(instr.instr.operands.as_slice(), reg) {
-            return Some(kind);
-        }
-    }
-    None
-}
-
-/// The kind of a register at its first definition in layout.
-fn kind_of(f: &Function, reg: Reg) -> Kind
-    ensures { result ≡ kind_of f.now reg.0 }
-{
-    for block in 0..f.block_count() {
-        if let Some(kind) = kind_in_instrs(f.instrs(block), reg) {
-            return kind;
-        }
-    }
-    Kind::Class
-}
-
 /// Whether a form is one of a definition.
 fn is_definition_form(form: Form) -> bool
     ensures { result ≡ is_definition_form form }
@@ -420,7 +374,7 @@ fn type_shown(f: &Function, forms: &[Form], reg: Reg) -> Option<Llt>
     ensures { result ≡ (if is_typed_by forms.now then type_of_kind (kind_of f.now reg.0) else None) }
 {
     if is_typed_by(forms) {
-        type_of(kind_of(f, reg))
+        type_of(f.kind_of(reg))
     } else {
         None
     }

@@ -20,7 +20,6 @@ ghost use Rattle.gi_spelling.specs.AddExample.{generic_module, selected_module, 
 ghost use Rattle.gi_mir.specs.Data.{ModuleData};
 ghost use Rattle.gi_spelling.specs.Printable.{IsPrintableModule};
 ghost use Rattle.gi_spelling.specs.Printed.{printed};
-ghost use Rattle.gi_spelling.specs.Plain.{Spells as SpellsPlainly};
 ghost use Rattle.gi_spelling.specs.Stated.{IsStatedText};
 
 /// What is read of a line is what its tokens spell.
@@ -64,11 +63,8 @@ pub fn stated_text_spells()
     ensures { (text : List ℕ) (m : ModuleData) → IsStatedText text m → Spells text m }
 {}
 
-/// The texts of an example, before and after the selection of instructions, spell its two modules, and so by the narrow
-/// definition of printed lines.
+/// The texts of an example, before and after the selection of instructions, spell its two modules.
 pub fn example_texts_spell()
     ensures stated { Spells stated_text generic_module }
     ensures chosen { Spells selected_text selected_module }
-    ensures stated_plainly { SpellsPlainly stated_text generic_module }
-    ensures chosen_plainly { SpellsPlainly selected_text selected_module }
 {}

@@ -16,6 +16,7 @@ pub mod MachineSums
 pub mod MessageLemmas
 pub mod NormalForms
 pub mod OptionLemmas
+pub mod PrintedLaws
 pub mod ReadLemmas
 pub mod RefusedLemmas
 pub mod SameRuns
@@ -25,6 +26,7 @@ pub mod SelectLoops
 pub mod SelectRuns
 pub mod SelectShapes
 pub mod SelectSteps
+pub mod SelectedPrintable
 pub mod StandingLemmas
 pub mod TextLaws
 pub mod TextLemmas

@@ -2,18 +2,23 @@
 use Rattle.std.specs.Prelude.{◌≡◌, ◌⊎◌, ℕ, ◌≤◌, ◌<◌, ◌==◌, Bool, true, false, List, ◌++◌, length, codes, Option, Some, None, Result, Ok, Err, if◌then◌else◌}
 use Rattle.gi_io.specs.Writing.{AppendsPrefix}
 use Rattle.gi_mir.specs.Data.{ModuleData}
+use Rattle.gi_mir.specs.Numbering.{numbered_module}
 use Rattle.gi_observe.specs.declared.pass.Pass.{Pass}
 use Rattle.gi_observe.specs.declared.pass.Pass.TheVariants.{IrTranslator, RegBankSelect, Select}
-use Rattle.gi_observe.specs.Passes.{word_of, place_of, next_of}
+use Rattle.gi_observe.specs.Passes.{word_of}
 use Rattle.gi_spelling.specs.Documents.{wrong_in}
 use Rattle.gi_spelling.specs.Plain.{lines_of}
+use Rattle.gi_spelling.specs.Printed.{printed}
 use Rattle.gi_spelling.specs.Read.{IsReadModule}
 use Rattle.gi_spelling.specs.declared.written.Wrong.{Wrong}
 use Rattle.gisel.specs.Checks.{check_of}
+use Rattle.gisel.specs.declared.machine.Machine.{Machine}
+use Rattle.gisel.specs.declared.machine.Machine.TheVariants.{Riscv32}
 use Rattle.gisel.specs.Messages.{message_of_wrong, not_built}
 use Rattle.gisel.specs.Options.{OptionsData, options_of}
 use Rattle.gisel.specs.Refused.{IsStatedLines}
 use Rattle.gisel.specs.Text.{IsText}
+use Rattle.gisel.specs.Unrun.{unbuilt}
 
 -- how many bytes of input are read at most
 abbrev pub limit : ℕ
@@ -28,27 +33,36 @@ abbrev pub input_of : (words : List (List ℕ)) → Option (List ℕ)
 input_of words = input_in (options_of words)
 
 -- the passes that are built: selection on RV32
-abbrev pub selects : (start stop : Pass) (width : ℕ) → Bool
-selects RegBankSelect Select width = width == 32
-selects start stop width = false
+abbrev pub selects : (start stop : Pass) → Machine → Bool
+selects RegBankSelect Select Riscv32 = true
+selects start stop machine = false
 
 -- ══ The text that is written ══
 
--- the input is read as a module that passes the checks, with this width of registers
-pub record IsChecked (options : OptionsData) (read : List ℕ) (start : Pass) (width : ℕ) : Type 0 where
+-- the input is read as this module, which passes the checks, for this machine
+pub record IsChecked (options : OptionsData) (read : List ℕ) (start : Pass) (machine : Machine) (source : ModuleData) : Type 0 where
   pub started : options.start ≡ Some start
-  pub source : ModuleData
   pub reads : IsReadModule read source
-  pub right : check_of options.target start read source ≡ Ok width
+  pub right : check_of options.target start read source ≡ Ok machine
+
+-- the text of what is selected
+pub record IsSelectedText (start stop : Pass) (machine : Machine) (read written : List ℕ) : Type 0 where
+  pub built : selects start stop machine ≡ true
+  pub text : IsText read written
+
+-- the text of the module as it was read, with its registers numbered by first appearance
+pub record IsPrintedText (start stop : Pass) (source : ModuleData) (written : List ℕ) : Type 0 where
+  pub built : unbuilt start stop source.functions ≡ None
+  pub text : written ≡ printed (numbered_module source)
 
 -- the text for these options and this input
 pub record IsAnswer (options : OptionsData) (read written : List ℕ) : Type 0 where
   pub within : length read ≤ limit
   pub start : Pass
-  pub width : ℕ
-  pub passes : IsChecked options read start width
-  pub built : selects start options.stop width ≡ true
-  pub text : IsText read written
+  pub machine : Machine
+  pub source : ModuleData
+  pub passes : IsChecked options read start machine source
+  pub text : IsSelectedText start options.stop machine read written ⊎ IsPrintedText start options.stop source written
 
 -- the text for these words and this input
 pub record IsOutput (words : List (List ℕ)) (read written : List ℕ) : Type 0 where
@@ -90,7 +104,7 @@ pub record IsWrongText (options : OptionsData) (read message : List ℕ) : Type 
   pub started : options.start ≡ Some start
   pub line : IsWrongLine read message
 
--- its target is unknown, or a function hasn't the keys that the start asks for
+-- its target is unknown, a function hasn't the keys that the start asks for, or a size isn't handled
 pub record IsWrongModule (options : OptionsData) (read message : List ℕ) : Type 0 where
   pub start : Pass
   pub started : options.start ≡ Some start
@@ -98,18 +112,14 @@ pub record IsWrongModule (options : OptionsData) (read message : List ℕ) : Typ
   pub reads : IsReadModule read source
   pub says : check_of options.target start read source ≡ Err message
 
--- the first pass that is to be run: the one after the start, or the start where the run ends with it
-abbrev pub first_of : (start stop : Pass) → Pass
-first_of start stop = if place_of stop == place_of start then start else next_of start
-
--- the first pass isn't built, or not for such a text
-
+-- a pass that is to be run isn't built, or not for such a text
 pub record IsNotBuilt (options : OptionsData) (read message : List ℕ) : Type 0 where
   pub start : Pass
-  pub width : ℕ
-  pub passes : IsChecked options read start width
-  pub other : selects start options.stop width ≡ true → IsStatedLines (lines_of read) → ⊥
-  pub says : message ≡ not_built (word_of (first_of start options.stop))
+  pub machine : Machine
+  pub source : ModuleData
+  pub passes : IsChecked options read start machine source
+  pub other : selects start options.stop machine ≡ true → IsStatedLines (lines_of read) → ⊥
+  pub says : unbuilt start options.stop source.functions ≡ Some message
 
 abbrev pub IsRefusedText : (options : OptionsData) (read message : List ℕ) → Type 0
 IsRefusedText options read message =

@@ -7,6 +7,7 @@ pub mod Digits
 pub mod Header
 pub mod Keys
 pub mod Lines
+pub mod Machine
 pub mod Messages
 pub mod Next
 pub mod NormalForm
@@ -22,3 +23,4 @@ pub mod Standing
 pub mod Statement
 pub mod Stop
 pub mod Text
+pub mod Unrun

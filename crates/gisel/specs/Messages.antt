@@ -1,6 +1,8 @@
 -- What is said of an input that is refused.
 use Rattle.std.specs.Prelude.{ℕ, List, ◌++◌, codes, decimal, ⊤}
 use Rattle.gi_text.specs.Cutting.{slice}
+use Rattle.gi_text.specs.declared.token.SizeError.{SizeError}
+use Rattle.gi_text.specs.declared.token.SizeError.TheVariants.{Width, Limit}
 use Rattle.gi_spelling.specs.declared.written.Fault.{Fault}
 use Rattle.gi_spelling.specs.declared.written.Fault.TheVariants as fault
 use Rattle.gi_spelling.specs.declared.written.Wrong.{Wrong}
@@ -23,6 +25,11 @@ message_of_fault text line (fault.Unknown start end) = at_line line (codes "unkn
 
 abbrev pub message_of_wrong : (text : List ℕ) → Wrong → List ℕ
 message_of_wrong text wrong = message_of_fault text wrong.line wrong.fault
+
+-- what is said of a type or a number that isn't handled
+abbrev pub message_of_size : SizeError → List ℕ
+message_of_size (Width line bits) = at_line line (codes "width " ++ decimal bits)
+message_of_size (Limit line number) = at_line line (codes "limit " ++ decimal number)
 
 -- where an input is refused, the message is such a one
 abbrev pub Tells : Refused → (List ℕ → Type 0) → Type 0

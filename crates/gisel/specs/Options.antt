@@ -6,13 +6,14 @@
 -- Without FILE, or with `-`, standard input is read. Each word is looked at from the left; the first is at fault that is
 -- no such word, that sets a thing again, or behind which a FILE is missing. A stop before the start is found last.
 use Rattle.std.specs.Prelude.{ℕ, Bool, true, false, List, [], ◌∷◌, Option, Some, None, Result, Ok, Err, is_some, nat_eq, nat_lt, bytes_eq, codes, if◌then◌else◌, option_map, unwrap_or, ◌==◌}
-use Rattle.std.specs.List.{starts_with}
 use Rattle.std.specs.Option.{option_map_or}
 use Rattle.gi_observe.specs.declared.pass.Pass.{Pass}
 use Rattle.gi_observe.specs.declared.pass.Pass.TheVariants.{Select}
 use Rattle.gi_observe.specs.Passes.{pass_of, place_of}
+use Rattle.gisel.specs.declared.machine.Machine.{Machine}
 use Rattle.gisel.specs.declared.options.Setting.{Setting}
 use Rattle.gisel.specs.declared.options.Setting.TheVariants as setting
+use Rattle.gisel.specs.Machine.{machine_of}
 
 -- ══ A word by itself ══
 
@@ -31,10 +32,6 @@ or_else (Some x) other = Some x
 abbrev pub option_name : List ℕ → Option (List ℕ)
 option_name word = if bytes_eq word (codes "-") then None else or_else (behind (codes "--") word) (behind (codes "-") word)
 
--- the width of the registers of a triple's target
-abbrev pub width_of : List ℕ → Option ℕ
-width_of triple = if starts_with nat_eq triple (codes "riscv32") then Some 32 else if starts_with nat_eq triple (codes "riscv64") then Some 64 else None
-
 -- the value behind a prefix decides, if the prefix stands there
 abbrev pub by_prefix : Option (List ℕ) → (List ℕ → Option Setting) → (other : Option Setting) → Option Setting
 by_prefix None meaning other = other
@@ -51,7 +48,7 @@ named name =
     if bytes_eq name (codes "mattr=+m") then Some setting.Attributes
     else if bytes_eq name (codes "global-isel") then Some setting.GlobalIsel
     else if bytes_eq name (codes "o") then Some setting.Output
-    else by_prefix (behind (codes "mtriple=") name) (λ triple. option_map (λ width. setting.Triple width) (width_of triple)) (named_pass name)
+    else by_prefix (behind (codes "mtriple=") name) (λ triple. option_map (λ machine. setting.Triple machine) (machine_of triple)) (named_pass name)
 
 -- what a word sets: a word that is no option is the FILE
 abbrev pub setting_of : List ℕ → Option Setting
@@ -61,7 +58,7 @@ setting_of word = option_map_or named (option_name word) (Some setting.File)
 
 -- what the words so far have set
 pub record Choice : Type 0 where
-  pub target : Option ℕ
+  pub target : Option Machine
   pub attributes : Bool
   pub isel : Bool
   pub start : Option Pass
@@ -74,7 +71,7 @@ abbrev pub no_choice : Choice
 no_choice = record { target = None; attributes = false; isel = false; start = None; stop = None; stop_word = []; input = None; output = None }
 
 abbrev pub is_set : Choice → Setting → Bool
-is_set choice (setting.Triple width) = is_some choice.target
+is_set choice (setting.Triple machine) = is_some choice.target
 is_set choice setting.Attributes = choice.attributes
 is_set choice setting.GlobalIsel = choice.isel
 is_set choice (setting.Start pass) = is_some choice.start
@@ -88,7 +85,7 @@ takes_next s = false
 
 -- what is set by a word, and by the word behind it where it takes one
 abbrev pub with_setting : Choice → Setting → (word next : List ℕ) → Choice
-with_setting choice (setting.Triple width) word next = record choice { target = Some width }
+with_setting choice (setting.Triple machine) word next = record choice { target = Some machine }
 with_setting choice setting.Attributes word next = record choice { attributes = true }
 with_setting choice setting.GlobalIsel word next = record choice { isel = true }
 with_setting choice (setting.Start pass) word next = record choice { start = Some pass }
@@ -126,10 +123,10 @@ chosen choice (word ∷ next ∷ more) =
 
 -- ══ What is asked for ══
 
--- the width of the target if a word sets it, the pass behind which to start if the input is Machine IR, the last pass,
+-- the machine if a word sets it, the pass behind which to start if the input is Machine IR, the last pass,
 -- the name of the input and that of the output; standard input and output have none
 pub record OptionsData : Type 0 where
-  pub target : Option ℕ
+  pub target : Option Machine
   pub start : Option Pass
   pub stop : Pass
   pub input : Option (List ℕ)

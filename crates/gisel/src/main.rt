@@ -12,6 +12,7 @@ mod keys;
 mod laws;
 mod line;
 mod lines;
+mod machine;
 mod messages;
 mod normal_form;
 mod options;
@@ -23,6 +24,7 @@ mod standing;
 mod statement;
 mod stop;
 mod top;
+mod unrun;
 
 use gi_io::{StdInput, StdOutput, write_all};
 pub use laws::{refused_line_is_one, stated_text_is_one};

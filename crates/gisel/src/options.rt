@@ -3,16 +3,18 @@
 ghost use Rattle.std.specs.Prelude.{◌≡◌, ◌≤◌, ◌<◌, ◌∷◌, Some, option_map, ◌++◌, IfOk, IfErr, Ok, Err, length, drop, map, string_bytes, IsTrue};
 ghost use Rattle.std.specs.Option.{option_copied};
 ghost use Rattle.gi_observe.specs.Passes.{pass_of};
-ghost use Rattle.gisel.specs.Options.{behind, option_name, width_of, named, named_pass, setting_of, no_choice, is_set, takes_next, with_setting, setting_at, first_setting, chosen, options_in, file_name, is_before, options_of};
+ghost use Rattle.gisel.specs.Machine.{machine_of};
+ghost use Rattle.gisel.specs.Options.{behind, option_name, named, named_pass, setting_of, no_choice, is_set, takes_next, with_setting, setting_at, first_setting, chosen, options_in, file_name, is_before, options_of};
 
+use crate::machine::Machine;
 use gi_observe::Pass;
 use std::marker::Model;
 
 /// What a word sets.
 #[derive(Clone, Copy, Debug, PartialEq, Eq)]
 pub enum Setting {
-    /// `-mtriple=T`: the width of the target's registers
-    Triple(u16),
+    /// `-mtriple=T`
+    Triple(Machine),
     /// `-mattr=+m`
     Attributes,
     /// `-global-isel`
@@ -48,25 +50,12 @@ fn option_name(word: &str) -> Option<&str>
     }
 }
 
-/// The width of the registers of a triple's target.
-pub fn width_of(triple: &str) -> Option<u16>
-    ensures { result ≡ width_of triple.now }
-{
-    if triple.starts_with("riscv32") {
-        Some(32)
-    } else if triple.starts_with("riscv64") {
-        Some(64)
-    } else {
-        None
-    }
-}
-
-/// The target of a triple.
+/// The machine of a triple.
 fn set_target(triple: &str) -> Option<Setting>
-    ensures { result ≡ option_map (λ width. Setting.Triple width) (width_of triple.now) }
+    ensures { result ≡ option_map (λ machine. Setting.Triple machine) (machine_of triple.now) }
 {
-    match width_of(triple) {
-        Some(width) => Some(Setting::Triple(width)),
+    match Machine::from_triple(triple.as_bytes()) {
+        Some(machine) => Some(Setting::Triple(machine)),
         None => None,
     }
 }
@@ -136,7 +125,7 @@ fn setting_of(word: &str) -> Option<Setting>
 /// What the words so far have set.
 #[derive(Drop)]
 struct Choice<'a> {
-    target: Option<u16>,
+    target: Option<Machine>,
     attributes: bool,
     isel: bool,
     start: Option<Pass>,
@@ -208,7 +197,7 @@ impl<'a> Choice<'a> {
         ensures { self.new ≡ with_setting self.old setting word.now next.now }
     {
         match setting {
-            Setting::Triple(width) => self.target = Some(width),
+            Setting::Triple(machine) => self.target = Some(machine),
             Setting::Attributes => self.attributes = true,
             Setting::GlobalIsel => self.isel = true,
             Setting::Start(pass) => self.start = Some(pass),
@@ -288,8 +277,8 @@ fn set_first<'a>(
 /// What the words ask for.
 #[derive(Drop)]
 pub struct Options<'a> {
-    /// the width of the target's registers, if a word sets it
-    pub target: Option<u16>,
+    /// the machine, if a word sets it
+    pub target: Option<Machine>,
     /// the pass behind which the run starts, if the input is Machine IR
     pub start: Option<Pass>,
     /// the last pass

@@ -4,7 +4,7 @@ ghost use Rattle.std.specs.Prelude.{ℕ, List, Result, Ok, is_ok, ◌≡◌, ◌
 ghost use Rattle.gi_io.specs.Faults.{Rose};
 ghost use Rattle.gi_io.specs.Writing.{AppendsPrefix};
 ghost use Rattle.gisel.specs.Answers.{limit, input_of, IsAnswer, IsOutput, AppendsOutput, AppendsPartOfOutput, RefusesWith};
-ghost use Rattle.gisel.specs.Promise.{Compiles, AppendsCompiled};
+ghost use Rattle.gisel.specs.Promise.{IsCompiled, AppendsCompiled};
 ghost use Rattle.gisel.specs.Stop.{IsCause, UsageOf, UsageSaid, Says};
 ghost use Rattle.std.specs.Option.{option_copied};
 ghost use Rattle.gisel.specs.Options.{OptionsData, options_of};
@@ -46,7 +46,7 @@ fn text_for<'a, I: Input>(
     options: &Options<'_>,
     input: &mut I,
 ) -> Result<Vec<u8>, Stop<'a>>
-    ensures compiled { IfOk result (λ text. IsTrue (I.tells input.old) → Compiles 32 (I.stored input.old options.now.input) text.items) }
+    ensures compiled { IfOk result (λ text. IsTrue (I.tells input.old) → IsCompiled options.now (I.stored input.old options.now.input) text.items) }
     ensures output { IfOk result (λ text. IsTrue (I.tells input.old) → IsAnswer options.now (I.stored input.old options.now.input) text.items) }
     ensures usage { (found : Result OptionsData (List ℕ)) → IsTrue (is_ok found) → IfErr result (UsageOf found) }
     ensures whole { OnOk result (IsTrue (I.tells input.old) → I.left input.new ≡ []) }
@@ -103,7 +103,7 @@ pub fn gisel<I: Input, O: Output, E: Output>(
     err: &mut E,
 ) -> u8
     ensures compiled { result ≡ 0 → IsTrue (I.tells input.old) → IsTrue (O.tells out.old)
-        → AppendsCompiled 32 (I.stored input.old (input_of (map string_bytes words.now))) (O.held out.old) (O.held out.new) }
+        → AppendsCompiled (map string_bytes words.now) (I.stored input.old (input_of (map string_bytes words.now))) (O.held out.old) (O.held out.new) }
     ensures output { result ≡ 0 → IsTrue (I.tells input.old) → IsTrue (O.tells out.old)
         → AppendsOutput (map string_bytes words.now) (I.stored input.old (input_of (map string_bytes words.now))) (O.held out.old) (O.held out.new) }
     ensures place { result ≡ 0 → IsTrue (O.tells_place out.old)

@@ -6,9 +6,9 @@ use Rattle.gisel.proofs.answer.passed.Goals as goal
 use Rattle.gisel.proofs.answer.passed.Goals.{then-selects+in-Err-NotBuilt, else-selects}
 
 pub returns-clause-refused : goal.returns-clause-refused
-returns-clause-refused c = tells_not_built _ c.args.text.now c.args.start c.args.width c.requires.passes
+returns-clause-refused c = tells_not_built _ c.args.text.now c.args.start c.args.machine c.requires.passes
     (elim c.if-selects.branch [
       | then-selects+in-Err-NotBuilt w ↦ λ built. not_stated c.args.text.now w.in-Err-NotBuilt.field-0-0 w.in-Err-NotBuilt.field-0 w.in-Err-NotBuilt.field-0-is w.in-Err-NotBuilt.ensures.refused
-      | else-selects w ↦ λ built stated. (let no : true ≡ false = sym built ∙ ap (λ (o : OptionsData). selects c.args.start o.stop c.args.width) (sym c.options.view_is) ∙ sym c.selects.ensures ∙ w.if-selects.false in cc)
+      | else-selects w ↦ λ built stated. (let no : true ≡ false = sym built ∙ ap (λ (o : OptionsData). selects c.args.start o.stop c.args.machine) (sym c.options.view_is) ∙ sym c.selects.ensures ∙ w.if-selects.false in cc)
     ])
     _ (c.first_of.ensures ∙ ap (λ (o : OptionsData). first_of c.args.start o.stop) c.options.view_is) c.refused_pass.result c.refused_pass.ensures
