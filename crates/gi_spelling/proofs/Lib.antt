@@ -9,6 +9,7 @@ pub mod ItemBounds
 pub mod ItemParts
 pub mod KeptLines
 pub mod NamePlaces
+pub mod Nameable
 pub mod NamedLemmas
 pub mod NumberedAgain
 pub mod NumberedPrintable
@@ -16,6 +17,7 @@ pub mod NumberedSame
 pub mod Numerals
 pub mod OneModule
 pub mod PlacedLines
+pub mod PlainLines
 pub mod PrintExamples
 pub mod PrintedBlocks
 pub mod PrintedDocuments

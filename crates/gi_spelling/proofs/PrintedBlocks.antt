@@ -12,7 +12,7 @@ use Rattle.gi_mir.specs.declared.operand.Operand.{Operand}
 use Rattle.gi_mir.specs.declared.operand.Operand.TheVariants.{Def}
 use Rattle.gi_mir.specs.Data.{InstrData, BlockData, FunctionData}
 use Rattle.gi_mir.specs.Registers.{type_of_kind, first_there, kind_in_operand, kind_in_operands, kind_in_instrs, kind_in_blocks, kind_of}
-use Rattle.gi_spelling.specs.PlainPrintable.{is_named_operand, is_named_instr, is_named_block}
+use Rattle.gi_spelling.proofs.Nameable.{is_named_operand, is_named_instr, is_named_block}
 use Rattle.gi_spelling.specs.Printable.{is_writable_type, is_writable_kind, is_writable_register, Counts, counts_of, is_writable_operand, IsPrintableInstr, IsPrintableBlock, is_none_live, is_live_first, IsPrintableFunction}
 use Rattle.gi_spelling.specs.Printed.{instr_line, instr_lines}
 use Rattle.gi_spelling.specs.Resolved.{Tables, block_place}

@@ -43,7 +43,7 @@ use Rattle.gi_spelling.specs.Lines.{Line}
 use Rattle.gi_spelling.specs.Named.{name_of_token, IsNamedInstr}
 use Rattle.gi_spelling.specs.Documents.{is_name}
 use Rattle.gi_spelling.specs.Printable.{Counts, is_writable_type, is_writable_operand, is_writable_access, is_writable_memory, IsPrintableInstr}
-use Rattle.gi_spelling.specs.PlainPrintable.{is_named_operand, is_named_instr}
+use Rattle.gi_spelling.proofs.Nameable.{is_named_operand, is_named_instr}
 use Rattle.gi_spelling.specs.Printed.{mark, word as word_piece, listed, bracketed, type_piece, name_at, definitions_of, sources_of, source_forms, first_row, source_pieces, definition_pieces, defined_pieces, flag_pieces, flags_pieces, sources_pieces, usual_align, align_pieces, memory_pieces, instr_pieces, instr_line}
 use Rattle.gi_spelling.specs.Resolved.{Tables, is_written_alignment, aligned, resolved_memory, formed as resolved_formed, resolved}
 use Rattle.gi_spelling.specs.Spelling.{word_what, type_whats, definition_whats, source_whats, listed_whats, defined_whats, flag_whats, flags_whats, plain_size, align_whats, memory_whats, whats_of, name_places, places_of, type_at, SpellsInstr}

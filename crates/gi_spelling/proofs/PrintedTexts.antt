@@ -13,8 +13,8 @@ use Rattle.gi_mir.specs.Data.{FunctionData, ModuleData}
 use Rattle.gi_mir.specs.Registers.{kind_of}
 use Rattle.gi_spelling.specs.Documents.{line_wrongs, is_no_text, ir_wrongs}
 use Rattle.gi_spelling.specs.Lines as line_specs
-use Rattle.gi_spelling.specs.Lines.{Line, Section as LineSection, is_stray, in_documents, Parts, parts_of_text, parts_from, past_end, ends_document, behind_block, block_lines_in, lines_in}
-use Rattle.gi_spelling.specs.Plain.{lines_of, is_start, is_end, Section, Sections, with_head, sections_of}
+use Rattle.gi_spelling.specs.Lines.{Line, Section as LineSection, is_stray, in_documents, Parts, parts_of_text, parts_from, past_end, ends_document, behind_block, block_lines_in, lines_in, lines_of, is_start, is_end}
+use Rattle.gi_spelling.proofs.PlainLines.{Section, Sections, with_head, sections_of}
 use Rattle.gi_spelling.specs.Printable.{is_ir_line, are_ir_lines, IsPrintableFunction, IsPrintableModule}
 use Rattle.gi_spelling.specs.Printed.{name_at, blocks_lines, key_lines, stack_lines, printed_lines, functions_lines, ir_lines, text_of, printed}
 use Rattle.gi_spelling.specs.Spelling.{SpellsDocument, SpellsIr, Spells}

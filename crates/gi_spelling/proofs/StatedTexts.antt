@@ -17,8 +17,9 @@ use Rattle.gi_spelling.specs.Blocks.{shown_types}
 use Rattle.gi_spelling.specs.Resolved.{Tables, block_place, resolved}
 use Rattle.gi_spelling.specs.Spelling.{whats_of, places_of, type_at, types_in, Spells}
 use Rattle.gi_spelling.specs.Printed.{instr_pieces, instr_line, instr_lines}
-use Rattle.gi_spelling.specs.PlainPrintable.{is_named_block, IsPrintable}
-use Rattle.gi_spelling.specs.Plain.{lines_of, is_start, sections_of}
+use Rattle.gi_spelling.proofs.Nameable.{is_named_block, IsNameable}
+use Rattle.gi_spelling.specs.Lines.{lines_of, is_start}
+use Rattle.gi_spelling.proofs.PlainLines.{sections_of}
 use Rattle.gi_spelling.specs.Stated.{StatedInstr, CopyIn, MakeConstant, AddUp, CopyOut, Return, stated_kind, stated_instr, is_among, is_argument, is_short, is_new, is_stated_after, defined_after, live_after, is_return, are_stated, are_arguments, IsStatedInstr, IsStated, IsStatedText}
 use Rattle.gi_spelling.proofs.TokenLists.{names_nothing}
 use Rattle.gi_spelling.proofs.WrittenParts.{quiet_places}
@@ -141,7 +142,7 @@ new_below defined reg new =
     let least : nat_le reg 4194303 ≡ true = parts.1 in
     grind (arith, nat_tests)
 
-argument_below : (physical : ℕ) → is_argument physical ≡ true → nat_lt physical 32 ≡ true
+pub argument_below : (physical : ℕ) → is_argument physical ≡ true → nat_lt physical 32 ≡ true
 argument_below physical argument = grind (arith, nat_tests)
 
 small_of : (kinds : ℕ → Kind) (defined live : List ℕ) (s : StatedInstr) → ((r : ℕ) → is_among defined r ≡ true → IsKnown kinds r) → is_stated_after defined live s ≡ true → is_small kinds s
@@ -206,7 +207,7 @@ arguments_below (n ∷ numbers) all =
     let parts = and_parts (is_argument n) (list_all is_argument numbers) all in
     both_true (argument_below n parts.0) (arguments_below numbers parts.1)
 
-liveins_below : (numbers : List ℕ) → are_arguments numbers ≡ true → list_all (λ n. nat_lt n 32) numbers ≡ true
+pub liveins_below : (numbers : List ℕ) → are_arguments numbers ≡ true → list_all (λ n. nat_lt n 32) numbers ≡ true
 liveins_below [] some = absurd (false≢true some)
 liveins_below (n ∷ numbers) some = arguments_below (n ∷ numbers) some
 
@@ -219,7 +220,7 @@ no_lists_fit tables block none physical = record {
   physical = physical;
 }
 
-block_is : (text : List ℕ) (names : List (List ℕ)) (f : FunctionData) (instrs : List StatedInstr) (block : BlockData) → IsStated names f instrs block → IsPrintable names f
+block_is : (text : List ℕ) (names : List (List ℕ)) (f : FunctionData) (instrs : List StatedInstr) (block : BlockData) → IsStated names f instrs block → IsNameable names f
     → AreBlocksOf text (kind_of f) names (tables_for f) (types_in f) 0 f.blocks
 block_is text names f instrs block stated printable =
     let Blocks : List BlockData → Type 0 = λ blocks. AreBlocksOf text (kind_of f) names (tables_for f) (types_in f) 0 blocks in
@@ -239,7 +240,7 @@ block_is text names f instrs block stated printable =
 pub stated_text_spelled : (text : List ℕ) (m : ModuleData) → IsStatedText text m → Spells text m
 stated_text_spelled text m stated =
     let layout = stated_layout stated.gaps stated.closed in
-    let printable : IsPrintable m.names stated.f = stated_printable m.names stated.f stated.instrs stated.block stated.stated in
+    let printable : IsNameable m.names stated.f = stated_printable m.names stated.f stated.instrs stated.block stated.stated in
     let Functions : List FunctionData → Type 0 = λ functions. AreFunctionsOf text m.names functions in
     let Lines : List FunctionData → Type 0 = λ functions. lines_of text ≡ documents_lines layout m.names functions in
     let Cut : List FunctionData → Type 0 = λ functions. sections_of is_start (documents_lines layout m.names functions) ≡ record { before = []; sections = documents_of layout m.names functions } in

@@ -13,14 +13,14 @@ use Rattle.gi_spelling.specs.declared.token.What.{What}
 use Rattle.gi_spelling.specs.declared.token.What.TheVariants as what
 use Rattle.gi_spelling.specs.Items.{items_in, end_of, what_in}
 use Rattle.gi_spelling.specs.Lines as line_specs
-use Rattle.gi_spelling.specs.Lines.{Line, Section as LineSection, Sections as LineSections, behind_colon, is_entry, key_of, is_entry_of, in_documents, Parts, parts_of_text, document_lines, document_rest, document_strays, document_entries, without_line, is_stray, counted_lines, lines_in}
+use Rattle.gi_spelling.specs.Lines.{Line, Section as LineSection, Sections as LineSections, behind_colon, is_entry, key_of, is_entry_of, in_documents, Parts, parts_of_text, document_lines, document_rest, document_strays, document_entries, without_line, is_stray, counted_lines, lines_in, lines_of, is_dropped, is_start, is_end, begins_at_column_one, value_bytes}
 use Rattle.gi_spelling.specs.Resolved.{Tables}
 use Rattle.gi_spelling.specs.Blocks.{is_block_head as is_head_line, blocks_in, block_numbers}
 use Rattle.gi_spelling.specs.Documents.{is_name, entries_of, ir_wrongs}
 use Rattle.gi_spelling.specs.Spelling.{word_what, types_in, SpellsBlocks, entries_with, value_whats, SpellsTruth, Lists, SpellsName, SpellsBody, are_distinct, SpellsEntries, SpellsDocument, Spells}
 use Rattle.gi_spelling.specs.Printed.{name_at, key_lines}
-use Rattle.gi_spelling.specs.Plain.{lines_of, is_dropped, is_start, is_end, is_at_column_one, Section, Sections, sections_of, kept_lines, value_bytes, is_block_head}
-use Rattle.gi_spelling.specs.PlainPrintable.{IsPrintable}
+use Rattle.gi_spelling.proofs.PlainLines.{Section, Sections, sections_of, kept_lines, is_block_head}
+use Rattle.gi_spelling.proofs.Nameable.{IsNameable}
 use Rattle.gi_spelling.proofs.PlacedLines.{IsLine, lines_placed, Reads, read_range, back_slice}
 use Rattle.gi_spelling.proofs.Zips.{filter_zip, run_zip, past_zip, SectionsAgree, AllAgree, sections_zip}
 use Rattle.gi_spelling.proofs.Blocks.{kept_blocks, block_sections, sections_of-blocks}
@@ -202,7 +202,7 @@ tables_for f = record { classes = []; blocks = places_from 0 f.blocks; objects =
 
 -- a function whose lines spell what it holds
 pub record IsFunctionOf (text : List ℕ) (names : List (List ℕ)) (f : FunctionData) : Type 0 where
-  pub printable : IsPrintable names f
+  pub printable : IsNameable names f
   pub blocks : AreBlocksOf text (kind_of f) names (tables_for f) (types_in f) 0 f.blocks
 
 -- the blocks under `body`
@@ -288,8 +288,8 @@ ends_same text line bytes is = ap (λ bytes. not (is_end bytes)) is.same
 pub drops_same : (text : List ℕ) (line : Line) (bytes : List ℕ) → IsLine text line bytes → not (line_specs.is_dropped line.bytes) ≡ not (is_dropped bytes)
 drops_same text line bytes is = ap (λ bytes. not (is_dropped bytes)) is.same
 
-pub column_same : (text : List ℕ) (line : Line) (bytes : List ℕ) → IsLine text line bytes → line_specs.is_at_column_one line ≡ is_at_column_one bytes
-column_same text line bytes is = ap is_at_column_one is.same
+pub column_same : (text : List ℕ) (line : Line) (bytes : List ℕ) → IsLine text line bytes → line_specs.is_at_column_one line ≡ begins_at_column_one bytes
+column_same text line bytes is = ap begins_at_column_one is.same
 
 pub starts_same : (text : List ℕ) (line : Line) (bytes : List ℕ) → IsLine text line bytes → line_specs.starts line ≡ is_start bytes
 starts_same text line bytes is = ap is_start is.same
@@ -322,7 +322,7 @@ document_spelled text layout names f document function agree =
     filter_zip (IsLine text) (λ line. not (line_specs.is_dropped line.bytes)) (λ line. not (is_dropped line)) (drops_same text) (document_lines document) front run in
     let sections : AllAgree (IsLine text) (document_entries document) (record { before = []; sections = function_sections layout names f }) =
     subst (AllAgree (IsLine text) (document_entries document)) (sections_of-front layout names f function.printable)
-    (sections_zip (IsLine text) line_specs.is_at_column_one is_at_column_one (column_same text) (counted_lines (document_lines document)) (kept_lines front) kept) in
+    (sections_zip (IsLine text) line_specs.is_at_column_one begins_at_column_one (column_same text) (counted_lines (document_lines document)) (kept_lines front) kept) in
     record {
       from_a_key = none_zip (IsLine text) (document_entries document).before sections.before;
       to_the_end = no_strays_behind text layout.closed (document_rest document) past;

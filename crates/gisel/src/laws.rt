@@ -2,7 +2,7 @@
 
 ghost use Rattle.std.specs.Prelude.{◌≡◌, ℕ, List};
 ghost use Rattle.gi_mir.specs.Data.{FunctionData};
-ghost use Rattle.gi_spelling.specs.Plain.{lines_of};
+ghost use Rattle.gi_spelling.specs.Lines.{lines_of};
 ghost use Rattle.gi_refine.specs.Refinement.{IsRefinement};
 ghost use Rattle.gisel.specs.NormalForm.{IsNormalForm};
 ghost use Rattle.gisel.specs.Refused.{IsStatedLines, IsRefusedAt};
