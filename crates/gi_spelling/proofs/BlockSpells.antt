@@ -20,8 +20,8 @@ use Rattle.gi_spelling.specs.Resolved.{Tables, block_place}
 use Rattle.gi_spelling.specs.Blocks.{is_debug_kept, is_told, head_by, head_in, head_number, is_there, is_block_head as is_head_line, is_head, list_by, list_kind_in, list_kind, listed_in, block_numbers}
 use Rattle.gi_spelling.specs.Spelling.{word_what, listed_whats, block_whats, physical_whats, SpellsInstr, is_list_line as states_list, is_kind, StatesSuccessors, SpellsSuccessors, SpellsLiveins, SpellsBlock, SpellsBlocks, are_distinct}
 use Rattle.gi_spelling.specs.Printed.{instr_line, instr_lines, implied_successors, states_successors}
-use Rattle.gi_spelling.specs.PlainPrintable.{is_named_instr, is_named_block}
-use Rattle.gi_spelling.specs.Plain.{is_block_head, begins_list, is_list_line}
+use Rattle.gi_spelling.proofs.Nameable.{is_named_instr, is_named_block}
+use Rattle.gi_spelling.proofs.PlainLines.{is_block_head, begins_list, is_list_line}
 use Rattle.gi_spelling.proofs.WrittenParts.{no_equals}
 use Rattle.gi_spelling.proofs.WrittenLines.{all_listed}
 use Rattle.gi_spelling.proofs.SpelledLines.{line_begins, headless, listless, line_told, begins_other, other_told}

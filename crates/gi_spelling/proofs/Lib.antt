@@ -4,12 +4,12 @@ pub mod BlockLines
 pub mod BlockSpells
 pub mod Blocks
 pub mod Documents
-pub mod EntrySpells
 pub mod InstrPieces
 pub mod ItemBounds
 pub mod ItemParts
 pub mod KeptLines
 pub mod NamePlaces
+pub mod Nameable
 pub mod NamedLemmas
 pub mod NumberedAgain
 pub mod NumberedPrintable
@@ -17,6 +17,7 @@ pub mod NumberedSame
 pub mod Numerals
 pub mod OneModule
 pub mod PlacedLines
+pub mod PlainLines
 pub mod PrintExamples
 pub mod PrintedBlocks
 pub mod PrintedDocuments
@@ -48,7 +49,9 @@ pub mod SpelledReads
 pub mod SpelledRight
 pub mod SpellingExamples
 pub mod StatedLines
+pub mod StatedSpells
 pub mod StatedTexts
+pub mod TextSpells
 pub mod Texts
 pub mod ThereSame
 pub mod TokenBounds

@@ -1,31 +1,33 @@
 -- The lines of a printed function, with its stack objects, spell that function.
-use Rattle.std.proofs.Common.{◌≡◌, ℕ, suc, ◌^◌, ◌≤◌, Bool, true, false, List, [], ◌∷◌, ◌++◌, length, Some, sym, refl, ap, ◌∙◌, subst, arith, inl}
-use Rattle.std.specs.Prelude.{not, filter, replicate, codes, if◌then◌else◌}
+use Rattle.std.proofs.Common.{◌≡◌, ℕ, suc, ◌^◌, ◌≤◌, Bool, true, false, List, [], ◌∷◌, ◌++◌, length, Some, map, sym, refl, ap, ◌∙◌, subst, arith, inl}
+use Rattle.std.specs.Prelude.{not, filter, nat_le, replicate, codes, if◌then◌else◌}
 use Rattle.std.specs.List.{list_all, AllZip}
 use Rattle.std.proofs.lemmas.Bool.Decides.{nat_tests}
 use Rattle.std.proofs.lemmas.List.{append-nil}
+use Rattle.gi_llt.specs.Tokens.{run_of, past_run}
+use Rattle.gi_llt.proofs.Apart.{is_no_feed}
 use Rattle.gi_llt.proofs.Pieces.{run_of-append, past_run-append}
 use Rattle.gi_mir.specs.declared.operand.StackObject.{StackObject}
 use Rattle.gi_mir.specs.Data.{FunctionData}
 use Rattle.gi_mir.specs.Registers.{kind_of}
 use Rattle.gi_spelling.specs.declared.token.What.TheVariants as what
 use Rattle.gi_spelling.specs.Blocks.{is_block_head as is_head_line, blocks_in, block_numbers}
-use Rattle.gi_spelling.specs.Documents.{entries_of}
+use Rattle.gi_spelling.specs.Documents.{entries_of, groups_of, objects_from, is_name}
 use Rattle.gi_spelling.specs.Lines as line_specs
-use Rattle.gi_spelling.specs.Lines.{Line, Section as LineSection, is_entry, document_lines, document_rest, document_entries, counted_lines}
-use Rattle.gi_spelling.specs.Plain.{is_dropped, is_end, is_at_column_one, Section, Sections, with_head, sections_of, kept_lines, is_block_head, is_name}
-use Rattle.gi_spelling.specs.PlainPrintable.{is_named_block}
+use Rattle.gi_spelling.specs.Lines.{Line, Section as LineSection, is_entry, document_lines, document_rest, document_entries, counted_lines, is_dropped, is_start, is_end, begins_at_column_one}
+use Rattle.gi_spelling.proofs.PlainLines.{Section, Sections, with_head, sections_of, kept_lines, is_block_head}
+use Rattle.gi_spelling.proofs.Nameable.{is_named_block}
 use Rattle.gi_spelling.specs.Printable.{is_writable_object, IsPrintableFunction, counts_of}
-use Rattle.gi_spelling.specs.Printed.{name_at, key_lines, object_lines, stack_lines, blocks_lines}
+use Rattle.gi_spelling.specs.Printed.{name_at, key_lines, object_line, object_lines, stack_lines, blocks_lines}
 use Rattle.gi_spelling.specs.Spelling.{types_in, SpellsBlocks, entries_with, value_whats, Lists, SpellsBody, are_distinct, SpellsEntries, SpellsDocument}
 use Rattle.gi_spelling.proofs.BlockLines.{EachLine, each-append, each-weaker, IsInner}
-use Rattle.gi_spelling.proofs.Blocks.{kept-append, kept_each, kept_blocks, kept_blocks_lines, kept_blocks_inner, each_blocks, sections_of-append, IsRaw, raw_inner, block_sections, sections_of-blocks}
+use Rattle.gi_spelling.proofs.Blocks.{kept-append, kept_each, kept_blocks, kept_blocks_lines, kept_blocks_inner, each_blocks, sections_of-append, IsRaw, raw_inner, raw_blocks, block_sections, sections_of-blocks}
 use Rattle.gi_spelling.proofs.BlockSpells.{TellsLine, zip_each, all_told, blocks_tell, blocks_spelled, places_from, numbers_are, places_distinct, places_count, tells_head}
 use Rattle.gi_spelling.proofs.Documents.{entry_line, name_solid, Layout, header_lines, end_lines, body_line, IsOuter, body_outer, bar_solid, header_outer, bare, kept_outer, bare_sections, blank_at_no_column, body_sections, outer_no_end, inner_no_end, each_unended}
 use Rattle.gi_spelling.proofs.PlacedLines.{IsLine, Reads}
 use Rattle.gi_spelling.proofs.PrintedBlocks.{printed_tables, blocks_named, printed_blocks}
 use Rattle.gi_spelling.proofs.PrintedStacks.{object_inner, AreObjects, objects_are}
-use Rattle.gi_spelling.proofs.EntrySpells.{by_flags, keyed_as, alone, reads_spaced, reads_bar, value_is, none_zip, one_zip, with_key, all_keyed, truth_spelled, name_spelled, ends_same, drops_same, column_same, end_stops, no_strays_behind}
+use Rattle.gi_spelling.proofs.TextSpells.{by_flags, keyed_as, alone, reads_spaced, reads_bar, value_is, none_zip, one_zip, with_key, all_keyed, truth_spelled, name_spelled, ends_same, drops_same, column_same, end_stops, no_strays_behind}
 use Rattle.gi_spelling.proofs.Zips.{filter_zip, run_zip, past_zip, SectionsAgree, AllAgree, sections_zip}
 
 -- ══ The stack objects ══
@@ -51,15 +53,15 @@ kept_stack : (stack : List StackObject) → kept_lines (stack_lines stack) ≡ s
 kept_stack [] = refl
 kept_stack (object ∷ objects) = ap (λ lines. codes "stack:" ∷ lines) (kept_each (object_lines 0 (object ∷ objects)) (objects_inner 0 (object ∷ objects)))
 
-stack_before : (stack : List StackObject) (rest : List (List ℕ)) (sections : List Section) → sections_of is_at_column_one rest ≡ record { before = []; sections = sections }
-    → sections_of is_at_column_one (stack_lines stack ++ rest) ≡ record { before = []; sections = stack_sections stack ++ sections }
+stack_before : (stack : List StackObject) (rest : List (List ℕ)) (sections : List Section) → sections_of begins_at_column_one rest ≡ record { before = []; sections = sections }
+    → sections_of begins_at_column_one (stack_lines stack ++ rest) ≡ record { before = []; sections = stack_sections stack ++ sections }
 stack_before [] rest sections e = e
 stack_before (object ∷ objects) rest sections e =
     let lines = object_lines 0 (object ∷ objects) in
-    let under : sections_of is_at_column_one (lines ++ rest) ≡ record { before = lines ++ []; sections = sections } =
-    sections_of-append is_at_column_one lines rest (each-weaker IsInner (λ line. is_at_column_one line ≡ false) blank_at_no_column lines (objects_inner 0 (object ∷ objects)))
+    let under : sections_of begins_at_column_one (lines ++ rest) ≡ record { before = lines ++ []; sections = sections } =
+    sections_of-append begins_at_column_one lines rest (each-weaker IsInner (λ line. begins_at_column_one line ≡ false) blank_at_no_column lines (objects_inner 0 (object ∷ objects)))
     ∙ ap (λ (s : Sections). record { before = lines ++ s.before; sections = s.sections }) e in
-    let Goal : List (List ℕ) → Type 0 = λ before. sections_of is_at_column_one (lines ++ rest) ≡ record { before = before; sections = sections } in
+    let Goal : List (List ℕ) → Type 0 = λ before. sections_of begins_at_column_one (lines ++ rest) ≡ record { before = before; sections = sections } in
     ap (with_head (codes "stack:")) (subst Goal (append-nil lines) under)
 
 -- the objects that stand under the key
@@ -207,7 +209,7 @@ front_unended : (layout : Layout) (names : List (List ℕ)) (f : FunctionData) �
 front_unended layout names f lined = each_unended (front_lines layout names f) (each_front (λ line. is_end line ≡ false) outer_no_end inner_no_end refl layout names f lined)
 
 sections_of-front : (layout : Layout) (names : List (List ℕ)) (f : FunctionData) → IsLined names f
-    → sections_of is_at_column_one (kept_lines (front_lines layout names f)) ≡ record { before = []; sections = function_sections layout names f }
+    → sections_of begins_at_column_one (kept_lines (front_lines layout names f)) ≡ record { before = []; sections = function_sections layout names f }
 sections_of-front layout names f lined =
     let header = header_lines layout (name_at names f.name) f.legalized f.banked f.selected in
     let lines = blocks_lines (kind_of f) names 0 (length f.blocks) f.blocks in
@@ -223,7 +225,7 @@ sections_of-front layout names f lined =
     let kept : kept_lines (front_lines layout names f) ≡ header ++ (stack ++ (body_line layout ∷ blocks)) =
     kept-append header (stack ++ (body_line layout ∷ lines))
     ∙ (ap (λ xs. xs ++ kept_lines (stack ++ (body_line layout ∷ lines))) (kept_outer header header_each) ∙ ap (λ ys. header ++ ys) behind) in
-    ap (sections_of is_at_column_one) kept
+    ap (sections_of begins_at_column_one) kept
     ∙ bare_sections header (stack ++ (body_line layout ∷ blocks)) (stack_sections f.stack ++ (own ∷ [])) header_each
     (stack_before f.stack (body_line layout ∷ blocks) (own ∷ [])
     (body_sections (body_line layout) blocks body_each.at_column_one (kept_blocks_inner (kind_of f) names 0 (length f.blocks) f.blocks lined.blocks)))
@@ -329,7 +331,7 @@ document_spelled text layout names f document printable agree =
     filter_zip (IsLine text) (λ line. not (line_specs.is_dropped line.bytes)) (λ line. not (is_dropped line)) (drops_same text) (document_lines document) front run in
     let sections : AllAgree (IsLine text) (document_entries document) (record { before = []; sections = function_sections layout names f }) =
     subst (AllAgree (IsLine text) (document_entries document)) (sections_of-front layout names f lined)
-    (sections_zip (IsLine text) line_specs.is_at_column_one is_at_column_one (column_same text) (counted_lines (document_lines document)) (kept_lines front) kept) in
+    (sections_zip (IsLine text) line_specs.is_at_column_one begins_at_column_one (column_same text) (counted_lines (document_lines document)) (kept_lines front) kept) in
     record {
       from_a_key = none_zip (IsLine text) (document_entries document).before sections.before;
       to_the_end = no_strays_behind text layout.closed (document_rest document) past;

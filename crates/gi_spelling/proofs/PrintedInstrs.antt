@@ -1,10 +1,10 @@
 -- The line of an instruction as it is printed spells that instruction.
-use Rattle.std.proofs.Common.{◌≡◌, ℕ, zero, suc, ◌^◌, ◌<◌, ◌≤◌, Bool, true, false, List, [], ◌∷◌, ◌++◌, Option, Some, None, map, refl, sym, ap, ◌∙◌, subst, append_assoc, arith, inl, inr}
-use Rattle.std.specs.Prelude.{◌&&◌, ◌⊎◌, ◌==◌, not, filter_map, min, nat_le, codes, decimal, option_map, nat_lt, Ok, if◌then◌else◌}
+use Rattle.std.proofs.Common.{◌≡◌, ℕ, zero, suc, ◌+◌, ◌/◌, ◌^◌, ◌<◌, ◌≤◌, Bool, true, false, List, [], ◌∷◌, ◌++◌, Option, Some, None, map, refl, sym, ap, ◌∙◌, subst, append_assoc, arith, inl, inr}
+use Rattle.std.specs.Prelude.{◌&&◌, ◌||◌, ◌⊎◌, ◌==◌, not, filter_map, min, nat_le, codes, decimal, option_map, nat_lt, Ok, if◌then◌else◌}
 use Rattle.std.specs.Int.{is_power_of_two}
-use Rattle.std.specs.List.{list_all}
+use Rattle.std.specs.List.{list_all, AllZip}
 use Rattle.std.specs.Cmp.Derive.{both_true}
-use Rattle.std.proofs.lemmas.Bool.{and_parts, or_cases, false≢true, eqb-true}
+use Rattle.std.proofs.lemmas.Bool.{and_parts, or_cases, not-true, false≢true, eqb-true}
 use Rattle.std.proofs.lemmas.Bool.Decides.{nat_tests}
 use Rattle.std.proofs.lemmas.List.{append-nil}
 use Rattle.std.proofs.lemmas.List.Folds.{list_all-append}
@@ -33,28 +33,29 @@ use Rattle.gi_spelling.specs.declared.token.Flag.TheVariants as flag
 use Rattle.gi_spelling.specs.declared.token.Word.TheVariants as word
 use Rattle.gi_spelling.specs.declared.token.What.{What}
 use Rattle.gi_spelling.specs.declared.token.What.TheVariants as what
+use Rattle.gi_spelling.specs.declared.token.Item.{Item}
 use Rattle.gi_spelling.specs.declared.written.Memory.{Memory}
 use Rattle.gi_spelling.specs.Words.{what_of, is_plain_signed}
 use Rattle.gi_spelling.specs.Written.{WrittenData}
 use Rattle.gi_spelling.specs.Items.{item_of, end_of, what_in}
 use Rattle.gi_spelling.specs.Kept.{kept}
 use Rattle.gi_spelling.specs.Lines.{Line}
-use Rattle.gi_spelling.specs.Named.{name_of_token}
+use Rattle.gi_spelling.specs.Named.{name_of_token, IsNamedInstr}
 use Rattle.gi_spelling.specs.Documents.{is_name}
-use Rattle.gi_spelling.specs.Printable.{Counts, is_writable_type, is_writable_operand, is_writable_memory, IsPrintableInstr}
-use Rattle.gi_spelling.specs.PlainPrintable.{is_named_operand}
+use Rattle.gi_spelling.specs.Printable.{Counts, is_writable_type, is_writable_operand, is_writable_access, is_writable_memory, IsPrintableInstr}
+use Rattle.gi_spelling.proofs.Nameable.{is_named_operand, is_named_instr}
 use Rattle.gi_spelling.specs.Printed.{mark, word as word_piece, listed, bracketed, type_piece, name_at, definitions_of, sources_of, source_forms, first_row, source_pieces, definition_pieces, defined_pieces, flag_pieces, flags_pieces, sources_pieces, usual_align, align_pieces, memory_pieces, instr_pieces, instr_line}
 use Rattle.gi_spelling.specs.Resolved.{Tables, is_written_alignment, aligned, resolved_memory, formed as resolved_formed, resolved}
-use Rattle.gi_spelling.specs.Spelling.{word_what, type_whats, definition_whats, source_whats, listed_whats, defined_whats, flag_whats, flags_whats, plain_size, align_whats, memory_whats, whats_of, name_places}
+use Rattle.gi_spelling.specs.Spelling.{word_what, type_whats, definition_whats, source_whats, listed_whats, defined_whats, flag_whats, flags_whats, plain_size, align_whats, memory_whats, whats_of, name_places, places_of, type_at, SpellsInstr}
 use Rattle.gi_spelling.proofs.BlockSpells.{IsInstrLine}
 use Rattle.gi_spelling.proofs.InstrPieces.{instr_apart}
 use Rattle.gi_spelling.proofs.KeptLines.{are_loud, opens_next, all_kept}
 use Rattle.gi_spelling.proofs.NamePlaces.{names_in_line}
 use Rattle.gi_spelling.proofs.PlacedLines.{is_sized, IsLine, read_line, line_slice}
-use Rattle.gi_spelling.proofs.PrintedForms.{placed_operands, sources_define_nothing, definitions_define, parts_whole, rows_placed, ranges_placed, definitions_placed}
-use Rattle.gi_spelling.proofs.PrintedOperands.{says_bracketed, definition_of, name_in, AreTables, types_by}
+use Rattle.gi_spelling.proofs.PrintedForms.{is_source, placed_operands, sources_define_nothing, definitions_define, parts_whole, rows_placed, ranges_placed, definitions_placed}
+use Rattle.gi_spelling.proofs.PrintedOperands.{IsLoud, says_bracketed, definition_of, name_in, AreTables, types_by}
 use Rattle.gi_spelling.proofs.PrintedPieces.{Says, says_nothing, says_both, says_spaces, says_token, says_one, names_shown, op_is, decimal_signed}
-use Rattle.gi_spelling.proofs.PrintedSources.{AreDefinitions, definitions_are, sources_at, AreSources, sources_are, places_found, operands_named}
+use Rattle.gi_spelling.proofs.PrintedSources.{AreDefinitions, definitions_are, sources_at, AreSources, sources_are, AreNamed, places_found, operands_named}
 use Rattle.gi_spelling.proofs.PrintedTokens.{reads_pieces}
 use Rattle.gi_spelling.proofs.SignedNumbers.{decimal_written, decimal_sized}
 

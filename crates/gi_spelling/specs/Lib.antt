@@ -7,8 +7,6 @@ pub mod Kept
 pub mod LineExample
 pub mod Lines
 pub mod Named
-pub mod Plain
-pub mod PlainPrintable
 pub mod Printable
 pub mod Printed
 pub mod Read

@@ -5,7 +5,7 @@ use Rattle.gi_mir.specs.Data.{ModuleData}
 use Rattle.gi_mir_read.specs.Sizes.{size_fault}
 use Rattle.gi_observe.specs.declared.pass.Pass.{Pass}
 use Rattle.gi_observe.specs.declared.pass.Pass.TheVariants.{RegBankSelect, Select}
-use Rattle.gi_spelling.specs.Plain.{lines_of}
+use Rattle.gi_spelling.specs.Lines.{lines_of}
 use Rattle.gi_text.specs.declared.token.SizeError.{SizeError}
 use Rattle.gisel.specs.Answers.{selects, IsChecked, IsNotBuilt, IsSelectedText}
 use Rattle.gisel.specs.Checks.{checked, fitting, keyed, sized, target_of}

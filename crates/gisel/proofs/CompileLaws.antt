@@ -3,24 +3,22 @@ use Rattle.std.proofs.Common.{◌≡◌, ℕ, suc, true, ◌&&◌, List, [], ◌
 use Rattle.std.specs.Prelude.{nat_le, nat_lt, ◌^◌}
 use Rattle.std.specs.List.{AllByRecursion, AllZip, list_all}
 use Rattle.std.specs.Cmp.Derive.{both_true}
-use Rattle.std.proofs.lemmas.Bool.{and_parts}
 use Rattle.gi_mir.specs.Data.{InstrData, BlockData, FunctionData, ModuleData}
 use Rattle.gi_mir.specs.declared.operand.Operand.{Operand}
 use Rattle.gi_mir.specs.declared.operand.Operand.TheVariants as operand
 use Rattle.gi_mir.specs.Numbering.{order_of, number_in, numbered, numbered_module}
 use Rattle.gi_mir.specs.Renaming.{renamed_operand, renamed_pair}
 use Rattle.gi_spelling.specs.Documents.{is_name}
-use Rattle.gi_spelling.specs.PlainPrintable.{is_named_operand, is_named_instr}
 use Rattle.gi_spelling.specs.Printable.{Counts, counts_of, IsPrintableInstr, IsPrintableBlock, is_writable_object, is_live_first, IsPrintableFunction, are_ir_lines, IsPrintableModule}
 use Rattle.gi_spelling.specs.Printed.{name_at, printed}
 use Rattle.gi_spelling.specs.Spelling.{Spells}
-use Rattle.gi_spelling.specs.Stated.{StatedInstr, is_argument, are_arguments, IsStated, IsStatedText}
+use Rattle.gi_spelling.specs.Stated.{StatedInstr, IsStated, IsStatedText}
 use Rattle.gi_spelling.specs.Words.{greatest_block}
 use Rattle.gi_mir.proofs.NumberingLaws.{number_in_apart}
 use Rattle.gi_spelling.proofs.NumberedPrintable.{numbered_printable}
 use Rattle.gi_spelling.proofs.PrintedTexts.{printed_spells}
 use Rattle.gi_spelling.proofs.Texts.{stated_name}
-use Rattle.gi_spelling.proofs.StatedTexts.{stated_text_spelled}
+use Rattle.gi_spelling.proofs.StatedTexts.{liveins_below, stated_text_spelled}
 use Rattle.gi_meaning.proofs.Renaming.{runs_renamed}
 use Rattle.gi_refine.specs.Refinement.{IsRefinement}
 use Rattle.gi_refine.proofs.Refining.{refines_through}
@@ -31,10 +29,10 @@ use Rattle.gisel.specs.Selectable.{IsSelectable, AllSelectable}
 use Rattle.gisel.specs.Promise.{Refines, Compiles}
 use Rattle.gisel.proofs.ClassedRuns.{classed_pairs, classed_refines}
 use Rattle.gisel.proofs.NormalForms.{one_normal_form}
-use Rattle.gisel.proofs.SelectShapes.{shaped, classed_all, in_order}
+use Rattle.gisel.proofs.SelectShapes.{shaped, classed_all, is_nameless_operand, is_nameless, in_order}
 use Rattle.gisel.proofs.SelectSteps.{Came}
 use Rattle.gisel.proofs.SelectLoops.{NormalOf, normal_of}
-use Rattle.gisel.proofs.SelectedPrintable.{among_short, none_defined, argument_small, selected_fine}
+use Rattle.gisel.proofs.SelectedPrintable.{among_short, none_defined, selected_fine}
 
 -- ══ What is selected ══
 
@@ -94,24 +92,22 @@ selected_block f h g made =
 
 -- ══ What is printed can be spelled ══
 
-named_operand : (number : ℕ → ℕ) (names : List (List ℕ)) (o : Operand) → is_named_operand names (renamed_operand number (classed_operand o)) ≡ is_named_operand names o
-named_operand number names (operand.Def r k) = refl
-named_operand number names (operand.Use r) = refl
-named_operand number names o = refl
+nameless_operand : (number : ℕ → ℕ) (o : Operand) → is_nameless_operand (renamed_operand number (classed_operand o)) ≡ is_nameless_operand o
+nameless_operand number (operand.Def r k) = refl
+nameless_operand number (operand.Use r) = refl
+nameless_operand number o = refl
 
-named_operands : (number : ℕ → ℕ) (names : List (List ℕ)) (os : List Operand)
-    → list_all (is_named_operand names) (map (renamed_operand number) (map classed_operand os)) ≡ list_all (is_named_operand names) os
-named_operands number names [] = refl
-named_operands number names (o ∷ os) = ap₂ (λ a b. a && b) (named_operand number names o) (named_operands number names os)
+nameless_operands : (number : ℕ → ℕ) (os : List Operand) → list_all is_nameless_operand (map (renamed_operand number) (map classed_operand os)) ≡ list_all is_nameless_operand os
+nameless_operands number [] = refl
+nameless_operands number (o ∷ os) = ap₂ (λ a b. a && b) (nameless_operand number o) (nameless_operands number os)
 
-pub named_instrs : (number : ℕ → ℕ) (names : List (List ℕ)) (is js : List (ℕ × InstrData)) → AllZip IsSameInstr (classed_pairs is) js
-    → list_all (is_named_instr names) (map (renamed_pair number) js) ≡ list_all (is_named_instr names) is
-named_instrs number names [] [] h = refl
-named_instrs number names [] (j ∷ js) h = absurd h
-named_instrs number names (i ∷ is) [] h = absurd h
-named_instrs number names (i ∷ is) (j ∷ js) h =
-    ap₂ (λ a b. a && b) (ap (λ (d : InstrData). list_all (is_named_operand names) (map (renamed_operand number) d.operands)) h.0 ∙ named_operands number names i.1.operands)
-    (named_instrs number names is js h.1)
+pub nameless_instrs : (number : ℕ → ℕ) (is js : List (ℕ × InstrData)) → AllZip IsSameInstr (classed_pairs is) js → list_all is_nameless (map (renamed_pair number) js) ≡ list_all is_nameless is
+nameless_instrs number [] [] h = refl
+nameless_instrs number [] (j ∷ js) h = absurd h
+nameless_instrs number (i ∷ is) [] h = absurd h
+nameless_instrs number (i ∷ is) (j ∷ js) h =
+    ap₂ (λ a b. a && b) (ap (λ (d : InstrData). list_all is_nameless_operand (map (renamed_operand number) d.operands)) h.0 ∙ nameless_operands number i.1.operands)
+    (nameless_instrs number is js h.1)
 
 -- the same but for ids
 fine_same : (names : List (List ℕ)) (counts : Counts) (is js : List (ℕ × InstrData)) → AllZip IsSameInstr (classed_pairs is) js
@@ -122,16 +118,6 @@ fine_same names counts (i ∷ is) [] same fine = absurd same
 fine_same names counts (i ∷ is) (j ∷ js) same fine =
     let here : IsPrintableInstr names counts (0, j.1) = subst (λ (k : InstrData). IsPrintableInstr names counts (0, k)) (sym same.0) fine.0 in
     (record { formed = here.formed; operands = here.operands; memory = here.memory }, fine_same names counts is js same.1 fine.1)
-
-arguments_below : (numbers : List ℕ) → list_all is_argument numbers ≡ true → list_all (λ n. nat_lt n 32) numbers ≡ true
-arguments_below [] all = refl
-arguments_below (n ∷ numbers) all =
-    let parts = and_parts (is_argument n) (list_all is_argument numbers) all in
-    both_true (argument_small n parts.0) (arguments_below numbers parts.1)
-
-liveins_below : (numbers : List ℕ) → are_arguments numbers ≡ true → list_all (λ n. nat_lt n 32) numbers ≡ true
-liveins_below [] some = cc
-liveins_below (n ∷ numbers) some = arguments_below (n ∷ numbers) some
 
 one_writable : (names : List (List ℕ)) (g : FunctionData) (block : BlockData) → g.blocks ≡ block ∷ [] → g.stack ≡ [] → is_name (name_at names g.name) ≡ true
     → list_all (λ n. nat_lt n 32) block.liveins ≡ true → block.successors ≡ [] → AllByRecursion (IsPrintableInstr names (counts_of g)) block.instrs → IsPrintableFunction names g

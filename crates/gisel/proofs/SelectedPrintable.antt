@@ -1,7 +1,7 @@
 -- What is selected of stated instructions can be printed: each instruction is formed, and a token can write each of its parts.
-use Rattle.std.proofs.Common.{◌≡◌, ℕ, ℤ, pos, negsuc, Bool, true, false, ◌&&◌, ◌||◌, List, [], ◌∷◌, Option, Some, None, option_map, find, refl, sym, subst, ap, ap₂, ◌∙◌, arith, if◌then◌else◌}
-use Rattle.std.specs.Prelude.{nat_le, nat_lt, not, ◌==◌}
-use Rattle.std.specs.List.{AllByRecursion, AllZip, list_all}
+use Rattle.std.proofs.Common.{◌≡◌, ℕ, ℤ, pos, negsuc, Bool, true, false, ◌&&◌, ◌||◌, List, [], ◌∷◌, Option, Some, None, option_map, find, refl, sym, subst, arith, if◌then◌else◌}
+use Rattle.std.specs.Prelude.{nat_le, nat_lt, not, ◌==◌, ⊤}
+use Rattle.std.specs.List.{AllByRecursion, AllZip}
 use Rattle.std.proofs.lemmas.Bool.{and_parts, eqb-true}
 use Rattle.std.proofs.lemmas.Bool.Decides.{nat_tests}
 use Rattle.gi_mir.specs.Data.{InstrData, reg_of}
@@ -13,10 +13,10 @@ use Rattle.gi_mir.specs.declared.operand.Operand.{Operand}
 use Rattle.gi_mir.specs.declared.operand.Operand.TheVariants as operand
 use Rattle.gi_llt.specs.Bits.{signed}
 use Rattle.gi_meaning.specs.Machine.{is_immediate}
-use Rattle.gi_spelling.specs.Words.{greatest_register}
 use Rattle.gi_spelling.specs.Printable.{Counts, is_whole, is_writable_register, IsPrintableInstr}
 use Rattle.gi_spelling.specs.Stated.{StatedInstr, CopyIn, MakeConstant, AddUp, CopyOut, Return, stated_instr, IsStatedInstr, is_among, is_argument, is_new, is_short, is_stated_after, defined_after, live_after}
-use Rattle.gisel.specs.Rows.{short_constant, short_number, short_operands, short_where}
+use Rattle.gi_spelling.proofs.StatedTexts.{argument_below}
+use Rattle.gisel.specs.Rows.{short_constant, short_operands, short_where}
 use Rattle.gisel.specs.Selecting.{before, selected_list, selected_root, selected_sum, selected_where, short_among, used_in}
 use Rattle.gisel.specs.Selection.{classed_instr}
 use Rattle.gisel.specs.declared.select.Root.TheVariants as root
@@ -65,9 +65,6 @@ new_small defined d new =
     let least : nat_le d 4194303 ≡ true = (and_parts (not (is_among defined d)) (nat_le d 4194303) new).1 in
     grind (arith, nat_tests)
 
-pub argument_small : (p : ℕ) → is_argument p ≡ true → nat_lt p 32 ≡ true
-argument_small p argument = grind (arith, nat_tests)
-
 with_small : (defined : List ℕ) (d : ℕ) → is_writable_register d ≡ true → SmallOnes defined → SmallOnes (d ∷ defined)
 with_small defined d small known r among = by (d == r) refl among
   where
@@ -81,13 +78,13 @@ IsSmall (CopyIn d p) = (is_writable_register d ≡ true) × (nat_lt p 32 ≡ tru
 IsSmall (MakeConstant d v) = (is_writable_register d ≡ true) × (is_short v ≡ true)
 IsSmall (AddUp d a b) = (is_writable_register d ≡ true) × (is_writable_register a ≡ true) × (is_writable_register b ≡ true)
 IsSmall (CopyOut p q) = (nat_lt p 32 ≡ true) × (is_writable_register q ≡ true)
-IsSmall Return = true ≡ true
+IsSmall Return = ⊤
 
 small_of : (defined live : List ℕ) (s : StatedInstr) → SmallOnes defined → is_stated_after defined live s ≡ true → IsSmall s
 small_of defined live (CopyIn d p) known stands =
     let outer = and_parts (is_new defined d && is_argument p) (is_among live p) stands in
     let inner = and_parts (is_new defined d) (is_argument p) outer.0 in
-    (new_small defined d inner.0, argument_small p inner.1)
+    (new_small defined d inner.0, argument_below p inner.1)
 small_of defined live (MakeConstant d v) known stands =
     let parts = and_parts (is_new defined d) (is_short v) stands in
     (new_small defined d parts.0, parts.1)
@@ -97,8 +94,8 @@ small_of defined live (AddUp d a b) known stands =
     (new_small defined d inner.0, known a inner.1, known b outer.1)
 small_of defined live (CopyOut p q) known stands =
     let parts = and_parts (is_argument p) (is_among defined q) stands in
-    (argument_small p parts.0, known q parts.1)
-small_of defined live Return known stands = refl
+    (argument_below p parts.0, known q parts.1)
+small_of defined live Return known stands = tt
 
 small_after : (defined : List ℕ) (s : StatedInstr) → IsSmall s → SmallOnes defined → SmallOnes (defined_after defined s)
 small_after defined (CopyIn d p) small known = with_small defined d small.0 known

@@ -7,7 +7,7 @@ use Rattle.gi_observe.specs.declared.pass.Pass.{Pass}
 use Rattle.gi_observe.specs.declared.pass.Pass.TheVariants.{IrTranslator, RegBankSelect, Select}
 use Rattle.gi_observe.specs.Passes.{word_of}
 use Rattle.gi_spelling.specs.Documents.{wrong_in}
-use Rattle.gi_spelling.specs.Plain.{lines_of}
+use Rattle.gi_spelling.specs.Lines.{lines_of}
 use Rattle.gi_spelling.specs.Printed.{printed}
 use Rattle.gi_spelling.specs.Read.{IsReadModule}
 use Rattle.gi_spelling.specs.declared.written.Wrong.{Wrong}

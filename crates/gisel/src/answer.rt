@@ -4,7 +4,7 @@ ghost use Rattle.std.specs.Prelude.{◌≡◌, ◌≤◌, ◌-◌, ◌^◌, ◌<
 ghost use Rattle.gi_spelling.specs.Documents.{wrong_in};
 ghost use Rattle.gi_spelling.specs.Read.{IsReadModule, IsRefusal};
 ghost use Rattle.gi_mir.specs.Numbering.{numbered_module};
-ghost use Rattle.gi_spelling.specs.Plain.{lines_of};
+ghost use Rattle.gi_spelling.specs.Lines.{lines_of};
 ghost use Rattle.gi_spelling.specs.Printed.{printed};
 ghost use Rattle.gisel.specs.Answers.{limit, selects, IsChecked, IsAnswer, IsWrongLine, IsNotBuilt, IsRefusedText, IsSelectedText};
 ghost use Rattle.gisel.specs.Machine.{width_of};

@@ -9,7 +9,7 @@ ghost use Rattle.gi_spelling.specs.Read.{IsReadModule};
 ghost use Rattle.gi_spelling.specs.Same.{IsSameModule};
 ghost use Rattle.gi_spelling.specs.Spelled.{IsSpelled};
 ghost use Rattle.gi_spelling.specs.There.{NamesBlocksThatAreThere};
-ghost use Rattle.gi_spelling.specs.Plain.{lines_of};
+ghost use Rattle.gi_spelling.specs.Lines.{lines_of};
 ghost use Rattle.gi_refine.specs.Refinement.{IsRefinement};
 ghost use Rattle.gisel.specs.NormalForm.{IsNormalForm};
 ghost use Rattle.gisel.specs.Refused.{IsStatedLines, IsRefusedAt};
