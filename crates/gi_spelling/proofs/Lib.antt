@@ -4,6 +4,7 @@ pub mod BlockLines
 pub mod BlockSpells
 pub mod Blocks
 pub mod Documents
+pub mod EntrySpells
 pub mod InstrPieces
 pub mod ItemBounds
 pub mod ItemParts
@@ -49,9 +50,7 @@ pub mod SpelledReads
 pub mod SpelledRight
 pub mod SpellingExamples
 pub mod StatedLines
-pub mod StatedSpells
 pub mod StatedTexts
-pub mod TextSpells
 pub mod Texts
 pub mod ThereSame
 pub mod TokenBounds

@@ -1,20 +1,19 @@
 -- The names of a line's tokens are those that stand at their places in the text.
-use Rattle.std.proofs.Common.{◌≡◌, ℕ, zero, suc, ◌+◌, Bool, true, false, List, [], ◌∷◌, ◌++◌, length, drop, Option, Some, None, map, refl, sym, ap, ◌∙◌, subst}
-use Rattle.std.specs.Prelude.{◌&&◌, ◌==◌, not, nat_lt, bytes_eq, codes, filter_map, find, position, option_map, unwrap_or, Ok, Err, if◌then◌else◌}
+use Rattle.std.proofs.Common.{◌≡◌, ℕ, zero, suc, Bool, true, false, List, [], ◌∷◌, ◌++◌, length, drop, Option, Some, None, map, refl, sym, ap, ◌∙◌, subst}
+use Rattle.std.specs.Prelude.{◌&&◌, ◌==◌, nat_lt, bytes_eq, codes, find, position, option_map, unwrap_or, Ok, Err, if◌then◌else◌}
 use Rattle.std.specs.List.{list_all, AllZip}
 use Rattle.std.specs.Option.{option_map_or}
 use Rattle.std.proofs.lemmas.Bool.{and_parts, not-true, false≢true}
-use Rattle.gi_llt.specs.Tokens.{LexemeKind, Word as OfWord, Number as OfNumber, Register as OfRegister, Physical as OfPhysical, Global as OfGlobal, Routine as OfRoutine, Quoted as OfQuoted, Metadata as OfMetadata, Mark as OfMark, Lexeme, lexeme, is_digit, is_hexadecimal_digit, is_word_byte, run_of, through, Start, OfBlank, OfComment, OfMinus, OfName, OfNothing, start_of, Found, FoundBlank, FoundComment, FoundToken, FoundNothing, found_some, found_minus, found_hexadecimal, found_number, found_quoted, found, tokens_from, tokens_past, tokens_of}
+use Rattle.gi_llt.specs.Tokens.{LexemeKind, Word as OfWord, Number as OfNumber, Register as OfRegister, Physical as OfPhysical, Global as OfGlobal, Routine as OfRoutine, Quoted as OfQuoted, Metadata as OfMetadata, Mark as OfMark, Lexeme, lexeme, is_digit, is_hexadecimal_digit, is_word_byte, run_of, through, Start, OfBlank, OfComment, OfMinus, OfName, OfNothing, start_of, Found, FoundBlank, FoundComment, FoundToken, FoundNothing, found_some, found_minus, found_hexadecimal, found_number, found_quoted, found, tokens_from, tokens_past}
 use Rattle.gi_llt.specs.Tokens as start
 use Rattle.gi_llt.proofs.Pieces.{is_stopped}
 use Rattle.gi_text.specs.declared.token.Token.{Token}
 use Rattle.gi_text.specs.Numbers.{is_too_great}
-use Rattle.gi_text.specs.Cutting.{Fault, TooGreat, Cut, behind, token_at, cut_from, cut_past, slice, cut_of, lexeme_in}
+use Rattle.gi_text.specs.Cutting.{TooGreat, Cut, behind, token_at, cut_from, cut_past, slice, cut_of, lexeme_in}
 use Rattle.gi_text.proofs.LawLemmas.{table_of}
 use Rattle.gi_mir.specs.Routines.{routine_names}
 use Rattle.gi_spelling.specs.declared.token.What.{What}
 use Rattle.gi_spelling.specs.declared.token.What.TheVariants as what
-use Rattle.gi_spelling.specs.declared.token.Item.{Item}
 use Rattle.gi_spelling.specs.Items.{item_of, end_of}
 use Rattle.gi_spelling.specs.Lines.{Line}
 use Rattle.gi_spelling.specs.Named.{name_of_token}

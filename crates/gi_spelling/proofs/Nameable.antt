@@ -1,9 +1,9 @@
--- Functions without a stack object in which each name is a name.
-use Rattle.std.specs.Prelude.{◌≡◌, ℕ, Bool, true, List, [], ◌∷◌, ⊤}
+-- Instructions and blocks in which each name is a name.
+use Rattle.std.specs.Prelude.{ℕ, Bool, true, List}
 use Rattle.std.specs.List.{list_all}
 use Rattle.gi_mir.specs.declared.operand.Operand.{Operand}
 use Rattle.gi_mir.specs.declared.operand.Operand.TheVariants.{Global, Routine}
-use Rattle.gi_mir.specs.Data.{InstrData, BlockData, FunctionData}
+use Rattle.gi_mir.specs.Data.{InstrData, BlockData}
 use Rattle.gi_mir.specs.Routines.{routine_names}
 use Rattle.gi_spelling.specs.Printed.{name_at}
 use Rattle.gi_spelling.specs.Documents.{is_name}
@@ -18,12 +18,3 @@ is_named_instr names instr = list_all (is_named_operand names) (instr.1).operand
 
 abbrev pub is_named_block : (names : List (List ℕ)) → BlockData → Bool
 is_named_block names block = list_all (is_named_instr names) block.instrs
-
-pub record IsNameable (names : List (List ℕ)) (f : FunctionData) : Type 0 where
-  pub is_named : is_name (name_at names f.name) ≡ true
-  pub no_objects : f.stack ≡ []
-  pub named_blocks : list_all (is_named_block names) f.blocks ≡ true
-
-abbrev pub AllNameable : (names : List (List ℕ)) → List FunctionData → Type 0
-AllNameable names [] = ⊤
-AllNameable names (f ∷ functions) = IsNameable names f × AllNameable names functions

@@ -1,6 +1,6 @@
 -- The blocks of a function as they are printed spell these blocks.
-use Rattle.std.proofs.Common.{◌≡◌, ℕ, zero, suc, ◌+◌, ◌<◌, ◌≤◌, Bool, true, false, List, [], ◌∷◌, length, Option, Some, None, map, refl, sym, ap, ◌∙◌, subst, arith, inl, inr}
-use Rattle.std.specs.Prelude.{◌&&◌, ◌⊎◌, ◌==◌, not, cond, nat_lt, nat_le, nat_eq, min, position, unwrap_or, ⊤, if◌then◌else◌}
+use Rattle.std.proofs.Common.{◌≡◌, ℕ, zero, suc, ◌+◌, ◌<◌, Bool, true, false, List, [], ◌∷◌, length, Option, Some, None, map, refl, sym, ap, ◌∙◌, arith, inl, inr}
+use Rattle.std.specs.Prelude.{◌==◌, not, nat_lt, nat_eq, unwrap_or, ⊤, if◌then◌else◌}
 use Rattle.std.specs.List.{list_all, prefix_len, AllByRecursion, AllZip}
 use Rattle.std.specs.Cmp.Derive.{both_true}
 use Rattle.std.proofs.lemmas.Bool.{and_parts, false≢true}
@@ -12,13 +12,13 @@ use Rattle.gi_mir.specs.declared.operand.Operand.{Operand}
 use Rattle.gi_mir.specs.declared.operand.Operand.TheVariants.{Def}
 use Rattle.gi_mir.specs.Data.{InstrData, BlockData, FunctionData}
 use Rattle.gi_mir.specs.Registers.{type_of_kind, first_there, kind_in_operand, kind_in_operands, kind_in_instrs, kind_in_blocks, kind_of}
-use Rattle.gi_spelling.proofs.Nameable.{is_named_operand, is_named_instr, is_named_block}
+use Rattle.gi_spelling.proofs.Nameable.{is_named_instr, is_named_block}
 use Rattle.gi_spelling.specs.Printable.{is_writable_type, is_writable_kind, is_writable_register, Counts, counts_of, is_writable_operand, IsPrintableInstr, IsPrintableBlock, is_none_live, is_live_first, IsPrintableFunction}
-use Rattle.gi_spelling.specs.Printed.{instr_line, instr_lines}
+use Rattle.gi_spelling.specs.Printed.{instr_lines}
 use Rattle.gi_spelling.specs.Resolved.{Tables, block_place}
 use Rattle.gi_spelling.specs.Spelling.{types_in}
 use Rattle.gi_spelling.proofs.Blocks.{IsLiveAt}
-use Rattle.gi_spelling.proofs.BlockSpells.{IsInstrLine, ListsFit, IsBlockOf, AreBlocksOf, places_from}
+use Rattle.gi_spelling.proofs.BlockSpells.{IsInstrLine, AreBlocksOf, places_from}
 use Rattle.gi_spelling.proofs.PrintedInstrs.{instr_named, instr_line_spelled}
 use Rattle.gi_spelling.proofs.PrintedOperands.{AreTables}
 

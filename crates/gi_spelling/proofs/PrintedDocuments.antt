@@ -1,33 +1,33 @@
 -- The lines of a printed function, with its stack objects, spell that function.
-use Rattle.std.proofs.Common.{◌≡◌, ℕ, suc, ◌^◌, ◌≤◌, Bool, true, false, List, [], ◌∷◌, ◌++◌, length, Some, map, sym, refl, ap, ◌∙◌, subst, arith, inl}
-use Rattle.std.specs.Prelude.{not, filter, nat_le, replicate, codes, if◌then◌else◌}
+use Rattle.std.proofs.Common.{◌≡◌, ℕ, suc, ◌^◌, ◌≤◌, Bool, true, false, List, [], ◌∷◌, ◌++◌, length, Some, sym, refl, ap, ◌∙◌, subst, arith, inl}
+use Rattle.std.specs.Prelude.{not, filter, replicate, codes, if◌then◌else◌}
 use Rattle.std.specs.List.{list_all, AllZip}
 use Rattle.std.proofs.lemmas.Bool.Decides.{nat_tests}
 use Rattle.std.proofs.lemmas.List.{append-nil}
-use Rattle.gi_llt.specs.Tokens.{run_of, past_run}
-use Rattle.gi_llt.proofs.Apart.{is_no_feed}
 use Rattle.gi_llt.proofs.Pieces.{run_of-append, past_run-append}
 use Rattle.gi_mir.specs.declared.operand.StackObject.{StackObject}
 use Rattle.gi_mir.specs.Data.{FunctionData}
 use Rattle.gi_mir.specs.Registers.{kind_of}
 use Rattle.gi_spelling.specs.declared.token.What.TheVariants as what
 use Rattle.gi_spelling.specs.Blocks.{is_block_head as is_head_line, blocks_in, block_numbers}
-use Rattle.gi_spelling.specs.Documents.{entries_of, groups_of, objects_from, is_name}
+use Rattle.gi_spelling.specs.Documents.{entries_of}
 use Rattle.gi_spelling.specs.Lines as line_specs
-use Rattle.gi_spelling.specs.Lines.{Line, Section as LineSection, is_entry, document_lines, document_rest, document_entries, counted_lines, is_dropped, is_start, is_end, begins_at_column_one}
+use Rattle.gi_spelling.specs.Lines.{Line, Section as LineSection, is_entry, document_lines, document_rest, document_entries, counted_lines}
+use Rattle.gi_spelling.specs.Lines.{is_dropped, is_end, begins_at_column_one}
 use Rattle.gi_spelling.proofs.PlainLines.{Section, Sections, with_head, sections_of, kept_lines, is_block_head}
+use Rattle.gi_spelling.specs.Documents.{is_name}
 use Rattle.gi_spelling.proofs.Nameable.{is_named_block}
 use Rattle.gi_spelling.specs.Printable.{is_writable_object, IsPrintableFunction, counts_of}
-use Rattle.gi_spelling.specs.Printed.{name_at, key_lines, object_line, object_lines, stack_lines, blocks_lines}
+use Rattle.gi_spelling.specs.Printed.{name_at, key_lines, object_lines, stack_lines, blocks_lines}
 use Rattle.gi_spelling.specs.Spelling.{types_in, SpellsBlocks, entries_with, value_whats, Lists, SpellsBody, are_distinct, SpellsEntries, SpellsDocument}
 use Rattle.gi_spelling.proofs.BlockLines.{EachLine, each-append, each-weaker, IsInner}
-use Rattle.gi_spelling.proofs.Blocks.{kept-append, kept_each, kept_blocks, kept_blocks_lines, kept_blocks_inner, each_blocks, sections_of-append, IsRaw, raw_inner, raw_blocks, block_sections, sections_of-blocks}
+use Rattle.gi_spelling.proofs.Blocks.{kept-append, kept_each, kept_blocks, kept_blocks_lines, kept_blocks_inner, each_blocks, sections_of-append, IsRaw, raw_inner, block_sections, sections_of-blocks}
 use Rattle.gi_spelling.proofs.BlockSpells.{TellsLine, zip_each, all_told, blocks_tell, blocks_spelled, places_from, numbers_are, places_distinct, places_count, tells_head}
 use Rattle.gi_spelling.proofs.Documents.{entry_line, name_solid, Layout, header_lines, end_lines, body_line, IsOuter, body_outer, bar_solid, header_outer, bare, kept_outer, bare_sections, blank_at_no_column, body_sections, outer_no_end, inner_no_end, each_unended}
 use Rattle.gi_spelling.proofs.PlacedLines.{IsLine, Reads}
 use Rattle.gi_spelling.proofs.PrintedBlocks.{printed_tables, blocks_named, printed_blocks}
 use Rattle.gi_spelling.proofs.PrintedStacks.{object_inner, AreObjects, objects_are}
-use Rattle.gi_spelling.proofs.TextSpells.{by_flags, keyed_as, alone, reads_spaced, reads_bar, value_is, none_zip, one_zip, with_key, all_keyed, truth_spelled, name_spelled, ends_same, drops_same, column_same, end_stops, no_strays_behind}
+use Rattle.gi_spelling.proofs.EntrySpells.{by_flags, keyed_as, alone, reads_spaced, reads_bar, value_is, none_zip, one_zip, with_key, all_keyed, truth_spelled, name_spelled, ends_same, drops_same, column_same, end_stops, no_strays_behind}
 use Rattle.gi_spelling.proofs.Zips.{filter_zip, run_zip, past_zip, SectionsAgree, AllAgree, sections_zip}
 
 -- ══ The stack objects ══

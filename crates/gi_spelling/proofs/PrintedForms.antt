@@ -1,19 +1,17 @@
--- Instructions that are formed: their definitions stand first, and the numbers of names don't matter.
+-- Instructions that are formed: their definitions stand first, before operands that have the places of their names.
 use Rattle.std.proofs.Common.{◌≡◌, ℕ, Bool, true, false, List, [], ◌∷◌, ◌++◌, Option, Some, None, refl, sym, ap, ◌∙◌, inl, inr}
-use Rattle.std.specs.Prelude.{◌&&◌, ◌||◌, ◌⊎◌, not, if◌then◌else◌}
-use Rattle.std.specs.List.{list_all, list_any}
+use Rattle.std.specs.Prelude.{◌⊎◌, not, if◌then◌else◌}
+use Rattle.std.specs.List.{list_all}
 use Rattle.std.specs.Option.{option_map_or}
 use Rattle.std.specs.Cmp.Derive.{both_true}
 use Rattle.std.proofs.lemmas.Bool.{and_parts, or_cases, not-true, false≢true}
 use Rattle.gi_mir.specs.declared.opcode.Opcode.{Opcode}
 use Rattle.gi_mir.specs.declared.opcode.Opcode.TheVariants.{Copy}
 use Rattle.gi_mir.specs.declared.operand.Operand.{Operand}
-use Rattle.gi_mir.specs.declared.operand.Operand.TheVariants.{Def, Use, PhysDef, Global}
-use Rattle.gi_mir.specs.declared.operand.SymbolFlag.{SymbolFlag}
-use Rattle.gi_mir.specs.declared.operand.SymbolFlag.TheVariants.{Plain, Call, Hi, Lo}
+use Rattle.gi_mir.specs.declared.operand.Operand.TheVariants.{Def, Use, PhysDef}
 use Rattle.gi_mir.specs.declared.row.Form.{Form}
 use Rattle.gi_mir.specs.declared.row.Form.TheVariants as form
-use Rattle.gi_mir.specs.Formed.{admits, is_repeated, wanted_after, with_wanted, taken, fits, fits_one_of, is_in_range}
+use Rattle.gi_mir.specs.Formed.{admits, is_repeated, wanted_after, with_wanted, taken, fits, fits_one_of}
 use Rattle.gi_mir.specs.Row.{rows_of}
 use Rattle.gi_spelling.specs.Printed.{is_definition, definitions_of, sources_of}
 use Rattle.gi_spelling.proofs.PrintedOperands.{name_in, placed_at}
@@ -194,7 +192,7 @@ parts_whole (x ∷ operands) = chosen (is_definition x) (parts_whole operands)
     chosen true later = ap (λ more. x ∷ more) later
     chosen false later = refl
 
--- ══ The numbers of names don't matter ══
+-- ══ Operands with the places of their names ══
 
 -- the places of names one after the other
 abbrev pub first_place : List ℕ → ℕ
@@ -210,47 +208,6 @@ places_after (Some name) (place ∷ places) = places
 abbrev pub placed_operands : (names : List (List ℕ)) (places : List ℕ) → List Operand → List Operand
 placed_operands names places [] = []
 placed_operands names places (operand ∷ operands) = placed_at (first_place places) operand ∷ placed_operands names (places_after (name_in names operand) places) operands
-
-admits_global : (f : Form) (flag : SymbolFlag) (place name : ℕ) → admits f (Global flag place) ≡ admits f (Global flag name)
-admits_global form.Def Plain place name = refl
-admits_global form.Def Call place name = refl
-admits_global form.Def Hi place name = refl
-admits_global form.Def Lo place name = refl
-admits_global _ Plain place name = refl
-admits_global _ Call place name = refl
-admits_global _ Hi place name = refl
-admits_global _ Lo place name = refl
-
-admits_placed : (f : Form) (place : ℕ) (x : Operand) → admits f (placed_at place x) ≡ admits f x
-admits_placed f place (Global flag name) = admits_global f flag place name
-admits_placed f place _ = refl
-
-taken_placed : (forms : List Form) (place : ℕ) (x : Operand) → taken (placed_at place x) forms ≡ taken x forms
-taken_placed [] place x = refl
-taken_placed (f ∷ forms) place x = rw (admits_placed f place x, taken_placed forms place x) refl
-
-fits_placed : (names : List (List ℕ)) (places : List ℕ) (operands : List Operand) (forms : List Form) → fits forms (placed_operands names places operands) ≡ fits forms operands
-fits_placed names places [] forms = refl
-fits_placed names places (x ∷ operands) forms =
-    ap (λ left. option_map_or (λ left. fits left (placed_operands names (places_after (name_in names x) places) operands)) left false) (taken_placed forms (first_place places) x)
-    ∙ chosen (taken x forms) (fits_placed names (places_after (name_in names x) places) operands)
-  where
-    chosen : (left : Option (List Form)) → ((forms : List Form) → fits forms (placed_operands names (places_after (name_in names x) places) operands) ≡ fits forms operands)
-        → option_map_or (λ left. fits left (placed_operands names (places_after (name_in names x) places) operands)) left false ≡ option_map_or (λ left. fits left operands) left false
-    chosen None later = refl
-    chosen (Some left) later = later left
-
-pub rows_placed : (names : List (List ℕ)) (places : List ℕ) (operands : List Operand) (rows : List (List Form)) → fits_one_of rows (placed_operands names places operands) ≡ fits_one_of rows operands
-rows_placed names places operands [] = refl
-rows_placed names places operands (forms ∷ rows) = rw (fits_placed names places operands forms, rows_placed names places operands rows) refl
-
-in_range_placed : (place : ℕ) (x : Operand) → is_in_range (placed_at place x) ≡ is_in_range x
-in_range_placed place (Global flag name) = refl
-in_range_placed place _ = refl
-
-pub ranges_placed : (names : List (List ℕ)) (places : List ℕ) (operands : List Operand) → list_all is_in_range (placed_operands names places operands) ≡ list_all is_in_range operands
-ranges_placed names places [] = refl
-ranges_placed names places (x ∷ operands) = rw (in_range_placed (first_place places) x, ranges_placed names (places_after (name_in names x) places) operands) refl
 
 -- definitions have no names
 pub definitions_placed : (names : List (List ℕ)) (places : List ℕ) (operands : List Operand)

@@ -1,10 +1,10 @@
 -- The line of an instruction as it is printed spells that instruction.
-use Rattle.std.proofs.Common.{◌≡◌, ℕ, zero, suc, ◌+◌, ◌/◌, ◌^◌, ◌<◌, ◌≤◌, Bool, true, false, List, [], ◌∷◌, ◌++◌, Option, Some, None, map, refl, sym, ap, ◌∙◌, subst, append_assoc, arith, inl, inr}
-use Rattle.std.specs.Prelude.{◌&&◌, ◌||◌, ◌⊎◌, ◌==◌, not, filter_map, min, nat_le, codes, decimal, option_map, nat_lt, Ok, if◌then◌else◌}
+use Rattle.std.proofs.Common.{◌≡◌, ℕ, zero, suc, ◌^◌, ◌<◌, ◌≤◌, Bool, true, false, List, [], ◌∷◌, ◌++◌, Option, Some, None, map, refl, sym, ap, ◌∙◌, subst, append_assoc, arith, inl, inr}
+use Rattle.std.specs.Prelude.{◌&&◌, ◌⊎◌, ◌==◌, not, filter_map, min, nat_le, codes, decimal, option_map, nat_lt, Ok, if◌then◌else◌}
 use Rattle.std.specs.Int.{is_power_of_two}
 use Rattle.std.specs.List.{list_all, AllZip}
 use Rattle.std.specs.Cmp.Derive.{both_true}
-use Rattle.std.proofs.lemmas.Bool.{and_parts, or_cases, not-true, false≢true, eqb-true}
+use Rattle.std.proofs.lemmas.Bool.{and_parts, or_cases, false≢true, eqb-true}
 use Rattle.std.proofs.lemmas.Bool.Decides.{nat_tests}
 use Rattle.std.proofs.lemmas.List.{append-nil}
 use Rattle.std.proofs.lemmas.List.Folds.{list_all-append}
@@ -33,31 +33,32 @@ use Rattle.gi_spelling.specs.declared.token.Flag.TheVariants as flag
 use Rattle.gi_spelling.specs.declared.token.Word.TheVariants as word
 use Rattle.gi_spelling.specs.declared.token.What.{What}
 use Rattle.gi_spelling.specs.declared.token.What.TheVariants as what
-use Rattle.gi_spelling.specs.declared.token.Item.{Item}
 use Rattle.gi_spelling.specs.declared.written.Memory.{Memory}
 use Rattle.gi_spelling.specs.Words.{what_of, is_plain_signed}
 use Rattle.gi_spelling.specs.Written.{WrittenData}
 use Rattle.gi_spelling.specs.Items.{item_of, end_of, what_in}
 use Rattle.gi_spelling.specs.Kept.{kept}
 use Rattle.gi_spelling.specs.Lines.{Line}
-use Rattle.gi_spelling.specs.Named.{name_of_token, IsNamedInstr}
+use Rattle.gi_spelling.specs.Named.{name_of_token, IsNamedOperand}
 use Rattle.gi_spelling.specs.Documents.{is_name}
-use Rattle.gi_spelling.specs.Printable.{Counts, is_writable_type, is_writable_operand, is_writable_access, is_writable_memory, IsPrintableInstr}
-use Rattle.gi_spelling.proofs.Nameable.{is_named_operand, is_named_instr}
+use Rattle.gi_spelling.specs.Printable.{Counts, is_writable_type, is_writable_operand, is_writable_memory, IsPrintableInstr}
+use Rattle.gi_spelling.proofs.Nameable.{is_named_operand}
 use Rattle.gi_spelling.specs.Printed.{mark, word as word_piece, listed, bracketed, type_piece, name_at, definitions_of, sources_of, source_forms, first_row, source_pieces, definition_pieces, defined_pieces, flag_pieces, flags_pieces, sources_pieces, usual_align, align_pieces, memory_pieces, instr_pieces, instr_line}
 use Rattle.gi_spelling.specs.Resolved.{Tables, is_written_alignment, aligned, resolved_memory, formed as resolved_formed, resolved}
-use Rattle.gi_spelling.specs.Spelling.{word_what, type_whats, definition_whats, source_whats, listed_whats, defined_whats, flag_whats, flags_whats, plain_size, align_whats, memory_whats, whats_of, name_places, places_of, type_at, SpellsInstr}
+use Rattle.gi_spelling.specs.Spelling.{word_what, type_whats, definition_whats, source_whats, listed_whats, defined_whats, flag_whats, flags_whats, plain_size, align_whats, memory_whats, whats_of, name_places}
+use Rattle.gi_spelling.proofs.AlikeFormed.{IsAlike, formed_alike, named_alike}
 use Rattle.gi_spelling.proofs.BlockSpells.{IsInstrLine}
 use Rattle.gi_spelling.proofs.InstrPieces.{instr_apart}
 use Rattle.gi_spelling.proofs.KeptLines.{are_loud, opens_next, all_kept}
 use Rattle.gi_spelling.proofs.NamePlaces.{names_in_line}
 use Rattle.gi_spelling.proofs.PlacedLines.{is_sized, IsLine, read_line, line_slice}
-use Rattle.gi_spelling.proofs.PrintedForms.{is_source, placed_operands, sources_define_nothing, definitions_define, parts_whole, rows_placed, ranges_placed, definitions_placed}
-use Rattle.gi_spelling.proofs.PrintedOperands.{IsLoud, says_bracketed, definition_of, name_in, AreTables, types_by}
+use Rattle.gi_spelling.proofs.PrintedForms.{placed_operands, sources_define_nothing, definitions_define, parts_whole, definitions_placed}
+use Rattle.gi_spelling.proofs.PrintedOperands.{says_bracketed, definition_of, name_in, AreTables, types_by}
 use Rattle.gi_spelling.proofs.PrintedPieces.{Says, says_nothing, says_both, says_spaces, says_token, says_one, names_shown, op_is, decimal_signed}
-use Rattle.gi_spelling.proofs.PrintedSources.{AreDefinitions, definitions_are, sources_at, AreSources, sources_are, AreNamed, places_found, operands_named}
+use Rattle.gi_spelling.proofs.PrintedSources.{AreDefinitions, definitions_are, sources_at, AreSources, sources_are, places_found, operands_named}
 use Rattle.gi_spelling.proofs.PrintedTokens.{reads_pieces}
 use Rattle.gi_spelling.proofs.SignedNumbers.{decimal_written, decimal_sized}
+use Rattle.gi_spelling.proofs.Zips.{zip_weaker}
 
 -- ══ Memory ══
 
@@ -293,20 +294,22 @@ instr_loud kinds names tables instr places whole =
     defined_loud (definitions_of instr.operands) _ whole.definitions
     (flags_loud instr.flags _ ((whole.sources places).loud.loud (memory_whats (option_map memory_of instr.mem)) (memory_loud (option_map memory_of instr.mem)) (memory_closed (option_map memory_of instr.mem))))
 
-placed_formed : (names : List (List ℕ)) (places : List ℕ) (instr : InstrData) → is_formed instr ≡ true → is_formed (placed_instr names places instr) ≡ true
-unfolding is_formed
-placed_formed names places instr formed = rw (rows_placed names places instr.operands (rows_of instr.op), ranges_placed names places instr.operands) formed
+placed_formed : (text : List ℕ) (names : List (List ℕ)) (places : List ℕ) (instr : InstrData) → AllZip (IsNamedOperand text names) (placed_operands names places instr.operands) instr.operands
+    → is_formed instr ≡ true → is_formed (placed_instr names places instr) ≡ true
+placed_formed text names places instr named formed =
+    let alike = zip_weaker (IsNamedOperand text names) IsAlike (named_alike text names) (placed_operands names places instr.operands) instr.operands named in
+    sym (formed_alike (placed_instr names places instr) instr refl refl alike) ∙ formed
 
 formed_is : (i : InstrData) → is_formed i ≡ true → resolved_formed i ≡ Some i
 formed_is i is = rw is refl
 
-instr_means : (kinds : ℕ → Kind) (names : List (List ℕ)) (tables : Tables) (instr : InstrData) (places : List ℕ) → tables.classes ≡ [] → IsWhole kinds names tables instr → is_formed instr ≡ true
-    → resolved tables (written_at kinds names places instr) instr.line ≡ Some (placed_instr names places instr)
+instr_means : (kinds : ℕ → Kind) (names : List (List ℕ)) (tables : Tables) (instr : InstrData) (places : List ℕ) → tables.classes ≡ [] → IsWhole kinds names tables instr
+    → is_formed (placed_instr names places instr) ≡ true → resolved tables (written_at kinds names places instr) instr.line ≡ Some (placed_instr names places instr)
 instr_means kinds names tables instr places unclassed whole formed =
     let means = memory_means (access_of instr.op) instr.mem whole.access whole.fits in
     rw (unclassed, whole.definitions.means, (whole.sources places).means, means)
     (ap (λ operands. resolved_formed (record instr { operands = operands })) (definitions_placed names places instr.operands)
-    ∙ formed_is (placed_instr names places instr) (placed_formed names places instr formed))
+    ∙ formed_is (placed_instr names places instr) formed)
 
 names_in_sources : (names : List (List ℕ)) (operands : List Operand) → filter_map (name_in names) (sources_of operands) ≡ filter_map (name_in names) operands
 names_in_sources names [] = refl
@@ -366,6 +369,7 @@ instr_line_spelled text names counts tables kinds instr are printable = record {
       let says = says_instr kinds names tables instr.1 places whole in
       let found : map (name_of_token text) places ≡ filter_map (name_in names) sources =
       names_in_line text line (piece_bytes (Spaces 4 ∷ pieces)) read.tokens is read.cut ∙ (ap names_shown lexemes ∙ says.named) in
+      let named = operands_named text names counts places (instr.1).operands (record { same = found ∙ names_in_sources names (instr.1).operands }) printable.operands in
       let same : map what_in items ≡ whats_of (written_at kinds names places instr.1) = read.same ∙ (sym first.same ∙ says.same) in
       record {
         items = items;
@@ -373,11 +377,11 @@ instr_line_spelled text names counts tables kinds instr are printable = record {
         written = written_at kinds names places instr.1;
         spelled = record { same = same; places = sym (places_found text kinds names (forms_of instr.1) places sources (record { same = found })) };
         meant = placed_instr names places instr.1;
-        means = instr_means kinds names tables instr.1 places are.unclassed whole printable.formed;
+        means = instr_means kinds names tables instr.1 places are.unclassed whole (placed_formed text names places instr.1 named printable.formed);
         named = record {
           op = refl;
           flags = refl;
-          operands = operands_named text names counts places (instr.1).operands (record { same = found ∙ names_in_sources names (instr.1).operands }) printable.operands;
+          operands = named;
           memory = refl;
           line = refl;
         };

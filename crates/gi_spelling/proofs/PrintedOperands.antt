@@ -1,10 +1,9 @@
 -- An operand as it is printed is a written operand that means it.
-use Rattle.std.proofs.Common.{◌≡◌, ℕ, ◌+◌, ◌^◌, ◌<◌, ◌≤◌, Bool, true, false, List, [], ◌∷◌, ◌++◌, Option, Some, None, map, refl, sym, ap, ◌∙◌, subst, arith}
-use Rattle.std.specs.Prelude.{◌&&◌, ◌==◌, not, nat_lt, nat_le, length, codes, decimal, ℤ, if◌then◌else◌}
+use Rattle.std.proofs.Common.{◌≡◌, ℕ, ◌^◌, ◌<◌, ◌≤◌, Bool, true, false, List, [], ◌∷◌, ◌++◌, Option, Some, None, refl, sym, ap, ◌∙◌, subst, arith}
+use Rattle.std.specs.Prelude.{◌==◌, not, nat_lt, nat_le, codes, decimal, if◌then◌else◌}
 use Rattle.std.specs.Fmt.{signed_decimal}
-use Rattle.std.specs.List.{list_all}
 use Rattle.std.specs.Option.{option_map_or}
-use Rattle.std.proofs.lemmas.Bool.{and_parts, not-true, false≢true, eqb-true}
+use Rattle.std.proofs.lemmas.Bool.{and_parts, false≢true, eqb-true}
 use Rattle.std.proofs.lemmas.Bool.Decides.{nat_tests}
 use Rattle.gi_llt.specs.Bits.{signed}
 use Rattle.gi_llt.specs.Tokens.{Word as OfWord, Number as OfNumber, Register as OfRegister, Physical as OfPhysical, Global as OfGlobal, Routine as OfRoutine, Mark as OfMark, lexeme, Piece, Spaces, token}
@@ -20,7 +19,6 @@ use Rattle.gi_mir.specs.declared.operand.SymbolFlag.TheVariants.{Plain, Call, Hi
 use Rattle.gi_mir.specs.Formed.{is_in_range}
 use Rattle.gi_mir.specs.Registers.{type_of_kind}
 use Rattle.gi_mir.specs.Routines.{routine_names}
-use Rattle.gi_mir.specs.Types.{same_type}
 use Rattle.gi_mir.proofs.LettersLemmas.{same_self}
 use Rattle.gi_spelling.specs.declared.token.RegisterClass.TheVariants as class
 use Rattle.gi_spelling.specs.declared.token.Word.TheVariants as word
@@ -30,11 +28,10 @@ use Rattle.gi_spelling.specs.declared.written.Definition.{Definition}
 use Rattle.gi_spelling.specs.declared.written.Definition.TheVariants as definition
 use Rattle.gi_spelling.specs.declared.written.Source.{Source}
 use Rattle.gi_spelling.specs.declared.written.Source.TheVariants as source
-use Rattle.gi_spelling.specs.Words.{what_of, number_written, is_plain_signed}
+use Rattle.gi_spelling.specs.Words.{number_written, is_plain_signed}
 use Rattle.gi_spelling.specs.Blocks.{typed_use}
-use Rattle.gi_spelling.specs.Documents.{is_name}
 use Rattle.gi_spelling.specs.Printable.{Counts, is_writable_type, is_writable_kind, is_writable_operand}
-use Rattle.gi_spelling.specs.Printed.{mark, word, bracketed, type_piece, register_piece, kind_pieces, shown_type, symbol_flag_pieces, name_at, predicate_word, constant_pieces, use_pieces, operand_pieces, is_definition}
+use Rattle.gi_spelling.specs.Printed.{mark, word, bracketed, type_piece, register_piece, kind_pieces, symbol_flag_pieces, name_at, predicate_word, constant_pieces, use_pieces, operand_pieces, is_definition}
 use Rattle.gi_spelling.specs.Resolved.{Tables, block_place, resolved_source, resolved_definition}
 use Rattle.gi_spelling.specs.Spelling.{type_whats, kind_whats, definition_whats, symbol_flag_whats, source_whats, place_of_source, type_at}
 use Rattle.gi_spelling.proofs.KeptLines.{are_loud, opens_next}

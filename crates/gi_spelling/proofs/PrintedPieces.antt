@@ -1,6 +1,6 @@
 -- What pieces of printed lines say: their tokens by what they are, and the names among these.
-use Rattle.std.proofs.Common.{◌≡◌, ℕ, zero, suc, ◌+◌, ◌-◌, ◌^◌, ◌<◌, ◌≤◌, Bool, true, false, List, [], ◌∷◌, ◌++◌, drop, Option, Some, None, map, refl, sym, ap, ◌∙◌, subst, arith, lit<, pos, negsuc, inl, inr}
-use Rattle.std.specs.Prelude.{◌⊎◌, ◌&&◌, ◌||◌, ◌==◌, not, nat_lt, nat_le, bytes_eq, filter_map, find, option_map, codes, decimal, ℤ, neg_ℤ, min, if◌then◌else◌}
+use Rattle.std.proofs.Common.{◌≡◌, ℕ, zero, suc, ◌-◌, ◌^◌, ◌<◌, ◌≤◌, Bool, true, false, List, [], ◌∷◌, ◌++◌, drop, Option, Some, None, refl, sym, ap, ◌∙◌, subst, arith, lit<, pos, negsuc, inl, inr}
+use Rattle.std.specs.Prelude.{◌⊎◌, ◌||◌, ◌==◌, not, nat_lt, bytes_eq, filter_map, find, option_map, codes, decimal, ℤ, neg_ℤ, min}
 use Rattle.std.specs.Fmt.{signed_decimal}
 use Rattle.std.specs.List.{list_all}
 use Rattle.std.specs.Cmp.Derive.{both_true}
@@ -12,14 +12,12 @@ use Rattle.std.proofs.lemmas.List.Folds.{list_all-append}
 use Rattle.std.proofs.lemmas.Slice.Eq.{bytes_eq-Decides}
 use Rattle.std.proofs.Math.Nat.{pow-le-pow_right}
 use Rattle.gi_llt.specs.Bits.{signed}
-use Rattle.gi_llt.specs.Tokens.{LexemeKind, Word as OfWord, Number as OfNumber, Register as OfRegister, Global as OfGlobal, Routine as OfRoutine, Mark as OfMark, Lexeme, lexeme, is_digit, Piece, Token, Spaces, token, piece_lexemes}
-use Rattle.gi_llt.specs.declared.Llt.{Llt}
-use Rattle.gi_llt.specs.declared.Llt.TheVariants.{Scalar, Pointer}
+use Rattle.gi_llt.specs.Tokens.{Number as OfNumber, Register as OfRegister, Routine as OfRoutine, Lexeme, lexeme, is_digit, Piece, Token, Spaces, piece_lexemes}
+use Rattle.gi_llt.specs.declared.Llt.TheVariants.{Scalar}
 use Rattle.gi_llt.proofs.Apart.{is_digits, decimal_digits}
 use Rattle.gi_text.specs.Numbers.{value_after, is_too_great}
 use Rattle.gi_mir.specs.declared.opcode.Opcode.{Opcode}
 use Rattle.gi_mir.specs.declared.opcode.Opcode.TheVariants.{Copy}
-use Rattle.gi_mir.specs.declared.operand.Operand.TheVariants as operand
 use Rattle.gi_mir.specs.declared.operand.Pred.{Pred}
 use Rattle.gi_mir.specs.declared.operand.Pred.TheVariants.{Eq}
 use Rattle.gi_mir.specs.Formed.{is_constant_in_range}
@@ -30,7 +28,7 @@ use Rattle.gi_spelling.specs.declared.token.Word.{Word}
 use Rattle.gi_spelling.specs.declared.token.Word.TheVariants as word
 use Rattle.gi_spelling.specs.declared.token.What.{What}
 use Rattle.gi_spelling.specs.declared.token.What.TheVariants as what
-use Rattle.gi_spelling.specs.Words.{words, fixed_word, greatest_width, what_of, whats, word_of, number_written, is_plain, is_plain_signed}
+use Rattle.gi_spelling.specs.Words.{words, fixed_word, what_of, whats, word_of, number_written, is_plain, is_plain_signed}
 use Rattle.gi_spelling.specs.Printable.{is_whole}
 use Rattle.gi_spelling.specs.Printed.{predicate_word, name_at}
 use Rattle.gi_spelling.specs.Resolved.{whole_number, resolved_constant}

@@ -31,9 +31,9 @@ use Rattle.gi_spelling.specs.Printable.{Counts, is_writable_operand}
 use Rattle.gi_spelling.specs.Printed.{mark, listed, name_at, operand_pieces, is_definition, is_typed_by, forms_after, source_pieces, definition_pieces}
 use Rattle.gi_spelling.specs.Resolved.{Tables, resolved_source, resolved_definition, each}
 use Rattle.gi_spelling.specs.Spelling.{definition_whats, source_whats, listed_whats, place_of_source, type_at}
-use Rattle.gi_spelling.proofs.KeptLines.{are_loud, opens_next}
+use Rattle.gi_spelling.proofs.KeptLines.{are_loud}
 use Rattle.gi_spelling.proofs.PrintedPieces.{Says, says_nothing, says_both, says_spaces, says_token}
-use Rattle.gi_spelling.proofs.PrintedOperands.{IsLoud, definition_of, IsDefinition, definition_is, use_source, source_of, name_in, placed_at, listed_name, place_of_name, AreTables, types_by, IsSource, source_is}
+use Rattle.gi_spelling.proofs.PrintedOperands.{IsLoud, definition_of, definition_is, use_source, source_of, name_in, placed_at, listed_name, place_of_name, AreTables, types_by, source_is}
 use Rattle.gi_spelling.proofs.PrintedForms.{is_source, first_place, places_after, placed_operands}
 
 -- ══ Lists ══

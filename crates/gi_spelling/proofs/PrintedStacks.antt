@@ -1,6 +1,6 @@
 -- The lines of stack objects as they are printed spell these objects.
-use Rattle.std.proofs.Common.{◌≡◌, ℕ, zero, suc, ◌+◌, ◌^◌, ◌<◌, ◌≤◌, Bool, true, false, List, [], ◌∷◌, ◌++◌, length, Option, Some, None, Ok, map, refl, sym, ap, ◌∙◌, subst, arith}
-use Rattle.std.specs.Prelude.{◌&&◌, ◌||◌, ◌==◌, not, nat_le, min, codes, decimal, if◌then◌else◌}
+use Rattle.std.proofs.Common.{◌≡◌, ℕ, suc, ◌+◌, ◌^◌, ◌<◌, ◌≤◌, true, List, [], ◌∷◌, length, Some, Ok, map, refl, ap, ◌∙◌, subst, arith}
+use Rattle.std.specs.Prelude.{◌||◌, ◌==◌, not, nat_le, min, codes, decimal}
 use Rattle.std.specs.List.{list_all, list_any, AllZip}
 use Rattle.std.proofs.lemmas.Bool.{and_parts}
 use Rattle.std.proofs.lemmas.Bool.Decides.{nat_tests}
@@ -16,16 +16,16 @@ use Rattle.gi_spelling.specs.declared.written.EntryKind.{EntryKind}
 use Rattle.gi_spelling.specs.declared.written.EntryKind.TheVariants as kind
 use Rattle.gi_spelling.specs.declared.written.EntryState.TheVariants as state
 use Rattle.gi_spelling.specs.declared.written.Fields.{Fields}
-use Rattle.gi_spelling.specs.Documents.{brace_by, ends_entry, Group, groups_of, read_group_items, object_by, object_at, objects_from}
-use Rattle.gi_spelling.specs.Entries.{entry, no_fields, step, steps, whole_entry, read_entry}
+use Rattle.gi_spelling.specs.Documents.{brace_by, ends_entry, groups_of, read_group_items, object_by, objects_from}
+use Rattle.gi_spelling.specs.Entries.{entry, no_fields, step, steps}
 use Rattle.gi_spelling.specs.Items.{item_of, what_in, items_of_line}
 use Rattle.gi_spelling.specs.Lines.{Line}
 use Rattle.gi_spelling.specs.Printable.{is_writable_object}
 use Rattle.gi_spelling.specs.Printed.{mark, word as word_piece, object_line, object_lines}
-use Rattle.gi_spelling.specs.Reading.{Read, then_read}
+use Rattle.gi_spelling.specs.Reading.{Read}
 use Rattle.gi_spelling.specs.Spelling.{plain_size}
 use Rattle.gi_spelling.specs.Words.{what_of, is_plain_signed}
-use Rattle.gi_spelling.proofs.BlockLines.{EachLine, IsInner, inner_line}
+use Rattle.gi_spelling.proofs.BlockLines.{IsInner, inner_line}
 use Rattle.gi_spelling.proofs.PlacedLines.{is_sized, IsLine, Reads, read_line}
 use Rattle.gi_spelling.proofs.PrintedPieces.{Says, says_spaces, says_token, says_one, decimal_signed}
 use Rattle.gi_spelling.proofs.PrintedTokens.{reads_pieces}

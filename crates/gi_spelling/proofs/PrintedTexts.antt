@@ -1,14 +1,14 @@
 -- The printed text of a module spells that module.
 use Rattle.std.proofs.Common.{◌≡◌, ℕ, Bool, true, false, List, [], ◌∷◌, ◌++◌, length, Option, Some, None, map, sym, refl, ap, ◌∙◌, subst, append_assoc}
-use Rattle.std.specs.Prelude.{◌&&◌, ◌||◌, ◌==◌, not, filter, option_map, codes, ⊤}
+use Rattle.std.specs.Prelude.{◌&&◌, ◌||◌, ◌==◌, not, filter, option_map, codes}
 use Rattle.std.specs.List.{list_all, AllByRecursion, AllZip}
 use Rattle.std.specs.Str.{is_utf8}
 use Rattle.std.specs.Cmp.Derive.{both_true}
 use Rattle.std.proofs.lemmas.Bool.{and_parts, not-true}
 use Rattle.std.proofs.lemmas.List.{append-nil}
-use Rattle.gi_llt.specs.Tokens.{run_of, past_run}
+use Rattle.gi_llt.specs.Tokens.{past_run}
 use Rattle.gi_llt.proofs.Apart.{is_no_feed}
-use Rattle.gi_llt.proofs.Pieces.{is_stopped, run_of-append, past_run-append}
+use Rattle.gi_llt.proofs.Pieces.{run_of-append, past_run-append}
 use Rattle.gi_mir.specs.Data.{FunctionData, ModuleData}
 use Rattle.gi_mir.specs.Registers.{kind_of}
 use Rattle.gi_spelling.specs.Documents.{line_wrongs, is_no_text, ir_wrongs}
@@ -17,19 +17,19 @@ use Rattle.gi_spelling.specs.Lines.{Line, Section as LineSection, is_stray, in_d
 use Rattle.gi_spelling.proofs.PlainLines.{Section, Sections, with_head, sections_of}
 use Rattle.gi_spelling.specs.Printable.{is_ir_line, are_ir_lines, IsPrintableFunction, IsPrintableModule}
 use Rattle.gi_spelling.specs.Printed.{name_at, blocks_lines, key_lines, stack_lines, printed_lines, functions_lines, ir_lines, text_of, printed}
-use Rattle.gi_spelling.specs.Spelling.{SpellsDocument, SpellsIr, Spells}
+use Rattle.gi_spelling.specs.Spelling.{SpellsDocument, Spells}
 use Rattle.gi_spelling.proofs.BlockLines.{EachLine, each-append, each-weaker}
 use Rattle.gi_spelling.proofs.Blocks.{sections_of-append, IsRaw}
 use Rattle.gi_spelling.proofs.Documents.{Layout, header_lines, end_lines, body_line}
 use Rattle.gi_spelling.proofs.PlacedLines.{IsLine, lines_placed}
 use Rattle.gi_spelling.proofs.PrintedDocuments.{front_lines, function_lines, front_raw, lined_of, document_spelled}
-use Rattle.gi_spelling.proofs.TextSpells.{by_flags, none_zip, starts_same}
+use Rattle.gi_spelling.proofs.EntrySpells.{by_flags, none_zip, starts_same}
 use Rattle.gi_spelling.proofs.Texts.{lines_of-text_of, printed_layout}
 use Rattle.gi_spelling.proofs.Zips.{run_zip, past_zip, SectionsAgree, AllAgree, sections_zip}
 
 -- ══ Documents one after the other ══
 
-abbrev documents_lines : Layout → (names : List (List ℕ)) → List FunctionData → List (List ℕ)
+abbrev pub documents_lines : Layout → (names : List (List ℕ)) → List FunctionData → List (List ℕ)
 documents_lines layout names [] = []
 documents_lines layout names (f ∷ functions) = codes "---" ∷ (function_lines layout names f ++ documents_lines layout names functions)
 
