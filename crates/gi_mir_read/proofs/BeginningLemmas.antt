@@ -1,5 +1,5 @@
 -- A function before its blocks, and with them.
-use Rattle.std.proofs.Common.{◌≡◌, ℕ, Bool, true, List, [], ◌∷◌, ◌++◌, Option, length, refl, sym, ap, ◌∙◌, subst}
+use Rattle.std.proofs.Common.{◌≡◌, ℕ, true, List, [], ◌∷◌, ◌++◌, Option, length, refl, sym, ap, ◌∙◌, subst}
 use Rattle.std.specs.Prelude.{fold}
 use Rattle.std.specs.Str.{is_utf8}
 use Rattle.gi_mir.specs.Data.{FunctionData}
@@ -10,7 +10,7 @@ use Rattle.gi_spelling.specs.declared.written.Wrong.{Wrong}
 use Rattle.gi_spelling.specs.Blocks.{blocks_in}
 use Rattle.gi_spelling.specs.Documents.{Document, read_document, tables_of}
 use Rattle.gi_spelling.specs.Lines.{Line, Section}
-use Rattle.gi_spelling.specs.Named.{Extends, IsNamedFunction}
+use Rattle.gi_spelling.specs.Named.{IsNamedFunction}
 use Rattle.gi_spelling.specs.Read.{IsReadAs}
 use Rattle.gi_mir_read.specs.Begun.{IsNumberOf, begun, keyed}
 use Rattle.gi_mir_read.specs.Keyed.{under_bar, word_of}

@@ -1,6 +1,6 @@
 -- One block after the other.
-use Rattle.std.proofs.Common.{◌≡◌, ℕ, zero, suc, ◌+◌, ◌<◌, ◌≤◌, Bool, true, false, List, [], ◌∷◌, ◌++◌, Option, Some, None, map, length, refl, sym, ap, ◌∙◌, subst, append_assoc, arith}
-use Rattle.std.specs.Prelude.{All, filter_map, flat_map, fold, min, not, nat_eq, position, ◌&&◌, ◌==◌, slice_set, unwrap_or, if◌then◌else◌}
+use Rattle.std.proofs.Common.{◌≡◌, ℕ, suc, ◌+◌, ◌≤◌, Bool, true, false, List, [], ◌∷◌, ◌++◌, Option, Some, None, map, length, refl, sym, ap, ◌∙◌, subst, append_assoc, arith}
+use Rattle.std.specs.Prelude.{All, filter_map, flat_map, fold, min, not, nat_eq, ◌&&◌, ◌==◌, unwrap_or, if◌then◌else◌}
 use Rattle.std.specs.List.{AllZip, cons_option, list_any, position_from}
 use Rattle.std.specs.Option.{option_map_or}
 use Rattle.std.proofs.lemmas.List.Elements.{All-head, All-tail}
@@ -21,7 +21,7 @@ use Rattle.gi_spelling.specs.declared.written.Shown.{Shown}
 use Rattle.gi_mir.specs.declared.operand.Kind.{Kind}
 use Rattle.gi_mir.specs.declared.operand.Reg.{Reg}
 use Rattle.gi_mir.specs.Registers.{type_of_kind}
-use Rattle.gi_spelling.specs.Named.{Extends, IsNamedFunction, IsNamedInstr}
+use Rattle.gi_spelling.specs.Named.{IsNamedFunction, IsNamedInstr}
 use Rattle.gi_spelling.specs.Resolved.{Tables, block_place}
 use Rattle.gi_spelling.proofs.NamedLemmas.{named_function}
 use Rattle.gi_mir_read.specs.declared.told.Told.{Told}

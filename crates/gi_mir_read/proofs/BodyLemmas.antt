@@ -1,6 +1,6 @@
 -- What is kept of a block changes as the block does.
 use Rattle.std.proofs.Common.{◌≡◌, ℕ, true, List, [], ◌∷◌, ◌++◌, Ok, Option, Some, None, map, refl, sym, ap, ◌∙◌, append_assoc}
-use Rattle.std.specs.Prelude.{filter_map, fold}
+use Rattle.std.specs.Prelude.{fold}
 use Rattle.std.specs.List.{AllZip}
 use Rattle.std.proofs.lemmas.List.Elements.{AllZip-push}
 use Rattle.std.proofs.lemmas.List.Sums.{fold-append}
@@ -11,7 +11,7 @@ use Rattle.gi_mir.specs.declared.operand.Operand.TheVariants as operand
 use Rattle.gi_spelling.specs.declared.token.Item.{Item}
 use Rattle.gi_spelling.specs.declared.written.Fault.{Fault}
 use Rattle.gi_spelling.specs.declared.written.Fault.TheVariants as fault
-use Rattle.gi_spelling.specs.Blocks.{Body, begun, shown_at, shown_types, typed_use, with_instr_line, with_line, with_resolved, with_wrong, with_written, wrong}
+use Rattle.gi_spelling.specs.Blocks.{Body, begun, shown_at, shown_types, with_instr_line, with_line, with_resolved, with_wrong, wrong}
 use Rattle.gi_spelling.specs.Documents.{lower}
 use Rattle.gi_spelling.specs.Items.{kept_items}
 use Rattle.gi_spelling.specs.Lines.{Line}
@@ -19,7 +19,7 @@ use Rattle.gi_spelling.specs.Named.{Extends, IsNamedInstr, IsNamedOperand}
 use Rattle.gi_spelling.specs.Reading.{read_instr}
 use Rattle.gi_spelling.specs.Resolved.{Tables, resolved}
 use Rattle.gi_spelling.specs.Written.{WrittenData}
-use Rattle.gi_spelling.proofs.NamedLemmas.{extends_same, extends_more, named_instrs}
+use Rattle.gi_spelling.proofs.NamedLemmas.{named_instrs}
 use Rattle.gi_mir_read.specs.Bodies.{BodyData, IsReadSoFar, Reads, with_defined, with_instr}
 use Rattle.gi_mir_read.specs.Meant.{IsMeantInstr}
 use Rattle.gi_mir_read.specs.Noted.{NotesData, with_lowest, with_notes, with_operand}

@@ -1,6 +1,6 @@
 -- What is wrong in a document, part by part.
 use Rattle.std.proofs.Common.{◌≡◌, ℕ, zero, suc, arith, Bool, true, false, cond, List, [], ◌∷◌, ◌++◌, refl, sym, ap, ◌∙◌}
-use Rattle.std.specs.Prelude.{◌&&◌, ◌||◌, ◌<◌, not, All, Option, Some, None, bytes_eq, codes, find, fold, nat_lt}
+use Rattle.std.specs.Prelude.{◌&&◌, ◌||◌, ◌<◌, not, Option, Some, None, bytes_eq, codes, find, fold, nat_lt}
 use Rattle.std.specs.List.{list_all}
 use Rattle.std.specs.Option.{option_map_or}
 use Rattle.std.specs.Str.{IsAscii, is_utf8}

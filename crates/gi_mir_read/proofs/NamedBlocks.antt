@@ -1,5 +1,5 @@
 -- A function with one more block stays named.
-use Rattle.std.proofs.Common.{◌≡◌, ℕ, zero, suc, ◌+◌, ◌-◌, ◌<◌, arith, get_or, true, Bool, List, [], ◌∷◌, ◌++◌, Option, Some, None, map, length, refl, sym, ap, subst, ◌∙◌}
+use Rattle.std.proofs.Common.{◌≡◌, ℕ, zero, suc, ◌+◌, ◌-◌, ◌<◌, arith, get_or, true, List, [], ◌∷◌, ◌++◌, None, map, length, refl, sym, ap, subst, ◌∙◌}
 use Rattle.std.specs.Prelude.{fold, max, slice_set, slice_index_or, if◌then◌else◌, not, ◌&&◌, ◌==◌}
 use Rattle.std.specs.List.{AllZip}
 use Rattle.std.specs.Option.{option_map_or, unwrap_or}
@@ -11,7 +11,7 @@ use Rattle.gi_mir.specs.Data.{InstrData, BlockData, FunctionData}
 use Rattle.gi_mir.specs.Edit.{HeadData, above_registers, block_at, block_with, block_with_instr, empty_block, register_above, with_block, with_instr}
 use Rattle.gi_mir.specs.declared.operand.Operand.{Operand}
 use Rattle.gi_mir.specs.declared.operand.Operand.TheVariants as operand
-use Rattle.gi_spelling.specs.Blocks.{Body, Lists}
+use Rattle.gi_spelling.specs.Blocks.{Body}
 use Rattle.gi_spelling.specs.Documents.{head_of_body, successors_of, with_body, with_last, without_ids}
 use Rattle.gi_spelling.specs.Named.{IsNamedBlock, IsNamedEntry, IsNamedFunction, IsNamedInstr, IsNamedOperand}
 use Rattle.gi_mir.specs.Row.{is_branch_op, is_unconditional_op}

@@ -13,7 +13,6 @@ use Rattle.std.proofs.lemmas.Bool.Decides.{nat_tests}
 use Rattle.gi_llt.specs.declared.Memory.{Memory}
 use Rattle.gi_llt.specs.Tokens.{is_word_byte, run_of}
 use Rattle.gi_mir.specs.Names.{number_of, with_name}
-use Rattle.gi_spelling.specs.Printed.{name_at}
 use Rattle.gi_spelling.specs.Named.{Extends}
 use Rattle.gi_spelling.proofs.NamedLemmas.{name_kept}
 use Rattle.gi_mir_read.specs.Begun.{IsNumberOf}

@@ -1,6 +1,6 @@
 -- A text is read document by document.
-use Rattle.std.proofs.Common.{◌≡◌, ℕ, List, [], ◌∷◌, ◌++◌, length, map, refl, sym, ap, ◌∙◌, subst, arith, append_assoc, length-append}
-use Rattle.std.specs.Prelude.{Option, Some, None, IfErr, Result, Ok, Err, fold}
+use Rattle.std.proofs.Common.{◌≡◌, ℕ, List, [], ◌∷◌, ◌++◌, map, refl, sym, ap, ◌∙◌, subst, arith, append_assoc, length-append}
+use Rattle.std.specs.Prelude.{Option, Some, None}
 use Rattle.std.specs.List.{AllZip}
 use Rattle.std.specs.Option.{option_map_or}
 use Rattle.std.proofs.lemmas.List.{append-nil}
@@ -8,7 +8,7 @@ use Rattle.gi_mir.specs.Data.{FunctionData}
 use Rattle.gi_text.specs.declared.token.TextError.{TextError}
 use Rattle.gi_text.specs.declared.token.TextError.TheVariants as error
 use Rattle.gi_spelling.specs.declared.written.Wrong.{Wrong}
-use Rattle.gi_spelling.specs.Documents.{document_wrongs, entries_of, first_wrong, function_of, lower, lowest, read_document}
+use Rattle.gi_spelling.specs.Documents.{document_wrongs, entries_of, first_wrong, function_of, lowest, read_document}
 use Rattle.gi_spelling.specs.Lines as lines
 use Rattle.gi_spelling.specs.Named.{Extends}
 use Rattle.gi_spelling.specs.Read.{IsReadFunction, IsRefusal}

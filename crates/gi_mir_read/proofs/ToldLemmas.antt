@@ -9,7 +9,7 @@ use Rattle.gi_spelling.specs.Items.{kept_items}
 use Rattle.gi_mir_read.specs.declared.lines.Line.{Line}
 use Rattle.gi_mir_read.specs.declared.told.Told.{Told}
 use Rattle.gi_mir_read.specs.Placed.{IsLineIn, line_at, lines_at}
-use Rattle.gi_mir_read.specs.Blocked.{IsToldIn, told_at, told_lines_at, told_of}
+use Rattle.gi_mir_read.specs.Blocked.{IsToldIn, told_lines_at, told_of}
 
 module _ (text : List ℕ) where
   pub told-lines : (lines : List Line) → told_lines_at text (filter_map (told_of text) lines) ≡ filter (is_told text) (lines_at text lines)

@@ -1,5 +1,5 @@
 -- The lines of a function's blocks as the reader keeps them.
-use Rattle.std.specs.Prelude.{◌≡◌, ℕ, Bool, List, [], ◌∷◌, Option, Some, None, All, filter_map, map, if◌then◌else◌}
+use Rattle.std.specs.Prelude.{◌≡◌, ℕ, Bool, List, [], ◌∷◌, Option, Some, None, All, map, if◌then◌else◌}
 use Rattle.gi_spelling.specs.declared.token.Item.{Item}
 use Rattle.gi_spelling.specs.Blocks.{head_in, head_number, is_block_head, is_debug_kept, is_there}
 use Rattle.gi_spelling.specs.Items.{kept_items}

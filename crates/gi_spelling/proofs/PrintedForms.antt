@@ -8,7 +8,7 @@ use Rattle.std.proofs.lemmas.Bool.{and_parts, or_cases, not-true, false≢true}
 use Rattle.gi_mir.specs.declared.opcode.Opcode.{Opcode}
 use Rattle.gi_mir.specs.declared.opcode.Opcode.TheVariants.{Copy}
 use Rattle.gi_mir.specs.declared.operand.Operand.{Operand}
-use Rattle.gi_mir.specs.declared.operand.Operand.TheVariants.{Def, Use, PhysDef}
+use Rattle.gi_mir.specs.declared.operand.Operand.TheVariants.{Def, PhysDef}
 use Rattle.gi_mir.specs.declared.row.Form.{Form}
 use Rattle.gi_mir.specs.declared.row.Form.TheVariants as form
 use Rattle.gi_mir.specs.Formed.{admits, is_repeated, wanted_after, with_wanted, taken, fits, fits_one_of}

@@ -15,7 +15,6 @@ use Rattle.gi_text.specs.Cutting.{slice, cut_of, lexeme_in}
 use Rattle.gi_text.proofs.LawLemmas.{table_of}
 use Rattle.gi_llt.specs.declared.Llt.{Llt}
 use Rattle.gi_llt.specs.declared.Llt.TheVariants.{Scalar, Pointer}
-use Rattle.gi_mir.specs.declared.opcode.Opcode.{Opcode}
 use Rattle.gi_mir.specs.declared.operand.Flags.{Flags}
 use Rattle.gi_mir.specs.declared.operand.Kind.{Kind}
 use Rattle.gi_mir.specs.declared.operand.MemOp.{MemOp}

@@ -1,9 +1,9 @@
 use Rattle.std.proofs.Common.{◌≡◌, ℕ, List, sym, ap, ◌∙◌, subst}
-use Rattle.std.specs.Prelude.{All, filter_map}
+use Rattle.std.specs.Prelude.{All}
 use Rattle.std.proofs.lemmas.List.Elements.{All-same}
 use Rattle.gi_spelling.specs.Blocks.{block_numbers, blocks_in, is_block_head}
 use Rattle.gi_spelling.specs.Lines.{sections_of}
-use Rattle.gi_mir_read.specs.Blocked.{IsToldIn, blocks_of, head_of, told_lines_at}
+use Rattle.gi_mir_read.specs.Blocked.{IsToldIn, blocks_of}
 use Rattle.gi_spelling.specs.Resolved.{Tables}
 use Rattle.gi_mir_read.specs.ReadBlocks.{BlocksAreRead}
 use Rattle.gi_mir_read.specs.Placed.{lines_at}

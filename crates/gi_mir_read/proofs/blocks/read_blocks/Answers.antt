@@ -1,5 +1,4 @@
 use Rattle.std.proofs.Common.{◌∙◌}
-use Rattle.gi_mir.specs.Data.{FunctionData}
 use Rattle.gi_spelling.proofs.NamedLemmas.{extends_more}
 use Rattle.gi_mir_read.specs.Blocked.{IsNextBlock, blocks_of, section_of}
 use Rattle.gi_mir_read.proofs.BlockLemmas.{more-function, more-left}

@@ -1,5 +1,4 @@
-use Rattle.std.proofs.Common.{◌≡◌, List, Option, None, true}
-use Rattle.std.specs.Str.{is_utf8}
+use Rattle.std.proofs.Common.{List}
 use Rattle.gi_spelling.specs.Documents.{read_document, tables_of}
 use Rattle.gi_spelling.specs.Lines as lines
 use Rattle.gi_spelling.proofs.NamedLemmas.{extends_more}

@@ -1,7 +1,6 @@
 use Rattle.std.proofs.Common.{◌≡◌, List, [], sym, ap, ◌∙◌, subst}
 use Rattle.std.specs.Prelude.{None, Option, filter, fold}
 use Rattle.gi_spelling.specs.declared.written.Wrong.{Wrong}
-use Rattle.gi_spelling.specs.Blocks.{wrong}
 use Rattle.gi_spelling.specs.Documents.{block_wrongs, entries_of, entries_wrongs, line_wrongs, lower, missing_wrongs, read_document}
 use Rattle.gi_spelling.specs.Lines as lines
 use Rattle.gi_spelling.specs.Lines.{counted_lines, document_end, document_entries, document_lines, document_rest, document_strays, end_number, is_at_column_one, is_stray, sections_of, without_line}

@@ -1,4 +1,4 @@
-use Rattle.std.proofs.Common.{sym, ◌∙◌}
+use Rattle.std.proofs.Common.{◌∙◌}
 use Rattle.gi_mir.specs.Registers.{kind_of}
 use Rattle.gi_mir_read.proofs.SizeLemmas.{counted_more, instrs_more}
 use Rattle.gi_mir_read.proofs.sizes.with_instrs.Goals as goal

@@ -1,4 +1,4 @@
-use Rattle.std.proofs.Common.{◌<◌, length, arith}
+use Rattle.std.proofs.Common.{arith}
 use Rattle.gi_spelling.specs.Resolved.{block_place}
 use Rattle.gi_mir_read.proofs.ToldLemmas.{map-push}
 use Rattle.gi_mir_read.proofs.successors.stated_successors.Goals as goal

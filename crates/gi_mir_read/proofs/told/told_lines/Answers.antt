@@ -1,6 +1,6 @@
-use Rattle.std.proofs.Common.{◌≡◌, ◌++◌, [], ◌∷◌, Some, None, sym, ap, ◌∙◌, get_or, take, length, ◌<◌, arith}
-use Rattle.std.specs.Prelude.{All, filter_map}
-use Rattle.std.proofs.lemmas.List.{append-nil, take_all}
+use Rattle.std.proofs.Common.{◌≡◌, ap, ◌∙◌, take, arith}
+use Rattle.std.specs.Prelude.{filter_map}
+use Rattle.std.proofs.lemmas.List.{take_all}
 use Rattle.std.proofs.lemmas.List.Elements.{All-same}
 use Rattle.gi_mir_read.specs.Blocked.{IsToldIn, told_lines_at, told_of}
 use Rattle.gi_mir_read.proofs.ToldLemmas.{filter_map-push, told-lines, told-within}

@@ -1,4 +1,4 @@
-use Rattle.std.proofs.Common.{◌≡◌, ℕ, List, Option, None, ap, sym, ◌∙◌}
+use Rattle.std.proofs.Common.{ℕ, List, Option, ap, sym, ◌∙◌}
 use Rattle.std.specs.Prelude.{codes}
 use Rattle.gi_text.specs.declared.token.Token.{Token}
 use Rattle.gi_mir_read.specs.Triples.{behind_spelling, last_quoted, told_by, triple_told}

@@ -1,5 +1,4 @@
-use Rattle.std.proofs.Common.{◌≡◌, None, ap, sym, ◌∙◌}
-use Rattle.gi_spelling.specs.Items.{kept_items}
+use Rattle.std.proofs.Common.{sym}
 use Rattle.gi_mir_read.specs.Placed.{line_at}
 use Rattle.gi_mir_read.proofs.BodyLemmas.{reads-blank}
 use Rattle.gi_mir_read.proofs.body.Body.line.Goals as goal

@@ -1,6 +1,3 @@
-use Rattle.std.proofs.Common.{◌≡◌, Some, None, ap, sym, ◌∙◌}
-use Rattle.std.specs.Prelude.{IfSome}
-use Rattle.gi_spelling.specs.Resolved.{resolved}
 use Rattle.gi_mir_read.specs.Placed.{line_at}
 use Rattle.gi_mir_read.proofs.BodyLemmas.{reads-meant, reads-none}
 use Rattle.gi_mir_read.proofs.body.Body.written_line.Goals as goal
