@@ -1,0 +1,10 @@
+//! Rules as values: where a rule fits, and what it makes of a function.
+#![tactic(auto)]
+
+mod binding;
+mod fitting;
+mod rule;
+
+pub use binding::{Binding, BoundValue};
+pub use fitting::test;
+pub use rule::{Make, MakeSlot, Match, Rule, Slot, Test, TypeExpr, ValueExpr};
