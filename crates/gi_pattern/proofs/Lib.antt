@@ -1,2 +1,4 @@
 pub mod KindFound
 pub mod Numbers
+pub mod Standing
+pub mod Told

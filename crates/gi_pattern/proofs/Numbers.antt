@@ -92,3 +92,23 @@ low_of_number bits (negsuc n) fits small =
 
     less : (n whole : ℕ) → whole ≡ 2 ^ 128 → 2 ^ 128 - suc n ≡ whole - 1 - n
     less n whole e = omega arith
+
+-- all ones
+pub ones : (bits : ℕ) → bits ≤ 128 → (2 ^ 128 - 1) % 2 ^ bits ≡ 2 ^ bits - 1
+ones bits small =
+    let whole : 2 ^ (128 - bits) * 2 ^ bits ≡ 2 ^ 128 = sym (pow-add 2 (128 - bits) bits) ∙ ap (λ (k : ℕ). 2 ^ k) (back bits small) in
+    let some : 0 < 2 ^ (128 - bits) * 2 ^ bits = rw whole (lit< tt) in
+    ap (λ (k : ℕ). (k - 1) % 2 ^ bits) (sym whole)
+    ∙ ap (λ (k : ℕ). k % 2 ^ bits) (less-nothing (2 ^ (128 - bits) * 2 ^ bits - 1))
+    ∙ complement_low (2 ^ (128 - bits)) (2 ^ bits) 0 (pow_pos bits) some
+    ∙ ap (λ (k : ℕ). 2 ^ bits - 1 - k) (zero-mod (2 ^ bits))
+    ∙ sym (less-nothing (2 ^ bits - 1))
+  where
+    less-nothing : (n : ℕ) → n ≡ n - 0
+    less-nothing n = omega arith
+
+    back : (bits : ℕ) → bits ≤ 128 → (128 - bits) + bits ≡ 128
+    back bits small = omega arith
+
+    zero-mod : (n : ℕ) → 0 % n ≡ 0
+    zero-mod n = grind arith

@@ -1,3 +1,5 @@
+pub mod Applying
 pub mod Binding
 pub mod Data
 pub mod Fitting
+pub mod Making

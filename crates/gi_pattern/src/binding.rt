@@ -1,6 +1,6 @@
 //! What the slots of a rule bind.
 
-ghost use Rattle.std.specs.Prelude.{◌≡◌, ◌≤◌};
+ghost use Rattle.std.specs.Prelude.{◌≡◌, ◌≤◌, ◌<◌, ◌^◌};
 ghost use Rattle.gi_llt.specs.Bits.{signed, wrapped, unsigned};
 ghost use Rattle.gi_pattern.specs.Binding.{bits_of, constant_value, empty_binding, kept_if, register_at, slot_bound, slots_bound, value_at, whole_value, with_pred, with_register, with_value};
 
@@ -161,7 +161,7 @@ fn constant_value(bits: u16, value: u128) -> Option<BoundValue>
 }
 
 /// The low bits of a value, read with a sign.
-fn signed_number(value: u128, bits: u16) -> i128
+pub(crate) fn signed_number(value: u128, bits: u16) -> i128
     requires some { 1 ≤ bits }
     requires at_most { bits ≤ 128 }
     ensures { result ≡ signed bits (wrapped bits value) }
@@ -172,7 +172,8 @@ fn signed_number(value: u128, bits: u16) -> i128
 /// The low bits of a number, so many.
 pub(crate) fn low_bits(number: i128, bits: u16) -> u128
     requires { bits ≤ 128 }
-    ensures { result ≡ unsigned bits number }
+    ensures bits { result ≡ unsigned bits number }
+    ensures below { result < 2 ^ bits }
 {
     if bits == 0 {
         0

@@ -1,10 +1,13 @@
 //! Rules as values: where a rule fits, and what it makes of a function.
 #![tactic(auto)]
 
+mod applying;
 mod binding;
 mod fitting;
+mod making;
 mod rule;
 
+pub use applying::apply;
 pub use binding::{Binding, BoundValue};
 pub use fitting::test;
 pub use rule::{Make, MakeSlot, Match, Rule, Slot, Test, TypeExpr, ValueExpr};

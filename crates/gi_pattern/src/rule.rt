@@ -88,8 +88,10 @@ pub enum MakeSlot {
     Def(u8, TypeExpr),
     /// Reads the register at this place.
     Use(u8),
-    /// A number that stands in the instruction.
+    /// A whole number that stands in the instruction.
     Immediate(ValueExpr),
+    /// A constant of this type that stands in the instruction.
+    Constant(ValueExpr, TypeExpr),
     /// Reads a new register, which a constant directly before the instruction defines.
     Fresh(ValueExpr, TypeExpr),
     /// This predicate, or the one that is bound.
