@@ -1,19 +1,19 @@
 -- What was told, replayed.
-use Rattle.std.proofs.Common.{◌≡◌, ℕ, zero, suc, ◌+◌, ◌<◌, ◌≤◌, Bool, true, false, cond, List, [], ◌∷◌, ◌++◌, Option, Some, refl, sym, ap, ap₂, ◌∙◌, arith, eqb-true, eq-eqb, true≢false, subst}
-use Rattle.std.specs.Prelude.{slice_get, option_map, ◌==◌, map, filter, fold}
+use Rattle.std.proofs.Common.{◌≡◌, ℕ, zero, suc, ◌≤◌, Bool, true, false, cond, List, [], ◌∷◌, ◌++◌, Some, refl, sym, ap, ap₂, ◌∙◌, arith, eqb-true, eq-eqb, true≢false}
+use Rattle.std.specs.Prelude.{slice_get, option_map, ◌==◌, map, filter}
 use Rattle.std.proofs.lemmas.List.Sums.{sum_by-append, sum_by-cons}
 use Rattle.gi_mir.specs.Data.{InstrData, BlockData, FunctionData}
 use Rattle.gi_mir.specs.Edit.{all_instrs, uses}
 use Rattle.gi_mir.specs.Ids.{uses_among, uses_in, uses_of, AreOwnIds}
 use Rattle.gi_mir.specs.Places.{nth_id}
-use Rattle.gi_mir.specs.Uses.{entry_replaced, block_replaced, instr_replaced, with_reg_replaced}
+use Rattle.gi_mir.specs.Uses.{entry_replaced, instr_replaced, with_reg_replaced}
 use Rattle.gi_mir.proofs.Located.{nth_id-once}
 use Rattle.gi_mir.proofs.Replaced.{entry_replaced-without}
 use Rattle.gi_observe.specs.declared.change.Change.{Change}
 use Rattle.gi_observe.specs.declared.change.ChangeKind.{ChangeKind}
 use Rattle.gi_observe.specs.declared.change.ChangeKind.TheVariants.{Created, Erased, Changed}
 use Rattle.gi_observe.specs.declared.pass.Pass.{Pass}
-use Rattle.gi_observe.specs.Replay.{IsReplay, block_renewed, entry_renewed, replacement, replacements, replayed, replayed_one}
+use Rattle.gi_observe.specs.Replay.{IsReplay, entry_renewed, replacement, replacements, replayed, replayed_one}
 use Rattle.gi_observe.proofs.Told.{filter-from}
 
 -- ---- the next numbers don't matter

@@ -1,9 +1,8 @@
 -- What the changes of a function say of it: told in order, on the function as it was, they give the function as it is.
-use Rattle.std.specs.Prelude.{◌≡◌, ◌++◌, ℕ, List, ◌∷◌, Option, ◌==◌, map, filter, fold, take, if◌then◌else◌, slice_set}
+use Rattle.std.specs.Prelude.{◌≡◌, ◌++◌, ℕ, List, ◌==◌, map, filter, fold, take, if◌then◌else◌, slice_set}
 use Rattle.gi_mir.specs.Data.{InstrData, BlockData, FunctionData}
 use Rattle.gi_mir.specs.Edit.{all_instrs, block_at, block_with_instr, uses, without_instr}
 use Rattle.gi_mir.specs.Uses.{instr_replaced}
-use Rattle.gi_mir.specs.declared.block.InstrId.{InstrId}
 use Rattle.gi_observe.specs.declared.change.Change.{Change}
 use Rattle.gi_observe.specs.declared.change.ChangeKind.{ChangeKind}
 use Rattle.gi_observe.specs.declared.change.ChangeKind.TheVariants.{Created, Erased, Changed}

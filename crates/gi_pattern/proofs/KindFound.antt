@@ -1,12 +1,12 @@
 -- The kind of a register, by its first definition.
-use Rattle.std.proofs.Common.{◌≡◌, ℕ, zero, suc, Bool, true, false, cond, ◌||◌, List, [], ◌∷◌, ◌++◌, Option, Some, None, IfSome, refl, sym, subst, ap, ◌∙◌}
+use Rattle.std.proofs.Common.{◌≡◌, ℕ, suc, Bool, true, false, cond, ◌||◌, List, [], ◌∷◌, ◌++◌, Option, Some, None, IfSome, refl, sym, subst, ap, ◌∙◌}
 use Rattle.std.specs.Prelude.{find, option_map, slice_get, ◌==◌, unwrap_or}
 use Rattle.std.specs.List.{list_any}
 use Rattle.std.specs.Option.{option_and_then}
 use Rattle.gi_mir.specs.Data.{InstrData, BlockData, FunctionData}
 use Rattle.gi_mir.specs.Edit.{IsLive, all_instrs, defines, definition_of, instr_of, is_def_of}
 use Rattle.gi_mir.specs.Ids.{AreOwnIds}
-use Rattle.gi_mir.specs.Registers.{first_there, kind_in_blocks, kind_in_instrs, kind_in_operand, kind_in_operands, kind_of}
+use Rattle.gi_mir.specs.Registers.{first_there, kind_in_blocks, kind_in_instrs, kind_in_operands, kind_of}
 use Rattle.gi_mir.specs.declared.block.InstrId.{InstrId}
 use Rattle.gi_mir.specs.declared.operand.Kind.{Kind}
 use Rattle.gi_mir.specs.declared.operand.Kind.TheVariants.{Class}

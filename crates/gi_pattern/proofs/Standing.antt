@@ -1,5 +1,5 @@
 -- What stands where, before and after each edit of a rewriting.
-use Rattle.std.proofs.Common.{◌≡◌, ℕ, zero, suc, ◌+◌, ◌<◌, Bool, true, false, ◌||◌, List, [], ◌∷◌, ◌++◌, Option, Some, None, IfSome, length, get_or, set, refl, sym, subst, ap, ◌∙◌, arith, Contains}
+use Rattle.std.proofs.Common.{◌≡◌, ℕ, zero, suc, ◌+◌, ◌<◌, Bool, true, ◌||◌, List, [], ◌∷◌, Option, Some, None, IfSome, length, get_or, refl, sym, subst, ap, ◌∙◌, arith, Contains}
 use Rattle.std.specs.Prelude.{insert, remove, map, option_map, slice_get, ◌==◌}
 use Rattle.std.specs.List.{list_any}
 use Rattle.std.proofs.lemmas.List.{get_or-set_same, length-set}
@@ -8,7 +8,7 @@ use Rattle.std.proofs.lemmas.List.Sorted.{IsPermutation-insert, list_any-IsPermu
 use Rattle.gi_mir.specs.declared.block.InstrId.{InstrId}
 use Rattle.gi_mir.specs.Data.{InstrData, BlockData, FunctionData}
 use Rattle.gi_mir.specs.Edit.{IsLive, block_at, block_with_instr, empty_block, has_instr, home_of, id_after, ids_of, instr_of, instrs_with, place_in_block, place_of, with_instr, without_instr}
-use Rattle.gi_mir.specs.Places.{id_in, nth_id}
+use Rattle.gi_mir.specs.Places.{nth_id}
 use Rattle.gi_mir.specs.Uses.{block_replaced, entry_replaced, with_reg_replaced}
 use Rattle.gi_mir.proofs.Live.{or_left, or_right}
 use Rattle.gi_mir.proofs.Located.{has_instr-Contains, has_instr-nth_id, id_in-live, id_in-within, nth_id-place_of}

@@ -1,6 +1,6 @@
 -- What the slots of a match bind of the operands of an instruction.
-use Rattle.std.specs.Prelude.{ℕ, ℤ, min, Bool, true, false, ◌&&◌, ◌||◌, nat_le, List, [], ◌∷◌, Option, Some, None, ◌==◌, if◌then◌else◌, replicate, slice_get, slice_set}
-use Rattle.std.specs.Option.{option_and_then, option_or}
+use Rattle.std.specs.Prelude.{ℕ, ℤ, min, Bool, ◌&&◌, nat_le, List, [], ◌∷◌, Option, Some, None, ◌==◌, if◌then◌else◌, replicate, slice_get, slice_set}
+use Rattle.std.specs.Option.{option_and_then}
 use Rattle.std.specs.Ordering.{int_eq}
 use Rattle.gi_llt.specs.Bits.{signed, unsigned, wrapped}
 use Rattle.gi_mir.specs.contracts.operand.PredPartialEq.TheImpl as pred_eq

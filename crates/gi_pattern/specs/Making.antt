@@ -1,6 +1,6 @@
 -- What a rule makes: instructions over what is bound, where f is the function, b the binding and x the width of a machine
 -- register in bits.
-use Rattle.std.specs.Prelude.{ℕ, ℤ, min, ◌+◌, ◌-◌, ◌^◌, Bool, List, [], ◌∷◌, ◌++◌, Option, Some, None, is_some, if◌then◌else◌, slice_set}
+use Rattle.std.specs.Prelude.{ℕ, ℤ, min, ◌+◌, ◌-◌, Bool, List, [], ◌∷◌, ◌++◌, Option, Some, None, is_some, if◌then◌else◌, slice_set}
 use Rattle.std.specs.Int.{trailing_zeros, w128}
 use Rattle.std.specs.Option.{option_map_or}
 use Rattle.gi_llt.specs.Bits.{signed, unsigned, wrapped}

@@ -137,7 +137,11 @@ impl Binding {
         ensures { result ≡ slots_bound slots.now operands.now self }
     {
         match slots {
-            [] => if operands.is_empty() { Some(self) } else { None },
+            [] => if operands.is_empty() {
+                Some(self)
+            } else {
+                None
+            },
             [slot, more @ ..] => match operands {
                 [] => None,
                 [x, rest @ ..] => self.with_slot(*slot, *x)?.with_slots(more, rest),

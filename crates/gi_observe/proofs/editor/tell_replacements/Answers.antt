@@ -1,4 +1,4 @@
-use Rattle.std.proofs.Common.{◌≡◌, ◌∙◌, ◌++◌, ◌∷◌, [], IsTrue, List, Some, ℕ, ap, arith, filter, get_or, map, subst, sym}
+use Rattle.std.proofs.Common.{◌≡◌, ◌∙◌, IsTrue, Some, ℕ, ap, filter, get_or, subst, sym}
 use Rattle.gi_mir.specs.Edit.{IsLive, all_instrs, instr_of, uses}
 use Rattle.gi_mir.specs.declared.block.InstrId.{InstrId}
 use Rattle.gi_observe.specs.Replay.{replacement, replacements}

@@ -1,6 +1,3 @@
-use Rattle.std.proofs.Common.{◌≡◌, ◌∙◌, ℕ}
-use Rattle.gi_mir.specs.Edit.{IsLive}
-use Rattle.gi_mir.specs.declared.block.InstrId.{InstrId}
 use Rattle.gi_pattern.proofs.KindFound.{live-definition}
 use Rattle.gi_pattern.proofs.fitting.definition_at.Goals as goal
 

@@ -1,4 +1,4 @@
-use Rattle.std.proofs.Common.{◌≡◌, ◌∙◌, Option, ap, sym, unwrap_or}
+use Rattle.std.proofs.Common.{◌∙◌, Option, ap, sym, unwrap_or}
 use Rattle.gi_mir.specs.Data.{InstrData}
 use Rattle.gi_mir.specs.Registers.{kind_in_operands}
 use Rattle.gi_mir.specs.declared.operand.Kind.{Kind}

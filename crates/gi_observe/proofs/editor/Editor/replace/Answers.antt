@@ -1,9 +1,9 @@
-use Rattle.std.proofs.Common.{◌≡◌, ◌∙◌, ◌++◌, IsTrue, ap, length, subst, sym, take}
+use Rattle.std.proofs.Common.{◌≡◌, ◌∙◌, ◌++◌, IsTrue, ap, length, subst, sym}
 use Rattle.std.proofs.Math.Seq.{take-length}
 use Rattle.std.proofs.lemmas.Result.{on_err_weaker, on_ok_weaker}
 use Rattle.gi_mir.specs.Data.{FunctionData}
 use Rattle.gi_mir.specs.Uses.{IsPartlyReplaced, with_reg_replaced}
-use Rattle.gi_observe.specs.Replay.{IsReplay, TellsPart, replacements}
+use Rattle.gi_observe.specs.Replay.{IsReplay, replacements}
 use Rattle.gi_observe.proofs.Replaying.{IsReplay-replaced}
 use Rattle.gi_observe.proofs.editor.Editor.replace.Goals as goal
 
