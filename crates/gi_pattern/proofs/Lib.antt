@@ -1,3 +1,4 @@
+pub mod FormedMade
 pub mod KindFound
 pub mod Numbers
 pub mod Standing

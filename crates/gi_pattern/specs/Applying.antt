@@ -1,11 +1,10 @@
 -- What a rule makes of a function, and what is told of it: uses are replaced, the root is erased, and the new instructions
 -- are created in its place. x is the width of a machine register in bits.
-use Rattle.std.specs.Prelude.{◌≡◌, ℕ, ◌+◌, ◌-◌, ◌≤◌, ◌^◌, true, List, [], ◌∷◌, ◌++◌, Option, option_map}
+use Rattle.std.specs.Prelude.{◌≡◌, ℕ, max, ◌+◌, ◌-◌, ◌≤◌, ◌^◌, true, List, [], ◌∷◌, ◌++◌, Option, option_map}
 use Rattle.std.specs.List.{list_all}
 use Rattle.std.specs.Option.{option_map_or}
 use Rattle.gi_mir.specs.Data.{InstrData, FunctionData}
 use Rattle.gi_mir.specs.Edit.{home_of, id_after, instr_of, with_instr, without_instr}
-use Rattle.gi_mir.specs.Formed.{is_formed}
 use Rattle.gi_mir.specs.Uses.{with_reg_replaced}
 use Rattle.gi_mir.specs.declared.block.InstrId.{InstrId}
 use Rattle.gi_observe.specs.Replay.{change_of, replacements}
@@ -13,7 +12,7 @@ use Rattle.gi_observe.specs.declared.change.Change.{Change}
 use Rattle.gi_observe.specs.declared.change.ChangeKind.TheVariants.{Created, Erased}
 use Rattle.gi_observe.specs.declared.pass.Pass.{Pass}
 use Rattle.gi_pattern.specs.Data.{RuleData}
-use Rattle.gi_pattern.specs.Making.{all_made, made_count, register_or}
+use Rattle.gi_pattern.specs.Making.{all_made, made_count, makes_formed, register_or}
 use Rattle.gi_pattern.specs.declared.binding.Binding.{Binding}
 
 abbrev pub id_of : ℕ → InstrId
@@ -79,7 +78,12 @@ abbrev pub applying_told : (x : ℕ) → RuleData → Binding → (id : ℕ) →
 applying_told x rule b id pass f =
     let g = uses_replaced b rule.replaces f in uses_told b rule.replaces pass f ++ root_told id (made_at x rule b id g) pass g
 
+-- one more than each register that comes to be used, if that is greater
+abbrev pub next_above : Binding → List (ℕ × ℕ) → ℕ → ℕ
+next_above b [] next = next
+next_above b (pair ∷ pairs) next = next_above b pairs (max next ((register_or b pair.1).0 + 1))
+
 -- there are numbers left for the registers that the rule makes, and its instructions are formed
-pub record CanApply (x : ℕ) (rule : RuleData) (b : Binding) (id : ℕ) (f : FunctionData) : Type 0 where
-  pub room : (uses_replaced b rule.replaces f).next_reg + made_count b rule.makes ≤ 2 ^ 32 - 1
-  pub formed : list_all is_formed (made_at x rule b id (uses_replaced b rule.replaces f)) ≡ true
+pub record CanApply (rule : RuleData) (b : Binding) (f : FunctionData) : Type 0 where
+  pub room : next_above b rule.replaces f.next_reg + made_count b rule.makes ≤ 2 ^ 32 - 1
+  pub formed : list_all makes_formed rule.makes ≡ true

@@ -1,5 +1,5 @@
 -- What a rule is, without how the program keeps it.
-use Rattle.std.specs.Prelude.{ℕ, List}
+use Rattle.std.specs.Prelude.{ℕ, List, []}
 use Rattle.gi_mir.specs.declared.opcode.Opcode.{Opcode}
 use Rattle.gi_pattern.specs.declared.rule.MakeSlot.{MakeSlot}
 use Rattle.gi_pattern.specs.declared.rule.Slot.{Slot}
@@ -23,3 +23,7 @@ pub record RuleData : Type 0 where
   pub tests : List Test
   pub replaces : List (ℕ × ℕ)
   pub makes : List MakeData
+
+-- a rule that asks for nothing and does nothing
+abbrev pub empty_rule : ℕ → RuleData
+empty_rule name = record { name = name; matches = []; tests = []; replaces = []; makes = [] }

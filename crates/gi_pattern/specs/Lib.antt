@@ -1,5 +1,6 @@
 pub mod Applying
 pub mod Binding
 pub mod Data
+pub mod Examples
 pub mod Fitting
 pub mod Making

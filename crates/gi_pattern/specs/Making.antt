@@ -1,6 +1,6 @@
 -- What a rule makes: instructions over what is bound, where f is the function, b the binding and x the width of a machine
 -- register in bits.
-use Rattle.std.specs.Prelude.{ℕ, ℤ, min, ◌+◌, ◌-◌, Bool, List, [], ◌∷◌, ◌++◌, Option, Some, None, is_some, if◌then◌else◌, slice_set}
+use Rattle.std.specs.Prelude.{true, false, not, ℕ, ℤ, pos, min, map, ◌+◌, ◌-◌, Bool, List, [], ◌∷◌, ◌++◌, Option, Some, None, is_some, if◌then◌else◌, slice_set}
 use Rattle.std.specs.Int.{trailing_zeros, w128}
 use Rattle.std.specs.Option.{option_map_or}
 use Rattle.gi_llt.specs.Bits.{signed, unsigned, wrapped}
@@ -18,6 +18,7 @@ use Rattle.gi_mir.specs.declared.operand.Pred.{Pred as Predicate}
 use Rattle.gi_mir.specs.declared.operand.Pred.TheVariants.{Eq}
 use Rattle.gi_mir.specs.declared.operand.Reg.{Reg}
 use Rattle.gi_mir.specs.Data.{InstrData, FunctionData, no_flags, reg_of}
+use Rattle.gi_mir.specs.Formed.{is_formed}
 use Rattle.gi_mir.specs.Registers.{kind_of}
 use Rattle.gi_pattern.specs.Binding.{bits_of, register_at, value_at}
 use Rattle.gi_pattern.specs.Data.{MakeData}
@@ -166,3 +167,27 @@ all_made x f b line (m ∷ ms) next now =
 abbrev pub made_count : Binding → List MakeData → ℕ
 made_count b [] = 0
 made_count b (m ∷ ms) = fresh_count m.slots + new_count b m.slots + made_count b ms
+
+-- ══ Formed instructions ══
+
+-- an operand for all that a slot makes: neither registers nor types nor numbers are looked at
+abbrev pub sample_of : MakeSlot → Operand
+sample_of (slot.Def place ty) = operand.Def (reg_of 0) Class
+sample_of (slot.Use place) = operand.Use (reg_of 0)
+sample_of (slot.Immediate value) = operand.Int (pos 0)
+sample_of (slot.Constant value ty) = operand.Constant 1 0
+sample_of (slot.Fresh value ty) = operand.Use (reg_of 0)
+sample_of (slot.Pred pred) = operand.Predicate Eq
+sample_of (slot.Phys number) = operand.Phys number
+
+-- whether the instructions are formed that are made
+abbrev pub makes_formed : MakeData → Bool
+makes_formed m = is_formed (plain m.op (map sample_of m.slots) 0)
+
+-- ══ How many registers ══
+
+-- a constant needs a register, and so does a definition that the rule didn't bind
+abbrev pub needs_register : Binding → MakeSlot → Bool
+needs_register b (slot.Fresh value ty) = true
+needs_register b (slot.Def place ty) = not (is_some (register_at b place))
+needs_register b _ = false

@@ -104,7 +104,7 @@ pub fn apply<O: ChangeObserver>(
     target: Target,
 ) -> Result<(), Memory>
     requires live { IsLive edit.old.function.now at.0 }
-    requires can { CanApply target.xlen rule.now binding.now at.0 edit.old.function.now }
+    requires can { CanApply rule.now binding.now edit.old.function.now }
     ensures same_function { edit.new.function.ghost_name ≡ edit.old.function.ghost_name }
     ensures same_observer { edit.new.observer.ghost_name ≡ edit.old.observer.ghost_name }
     ensures pass { edit.new.pass ≡ edit.old.pass }

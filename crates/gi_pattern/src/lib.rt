@@ -2,12 +2,15 @@
 #![tactic(auto)]
 
 mod applying;
+mod asking;
 mod binding;
+pub mod examples;
 mod fitting;
 mod making;
 mod rule;
 
 pub use applying::apply;
+pub use asking::can_apply;
 pub use binding::{Binding, BoundValue};
 pub use fitting::test;
 pub use rule::{Make, MakeSlot, Match, Rule, Slot, Test, TypeExpr, ValueExpr};

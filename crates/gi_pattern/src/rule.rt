@@ -1,8 +1,12 @@
 //! Rules.
 
-use gi_llt::Llt;
+ghost use Rattle.std.specs.Prelude.{◌≡◌, [], ◌∷◌, ◌++◌, IfOk};
+ghost use Rattle.gi_pattern.specs.Data.{empty_rule};
+
+use gi_llt::{Llt, Memory};
 use gi_mir::opcode::Opcode;
 use gi_mir::operand::Pred;
+use std::alloc::Global;
 use std::marker::Model;
 
 /// What an operand of an instruction is asked to be. A place is bound by the first slot that names it, and further
@@ -132,4 +136,53 @@ impl Model for Rule {
     ghost Value = { RuleData };
 
     ghost view = { λ a. record { name = a.name; matches = a.matches.items; tests = a.tests.items; replaces = a.replaces.items; makes = a.makes.items } };
+}
+
+impl Rule {
+    /// A rule that asks for nothing and does nothing.
+    pub fn new(alloc: Global, name: u16) -> Rule
+        ensures { result ≡ empty_rule name }
+    {
+        Rule {
+            name,
+            matches: Vec::new(alloc),
+            tests: Vec::new(alloc),
+            replaces: Vec::new(alloc),
+            makes: Vec::new(alloc),
+        }
+    }
+
+    /// One that asks besides for this instruction.
+    pub fn asks(mut self, op: Opcode, slots: &[Slot]) -> Result<Rule, Memory>
+        ensures { IfOk result (λ rule. rule ≡ record self { matches = self.matches ++ record { op = op; slots = slots.now } ∷ [] }) }
+    {
+        let slots = Vec::from_slice(*self.matches.allocator(), slots).map_err(|_| Memory)?;
+        self.matches.push(Match { op, slots }).map_err(|_| Memory)?;
+        Ok(self)
+    }
+
+    /// One that asks this besides of what is bound.
+    pub fn tests(mut self, test: Test) -> Result<Rule, Memory>
+        ensures { IfOk result (λ rule. rule ≡ record self { tests = self.tests ++ test ∷ [] }) }
+    {
+        self.tests.push(test).map_err(|_| Memory)?;
+        Ok(self)
+    }
+
+    /// One that besides replaces the uses of the register at the first place by that at the second.
+    pub fn replaces(mut self, old: u8, new: u8) -> Result<Rule, Memory>
+        ensures { IfOk result (λ rule. rule ≡ record self { replaces = self.replaces ++ (old, new) ∷ [] }) }
+    {
+        self.replaces.push((old, new)).map_err(|_| Memory)?;
+        Ok(self)
+    }
+
+    /// One that makes this instruction besides.
+    pub fn makes(mut self, op: Opcode, slots: &[MakeSlot]) -> Result<Rule, Memory>
+        ensures { IfOk result (λ rule. rule ≡ record self { makes = self.makes ++ record { op = op; slots = slots.now } ∷ [] }) }
+    {
+        let slots = Vec::from_slice(*self.makes.allocator(), slots).map_err(|_| Memory)?;
+        self.makes.push(Make { op, slots }).map_err(|_| Memory)?;
+        Ok(self)
+    }
 }

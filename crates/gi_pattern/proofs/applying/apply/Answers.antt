@@ -1,11 +1,14 @@
-use Rattle.std.proofs.Common.{◌≡◌, ◌++◌, ◌∙◌, ℕ, IsTrue, List, OnOk, ap, subst, sym}
+use Rattle.std.proofs.Common.{◌≡◌, ◌++◌, ◌∙◌, ℕ, IsTrue, List, OnOk, ap, arith, subst, sym, true}
+use Rattle.std.specs.List.{list_all}
+use Rattle.gi_mir.specs.Formed.{is_formed}
 use Rattle.std.proofs.lemmas.Result.{on_ok_weaker}
-use Rattle.gi_mir.specs.Data.{FunctionData}
+use Rattle.gi_mir.specs.Data.{FunctionData, InstrData}
 use Rattle.gi_mir.specs.Edit.{IsLive}
 use Rattle.gi_observe.specs.Replay.{IsReplay}
 use Rattle.gi_observe.specs.declared.change.Change.{Change}
-use Rattle.gi_pattern.specs.Applying.{made_at, root_told, uses_replaced, uses_told}
+use Rattle.gi_pattern.specs.Applying.{line_of, made_at, root_told, uses_replaced, uses_told}
 use Rattle.gi_pattern.specs.Data.{RuleData}
+use Rattle.gi_pattern.proofs.FormedMade.{all-formed, next-replaced}
 use Rattle.gi_pattern.proofs.Standing.{IsLive-uses_replaced}
 use Rattle.gi_pattern.proofs.Told.{replay-then, root-same, seen-twice}
 use Rattle.gi_pattern.proofs.applying.apply.Goals as goal
@@ -57,3 +60,19 @@ returns-clause-replay g c =
     (root_told id (made_at c.args.target.xlen rule b id (uses_replaced b rule.replaces f)) c.args.edit.now.pass (uses_replaced b rule.replaces f)) f h c.replace_root.new.edit.function.now
     (subst (λ (ps : List (ℕ × ℕ)). IsReplay (uses_told b ps c.args.edit.now.pass f) f h) pairs c.in_ok-replace_all.ensures.replay)
     (subst (λ (cs : List Change). OnOk c.replace_root.result (IsReplay cs h c.replace_root.new.edit.function.now)) root c.replace_root.ensures.replay)
+
+-- ---- what it owes its parts
+
+pub make-requires-clause-room : goal.make-requires-clause-room
+make-requires-clause-room g c =
+    let f = c.args.edit.now.function.now in
+    let pairs : c.as_slice.result.now ≡ c.args.rule.now.replaces = c.as_slice.ensures.value ∙ ap (λ (r : RuleData). r.replaces) c.rule.view_is in
+    let after : c.function.result.now ≡ uses_replaced c.args.binding.now c.args.rule.now.replaces f = c.function.ensures ∙ c.in_ok-replace_all.ensures.ok ∙ ap (λ (ps : List (ℕ × ℕ)). uses_replaced c.args.binding.now ps f) pairs in
+    let next : c.function.result.now.next_reg ≡ (uses_replaced c.args.binding.now c.args.rule.now.replaces f).next_reg = ap (λ (k : FunctionData). k.next_reg) after in
+    omega (arith, next, next-replaced c.args.binding.now c.args.rule.now.replaces f, c.requires.can.room)
+
+pub replace_root-requires-clause-formed : goal.replace_root-requires-clause-formed
+replace_root-requires-clause-formed g c =
+    let k = c.function.result.now in
+    subst (λ (is : List InstrData). list_all is_formed is ≡ true) (sym c.in_ok-made.ensures)
+    (all-formed c.args.target.xlen k c.args.binding.now (line_of k c.args.at.0) c.args.rule.now.makes k.next_reg c.args.binding.now c.requires.can.formed)
