@@ -98,7 +98,11 @@ fn register_count(binding: Binding, slots: &[MakeSlot]) -> u64
         [] => 0,
         [slot, rest @ ..] => {
             let more = register_count(binding, rest);
-            if needs_register(binding, *slot) { more + 1 } else { more }
+            if needs_register(binding, *slot) {
+                more + 1
+            } else {
+                more
+            }
         }
     }
 }

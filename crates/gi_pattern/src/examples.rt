@@ -13,7 +13,10 @@ pub fn sum_with_zero(alloc: Global) -> Result<Rule, Memory>
     ensures { IfOk result (λ rule. rule ≡ sum_with_zero) }
 {
     Rule::new(alloc, 5)
-        .asks(Opcode::GenericAdd, &[Slot::Def(0), Slot::Use(1), Slot::Use(2)])?
+        .asks(
+            Opcode::GenericAdd,
+            &[Slot::Def(0), Slot::Use(1), Slot::Use(2)],
+        )?
         .asks(Opcode::GenericConstant, &[Slot::Def(2), Slot::Value(0)])?
         .tests(Test::Is(0, 0))?
         .replaces(0, 1)
@@ -24,7 +27,10 @@ pub fn difference_of_same(alloc: Global) -> Result<Rule, Memory>
     ensures { IfOk result (λ rule. rule ≡ difference_of_same) }
 {
     Rule::new(alloc, 9)
-        .asks(Opcode::GenericSubtract, &[Slot::Def(0), Slot::Use(1), Slot::Use(1)])?
+        .asks(
+            Opcode::GenericSubtract,
+            &[Slot::Def(0), Slot::Use(1), Slot::Use(1)],
+        )?
         .makes(
             Opcode::GenericConstant,
             &[
@@ -39,7 +45,10 @@ pub fn product_by_power(alloc: Global) -> Result<Rule, Memory>
     ensures { IfOk result (λ rule. rule ≡ product_by_power) }
 {
     Rule::new(alloc, 12)
-        .asks(Opcode::GenericMultiply, &[Slot::Def(0), Slot::Use(1), Slot::Use(2)])?
+        .asks(
+            Opcode::GenericMultiply,
+            &[Slot::Def(0), Slot::Use(1), Slot::Use(2)],
+        )?
         .asks(Opcode::GenericConstant, &[Slot::Def(2), Slot::Value(0)])?
         .tests(Test::Power(0))?
         .tests(Test::Between(0, 2, i128::MAX))?
@@ -58,7 +67,10 @@ pub fn difference_with_constant(alloc: Global) -> Result<Rule, Memory>
     ensures { IfOk result (λ rule. rule ≡ difference_with_constant) }
 {
     Rule::new(alloc, 14)
-        .asks(Opcode::GenericSubtract, &[Slot::Def(0), Slot::Use(1), Slot::Use(2)])?
+        .asks(
+            Opcode::GenericSubtract,
+            &[Slot::Def(0), Slot::Use(1), Slot::Use(2)],
+        )?
         .asks(Opcode::GenericConstant, &[Slot::Def(2), Slot::Value(0)])?
         .makes(
             Opcode::GenericAdd,
@@ -125,7 +137,10 @@ pub fn sum_with_short_constant(alloc: Global) -> Result<Rule, Memory>
     ensures { IfOk result (λ rule. rule ≡ sum_with_short_constant) }
 {
     Rule::new(alloc, 0)
-        .asks(Opcode::GenericAdd, &[Slot::Def(0), Slot::Use(1), Slot::Use(2)])?
+        .asks(
+            Opcode::GenericAdd,
+            &[Slot::Def(0), Slot::Use(1), Slot::Use(2)],
+        )?
         .asks(Opcode::GenericConstant, &[Slot::Def(2), Slot::Value(0)])?
         .tests(Test::Fits12(0))?
         .makes(

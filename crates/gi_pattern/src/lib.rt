@@ -14,3 +14,6 @@ pub use asking::can_apply;
 pub use binding::{Binding, BoundValue};
 pub use fitting::test;
 pub use rule::{Make, MakeSlot, Match, Rule, Slot, Test, TypeExpr, ValueExpr};
+
+#[cfg(test)]
+mod tests;
