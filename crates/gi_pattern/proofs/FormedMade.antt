@@ -1,5 +1,5 @@
 -- What a rule makes is formed, and its registers have numbers.
-use Rattle.std.proofs.Common.{◌≡◌, ◌≤◌, ◌<◌, ◌⊎◌, ⊎_elim, ℕ, suc, ℤ, pos, negsuc, max, min, ◌+◌, ◌-◌, ◌^◌, ◌%◌, Bool, true, false, cond, ◌&&◌, ◌||◌, List, [], ◌∷◌, ◌++◌, Option, Some, None, refl, sym, ap, ap₂, ◌∙◌, arith, lit<, nat_lt, map}
+use Rattle.std.proofs.Common.{◌≡◌, ◌≤◌, ◌<◌, ◌⊎◌, ⊎_elim, ℕ, ℤ, pos, negsuc, max, min, ◌+◌, ◌-◌, ◌^◌, Bool, true, false, cond, ◌&&◌, ◌||◌, List, [], ◌∷◌, Option, Some, None, refl, ap₂, ◌∙◌, arith, map}
 use Rattle.std.specs.Int.{trailing_zeros, w128}
 use Rattle.std.specs.List.{list_all, list_any}
 use Rattle.std.specs.Option.{option_map_or}
@@ -8,7 +8,7 @@ use Rattle.std.proofs.lemmas.List.Folds.{list_all-append}
 use Rattle.std.proofs.lemmas.Nat.{mod_below, pow_pos}
 use Rattle.gi_llt.specs.Bits.{unsigned, wrapped}
 use Rattle.gi_llt.specs.Signs.{negated}
-use Rattle.gi_mir.specs.Data.{InstrData, FunctionData, reg_of}
+use Rattle.gi_mir.specs.Data.{FunctionData, reg_of}
 use Rattle.gi_mir.specs.Edit.{all_instrs, uses}
 use Rattle.gi_mir.specs.Formed.{admits, fits, is_constant_in_range, is_formed, is_in_range, taken}
 use Rattle.gi_mir.specs.Row.{rows_of}
@@ -25,12 +25,11 @@ use Rattle.gi_mir.specs.declared.row.Form.TheVariants as form
 use Rattle.gi_pattern.specs.Applying.{next_above, uses_replaced}
 use Rattle.gi_pattern.specs.Binding.{bits_of, value_at}
 use Rattle.gi_pattern.specs.Data.{MakeData}
-use Rattle.gi_pattern.specs.Making.{all_made, bits_made, bits_of_kind, bound_after, constant_made, constants_made, fresh_if, kind_made, makes_formed, next_after, of_value, one_made, operand_made, operands_made, plain, register_or, sample_of}
+use Rattle.gi_pattern.specs.Making.{all_made, bits_made, bits_of_kind, bound_after, constants_made, fresh_if, kind_made, makes_formed, next_after, of_value, one_made, operand_made, operands_made, plain, register_or, sample_of}
 use Rattle.gi_pattern.specs.declared.binding.Binding.{Binding}
 use Rattle.gi_pattern.specs.declared.binding.BoundValue.{BoundValue}
 use Rattle.gi_pattern.specs.declared.rule.MakeSlot.{MakeSlot}
 use Rattle.gi_pattern.specs.declared.rule.MakeSlot.TheVariants as slot
-use Rattle.gi_pattern.specs.declared.rule.TypeExpr.{TypeExpr}
 use Rattle.gi_pattern.specs.declared.rule.ValueExpr.{ValueExpr}
 use Rattle.gi_pattern.specs.declared.rule.ValueExpr.TheVariants.{Fixed, Bound, Log, Minus, LowMask}
 

@@ -1,5 +1,6 @@
 pub mod FormedMade
 pub mod KindFound
+pub mod NormalForms
 pub mod Numbers
 pub mod Standing
 pub mod Told

@@ -1,7 +1,7 @@
 -- Rules as values, each a row of the tables of the combiners or of selection.
-use Rattle.std.specs.Prelude.{ℕ, ℤ, pos, ◌-◌, ◌^◌, List, [], ◌∷◌}
+use Rattle.std.specs.Prelude.{pos, ◌-◌, ◌^◌, [], ◌∷◌}
 use Rattle.gi_mir.specs.declared.opcode.Opcode.TheVariants as op
-use Rattle.gi_pattern.specs.Data.{MakeData, MatchData, RuleData, empty_rule}
+use Rattle.gi_pattern.specs.Data.{RuleData, empty_rule}
 use Rattle.gi_pattern.specs.declared.rule.MakeSlot.TheVariants as make
 use Rattle.gi_pattern.specs.declared.rule.Slot.TheVariants.{Def, Use, Value}
 use Rattle.gi_pattern.specs.declared.rule.Test.TheVariants.{Is, Power, Between, Fits12, SameType}

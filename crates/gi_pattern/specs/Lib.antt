@@ -4,3 +4,4 @@ pub mod Data
 pub mod Examples
 pub mod Fitting
 pub mod Making
+pub mod NormalForms

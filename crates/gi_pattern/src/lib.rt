@@ -6,6 +6,7 @@ mod asking;
 mod binding;
 pub mod examples;
 mod fitting;
+pub mod laws;
 mod making;
 mod rule;
 

@@ -187,16 +187,19 @@ fn product_by_power_becomes_shift(rt: HostRuntime) -> Result<(), Fail> {
         (Opcode::GenericConstant, &three),
         (Opcode::GenericShiftLeft, &shift),
     ];
-    for case in [
-        tried(Opcode::GenericMultiply, 8, &product, Some(&made)),
-        tried(Opcode::GenericMultiply, 8, &exchanged, Some(&made)),
-        tried(Opcode::GenericMultiply, 6, &product, None),
-        tried(Opcode::GenericMultiply, 1, &product, None),
-        tried(Opcode::GenericMultiply, 0, &product, None),
-        tried(Opcode::GenericAdd, 8, &product, None),
-    ] {
-        assert!(rt; does(rt.alloc(), &rule, &case)?);
+    let op = Opcode::GenericMultiply;
+    assert!(rt; does(rt.alloc(), &rule, &tried(op, 8, &product, Some(&made)))?);
+    assert!(rt; does(rt.alloc(), &rule, &tried(op, 8, &exchanged, Some(&made)))?);
+    for constant in [0, 1, 6] {
+        assert!(rt; does(rt.alloc(), &rule, &tried(op, constant, &product, None))?);
     }
+    assert!(rt;
+        does(
+            rt.alloc(),
+            &rule,
+            &tried(Opcode::GenericAdd, 8, &product, None)
+        )?
+    );
     Ok(())
 }
 
