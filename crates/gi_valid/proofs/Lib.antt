@@ -1,10 +1,11 @@
 pub mod Answering
 pub mod Defining
+pub mod Greatest
 pub mod Held
 pub mod Holding
 pub mod Single
 pub mod Sited
 pub mod Stepping
-mod Trying
+pub mod Trials
 pub mod Valid
 pub mod Walking

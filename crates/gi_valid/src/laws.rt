@@ -38,3 +38,8 @@ pub fn uses_are_available()
         → slice_get f.blocks b ≡ Some block → after_phis block.instrs ≡ before ++ i ∷ after
         → (r : ℕ) → uses r i ≡ true → IsAvailable f b (phis_of block.instrs ++ before) r }
 {}
+
+/// A valid function isn't invalid by any fault, and so what is told of a function is one thing or the other.
+pub fn valid_is_not_invalid()
+    ensures { (x : ℕ) (phase : Phase) (f : FunctionData) (fault : Fault) → IsValid x phase f → IsInvalid x phase f fault → ⊥ }
+{}

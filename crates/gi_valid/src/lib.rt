@@ -1,8 +1,12 @@
 //! Validity of a function: what it demands, the faults that break it, and what holds in every run of a valid function.
 #![tactic(auto)]
 
+mod examples;
 mod invalid;
 mod laws;
+#[cfg(test)]
+mod tests;
 
+pub use examples::{a_loop_is_invalid, a_loop_runs, examples_are_invalid, examples_are_valid};
 pub use invalid::Invalid;
-pub use laws::{definitions_hold, uses_are_available};
+pub use laws::{definitions_hold, uses_are_available, valid_is_not_invalid};
