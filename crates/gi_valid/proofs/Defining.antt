@@ -9,7 +9,7 @@ use Rattle.gi_mir.specs.Row.{is_terminator_op}
 use Rattle.gi_meaning.specs.Meaning.{meaning_of}
 use Rattle.gi_meaning.specs.Runs.{is_phi, phis_of}
 use Rattle.gi_valid.specs.Definitions.{definition}
-use Rattle.gi_valid.specs.Faults.{definitions, times, sites, told, terminators}
+use Rattle.gi_valid.specs.Faults.{definitions, times, sites, told, terminator}
 use Rattle.gi_valid.proofs.Answering.{is_valued, ends_nothing, joins_nothing}
 use Rattle.gi_valid.proofs.Single.{IsIn, one_definition}
 
@@ -47,7 +47,7 @@ definition_is f r d h = let both : IsIn d (all_instrs f.blocks) × (defines r d 
 -- what is known of a valid function
 pub record IsOrderly (f : FunctionData) : Type 0 where
   pub once : (r : ℕ) → times r (definitions (all_instrs f.blocks)) ≤ 1
-  pub ends : told (terminators f) (sites f) ≡ []
+  pub ends : told (terminator f) (sites f) ≡ []
 
 -- an instruction that writes no results doesn't define what one defines that does
 pub not_defined : (f : FunctionData) → IsOrderly f → (d : ℕ × InstrData) → IsIn d (all_instrs f.blocks) → is_valued (meaning_of d.1.flags d.1.op) ≡ true → (q : ℕ) → defines q d ≡ true

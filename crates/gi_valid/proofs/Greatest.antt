@@ -1,7 +1,6 @@
 -- In greater sets nothing more is at fault, so a valid function isn't invalid.
-use Rattle.std.proofs.Common.{◌≡◌, ℕ, suc, ◌+◌, ◌<◌, Bool, true, false, cond, not, ◌&&◌, ◌||◌, List, [], ◌∷◌, ◌++◌, map, filter, Option, Some, None, length, nat_lt, ⊎_elim, refl, sym, ap, ap₂, ◌∙◌, arith, true≢false, ltb-true}
+use Rattle.std.proofs.Common.{◌≡◌, ℕ, suc, ◌+◌, ◌<◌, Bool, true, false, cond, not, ◌&&◌, ◌||◌, List, [], ◌∷◌, ◌++◌, find, Option, Some, None, option_map, length, nat_lt, ⊎_elim, refl, sym, ap, ap₂, ◌∙◌, arith, true≢false, ltb-true}
 use Rattle.std.proofs.lemmas.Bool.{or_cases, or_left, or_right, and_parts, and_from, not-true, not_from_false, false_from_ne_true}
-use Rattle.std.proofs.lemmas.Grind.{flat_map-append}
 use Rattle.std.specs.List.{list_any}
 use Rattle.gi_mir.specs.Data.{InstrData, BlockData, FunctionData, reg_of}
 use Rattle.gi_mir.specs.Edit.{defines}
@@ -10,13 +9,15 @@ use Rattle.gi_mir.specs.declared.operand.Operand.{Operand}
 use Rattle.gi_mir.specs.declared.operand.Operand.TheVariants as operand
 use Rattle.gi_meaning.specs.Runs.{is_phi, phis_of, after_phis, entry_of}
 use Rattle.gi_valid.specs.Available.{Extent, is_origin, defines_origin, at_once, one_by_one, behind, at_end, IsExtent}
-use Rattle.gi_valid.specs.Faults.{Fault, fault_at, Site, sites_in, sites_from, sites, told, is_there, missing_entry, missing_entries, missing_uses, not_available, faults}
+use Rattle.gi_valid.specs.Faults.{with_fault, Site, sites_in, sites_from, sites, told, is_there, missing_entry, missing_entries, missing_use, not_available, fault_in, faults}
 use Rattle.gi_valid.specs.Typing.{Phase}
 use Rattle.gi_valid.specs.Valid.{IsValid, IsGreatest, of_lowest_line, IsInvalid}
 use Rattle.gi_valid.specs.declared.invalid.Invalid.{Invalid}
 use Rattle.gi_valid.specs.declared.invalid.Invalid.TheVariants.{NotAvailable}
-use Rattle.gi_valid.proofs.Sited.{nothing_in_either, nothing_mapped}
-use Rattle.gi_valid.proofs.Valid.{AreMissing, missing}
+use Rattle.gi_valid.proofs.Sited.{nothing_in_either, nothing_in_front, neither, told_append}
+use Rattle.gi_valid.proofs.Valid.{AreMissing, missing, HasNothing, nothing, nothing_mapped}
+use Rattle.gi_valid.specs.declared.invalid.Fault.{Fault}
+use Rattle.std.specs.Option.{option_or}
 
 -- ══ More is available where less is taken away ══
 
@@ -74,69 +75,72 @@ there_still f small great g site within (operand.ImplicitUse n) h = h
 there_still f small great g site within _ h = refl
 
 uses_still : (f : FunctionData) (small great : ℕ → Extent) → AreGreater f small great → (site : Site) → site.block < length f.blocks → (os : List Operand)
-    → filter (λ o. not (is_there f small site o)) os ≡ [] → filter (λ o. not (is_there f great site o)) os ≡ []
+    → find (λ o. not (is_there f small site o)) os ≡ None → find (λ o. not (is_there f great site o)) os ≡ None
 uses_still f small great g site within [] h = refl
 uses_still f small great g site within (o ∷ os) h = by (is_there f small site o) refl h (λ l. uses_still f small great g site within os l)
   where
-    by : (t : Bool) → is_there f small site o ≡ t → cond (not t) (o ∷ filter (λ k. not (is_there f small site k)) os) (filter (λ k. not (is_there f small site k)) os) ≡ []
-        → (filter (λ k. not (is_there f small site k)) os ≡ [] → filter (λ k. not (is_there f great site k)) os ≡ []) → filter (λ k. not (is_there f great site k)) (o ∷ os) ≡ []
+    by : (t : Bool) → is_there f small site o ≡ t → cond (not t) (Some o) (find (λ k. not (is_there f small site k)) os) ≡ None
+        → (find (λ k. not (is_there f small site k)) os ≡ None → find (λ k. not (is_there f great site k)) os ≡ None) → find (λ k. not (is_there f great site k)) (o ∷ os) ≡ None
     by true so h rest =
-        ap (λ t. cond (not t) (o ∷ filter (λ k. not (is_there f great site k)) os) (filter (λ k. not (is_there f great site k)) os)) (there_still f small great g site within o so) ∙ rest h
+        ap (λ t. cond (not t) (Some o) (find (λ k. not (is_there f great site k)) os)) (there_still f small great g site within o so) ∙ rest h
     by false so h rest = cc
 
-entry_still : (f : FunctionData) (small great : ℕ → Extent) → AreGreater f small great → (e : Option (ℕ × ℕ)) → missing_entry f small e ≡ [] → missing_entry f great e ≡ []
+entry_still : (f : FunctionData) (small great : ℕ → Extent) → AreGreater f small great → (e : Option (ℕ × ℕ)) → missing_entry f small e ≡ None → missing_entry f great e ≡ None
 entry_still f small great g None h = refl
 entry_still f small great g (Some e) h = by (nat_lt e.1 (length f.blocks)) refl h
   where
-    missed : List Invalid
-    missed = NotAvailable (operand.Use (reg_of e.0)) ∷ []
+    missed : Option Invalid
+    missed = Some (NotAvailable (operand.Use (reg_of e.0)))
 
-    by : (t : Bool) → nat_lt e.1 (length f.blocks) ≡ t → cond (not t || at_end f e.0 (small e.0) e.1) [] missed ≡ [] → cond (not (nat_lt e.1 (length f.blocks)) || at_end f e.0 (great e.0) e.1) [] missed ≡ []
-    by false so h = ap (λ t. cond (not t || at_end f e.0 (great e.0) e.1) [] missed) so
-    by true so h = ap₂ (λ t u. cond (not t || u) [] missed) so (further (at_end f e.0 (small e.0) e.1) refl h)
+    by : (t : Bool) → nat_lt e.1 (length f.blocks) ≡ t → cond (not t || at_end f e.0 (small e.0) e.1) None missed ≡ None → cond (not (nat_lt e.1 (length f.blocks)) || at_end f e.0 (great e.0) e.1) None missed ≡ None
+    by false so h = ap (λ t. cond (not t || at_end f e.0 (great e.0) e.1) None missed) so
+    by true so h = ap₂ (λ t u. cond (not t || u) None missed) so (further (at_end f e.0 (small e.0) e.1) refl h)
       where
-        further : (t : Bool) → at_end f e.0 (small e.0) e.1 ≡ t → cond t [] missed ≡ [] → at_end f e.0 (great e.0) e.1 ≡ true
+        further : (t : Bool) → at_end f e.0 (small e.0) e.1 ≡ t → cond t None missed ≡ None → at_end f e.0 (great e.0) e.1 ≡ true
         further true is h =
             more_behind e.0 (great e.0).origins (small e.0).origins (g.fewer e.0) ((small e.0).starts e.1) ((great e.0).starts e.1) (g.more e.0 e.1 (ltb-true e.1 (length f.blocks) so))
             (body_at f.blocks e.1).instrs is
         further false is h = cc
 
-entries_still : (f : FunctionData) (small great : ℕ → Extent) → AreGreater f small great → (os : List Operand) → missing_entries f small os ≡ [] → missing_entries f great os ≡ []
+entries_still : (f : FunctionData) (small great : ℕ → Extent) → AreGreater f small great → (os : List Operand) → missing_entries f small os ≡ None → missing_entries f great os ≡ None
 entries_still f small great g [] h = refl
 entries_still f small great g (o ∷ os) h =
-    let each : (missing_entry f small (entry_of (o ∷ os)) ≡ []) × (missing_entries f small os ≡ []) = nothing_in_either (missing_entry f small (entry_of (o ∷ os))) (missing_entries f small os) h in
-    ap₂ (λ xs ys. xs ++ ys) (entry_still f small great g (entry_of (o ∷ os)) each.0) (entries_still f small great g os each.1)
+    let each : (missing_entry f small (entry_of (o ∷ os)) ≡ None) × (missing_entries f small os ≡ None) = neither (missing_entry f small (entry_of (o ∷ os))) (missing_entries f small os) h in
+    ap₂ option_or (entry_still f small great g (entry_of (o ∷ os)) each.0) (entries_still f small great g os each.1)
 
-site_still : (f : FunctionData) (small great : ℕ → Extent) → AreGreater f small great → (site : Site) → site.block < length f.blocks → not_available f small site ≡ [] → not_available f great site ≡ []
+site_still : (f : FunctionData) (small great : ℕ → Extent) → AreGreater f small great → (site : Site) → site.block < length f.blocks → not_available f small site ≡ None → not_available f great site ≡ None
 site_still f small great g site within h = by (is_phi site.instr) h
   where
-    by : (t : Bool) → cond t (missing_entries f small site.instr.operands) (missing_uses f small site) ≡ [] → cond t (missing_entries f great site.instr.operands) (missing_uses f great site) ≡ []
+    by : (t : Bool) → cond t (missing_entries f small site.instr.operands) (missing_use f small site) ≡ None → cond t (missing_entries f great site.instr.operands) (missing_use f great site) ≡ None
     by true h = entries_still f small great g site.instr.operands h
-    by false h = ap (map NotAvailable) (uses_still f small great g site within site.instr.operands (nothing_mapped NotAvailable (filter (λ o. not (is_there f small site o)) site.instr.operands) h))
+    by false h = ap (option_map NotAvailable) (uses_still f small great g site within site.instr.operands (nothing_mapped NotAvailable (find (λ o. not (is_there f small site o)) site.instr.operands) h))
+
+fault_still : (x : ℕ) (phase : Phase) (f : FunctionData) (small great : ℕ → Extent) → AreGreater f small great → (site : Site) → site.block < length f.blocks → fault_in x phase f small site ≡ None → fault_in x phase f great site ≡ None
+fault_still x phase f small great g site within h =
+    let here : HasNothing x phase f small site = nothing x phase f small site h in ap₂ option_or (site_still f small great g site within here.unavailable) here.others
 
 -- ══ A function ══
 
-block_still : (f : FunctionData) (small great : ℕ → Extent) → AreGreater f small great → (b : ℕ) → b < length f.blocks → (done is : List (ℕ × InstrData)) → told (not_available f small) (sites_in b done is) ≡ []
-    → told (not_available f great) (sites_in b done is) ≡ []
-block_still f small great g b within done [] h = refl
-block_still f small great g b within done (i ∷ is) h =
+block_still : (x : ℕ) (phase : Phase) (f : FunctionData) (small great : ℕ → Extent) → AreGreater f small great → (b : ℕ) → b < length f.blocks → (done is : List (ℕ × InstrData)) → told (fault_in x phase f small) (sites_in b done is) ≡ []
+    → told (fault_in x phase f great) (sites_in b done is) ≡ []
+block_still x phase f small great g b within done [] h = refl
+block_still x phase f small great g b within done (i ∷ is) h =
     let site : Site = record { block = b; before = done; instr = i.1; after = is } in
-    let each : (map (fault_at i.1.line) (not_available f small site) ≡ []) × (told (not_available f small) (sites_in b (done ++ i ∷ []) is) ≡ []) =
-    nothing_in_either (map (fault_at i.1.line) (not_available f small site)) (told (not_available f small) (sites_in b (done ++ i ∷ []) is)) h in
-    ap₂ (λ xs ys. map (fault_at i.1.line) xs ++ ys) (site_still f small great g site within (nothing_mapped (fault_at i.1.line) (not_available f small site) each.0))
-    (block_still f small great g b within (done ++ i ∷ []) is each.1)
+    let each : (fault_in x phase f small site ≡ None) × (told (fault_in x phase f small) (sites_in b (done ++ i ∷ []) is) ≡ []) =
+    nothing_in_front i.1.line (fault_in x phase f small site) (told (fault_in x phase f small) (sites_in b (done ++ i ∷ []) is)) h in
+    ap₂ (with_fault i.1.line) (fault_still x phase f small great g site within each.0) (block_still x phase f small great g b within (done ++ i ∷ []) is each.1)
 
-blocks_still : (f : FunctionData) (small great : ℕ → Extent) → AreGreater f small great → (place : ℕ) (blocks : List BlockData) → place + length blocks ≡ length f.blocks → told (not_available f small) (sites_from place blocks) ≡ []
-    → told (not_available f great) (sites_from place blocks) ≡ []
-blocks_still f small great g place [] count h = refl
-blocks_still f small great g place (k ∷ blocks) count h =
-    let each : (told (not_available f small) (sites_in place [] k.instrs) ≡ []) × (told (not_available f small) (sites_from (place + 1) blocks) ≡ []) =
-    nothing_in_either (told (not_available f small) (sites_in place [] k.instrs)) (told (not_available f small) (sites_from (place + 1) blocks))
-    (sym (flat_map-append (λ site. map (fault_at site.instr.line) (not_available f small site)) (sites_in place [] k.instrs) (sites_from (place + 1) blocks)) ∙ h) in
+blocks_still : (x : ℕ) (phase : Phase) (f : FunctionData) (small great : ℕ → Extent) → AreGreater f small great → (place : ℕ) (blocks : List BlockData) → place + length blocks ≡ length f.blocks
+    → told (fault_in x phase f small) (sites_from place blocks) ≡ [] → told (fault_in x phase f great) (sites_from place blocks) ≡ []
+blocks_still x phase f small great g place [] count h = refl
+blocks_still x phase f small great g place (k ∷ blocks) count h =
+    let each : (told (fault_in x phase f small) (sites_in place [] k.instrs) ≡ []) × (told (fault_in x phase f small) (sites_from (place + 1) blocks) ≡ []) =
+    nothing_in_either (told (fault_in x phase f small) (sites_in place [] k.instrs)) (told (fault_in x phase f small) (sites_from (place + 1) blocks))
+    (sym (told_append (fault_in x phase f small) (sites_in place [] k.instrs) (sites_from (place + 1) blocks)) ∙ h) in
     let within : place < length f.blocks = below place (length blocks) (length f.blocks) count in
-    flat_map-append (λ site. map (fault_at site.instr.line) (not_available f great site)) (sites_in place [] k.instrs) (sites_from (place + 1) blocks)
-    ∙ ap₂ (λ xs ys. xs ++ ys) (block_still f small great g place within [] k.instrs each.0)
-    (blocks_still f small great g (place + 1) blocks (next place (length blocks) (length f.blocks) count) each.1)
+    told_append (fault_in x phase f great) (sites_in place [] k.instrs) (sites_from (place + 1) blocks)
+    ∙ ap₂ (λ xs ys. xs ++ ys) (block_still x phase f small great g place within [] k.instrs each.0)
+    (blocks_still x phase f small great g (place + 1) blocks (next place (length blocks) (length f.blocks) count) each.1)
   where
     below : (p n m : ℕ) → p + suc n ≡ m → p < m
     below p n m h = omega (arith, h)
@@ -157,12 +161,9 @@ nothing_told fault h = cc
 pub faultless_in_greatest : (x : ℕ) (phase : Phase) (f : FunctionData) → IsValid x phase f → (great : ℕ → Extent) → ((r : ℕ) → IsGreatest f r (great r)) → faults x phase f great ≡ []
 faultless_in_greatest x phase f valid great greatest =
     let none : AreMissing x phase f valid.extents = missing x phase f valid.extents valid.faultless in
-    let still : told (not_available f great) (sites f) ≡ [] =
-    blocks_still f valid.extents great (greatest_are_greater f valid.extents great valid.contained greatest) 0 f.blocks (zero_more (length f.blocks)) none.unavailable in
-    ap₂ (λ l k. l ++ k)
-    (ap₂ (λ l k. l ++ k)
-    (ap₂ (λ l k. l ++ k)
-    (ap₂ (λ l k. l ++ k) (ap₂ (λ l k. l ++ k) (ap₂ (λ l k. l ++ k) (ap₂ (λ l k. l ++ k) none.double still) none.mismatches) none.blocks) none.successors) none.entries) none.across) none.ends
+    let still : told (fault_in x phase f great) (sites f) ≡ [] =
+    blocks_still x phase f valid.extents great (greatest_are_greater f valid.extents great valid.contained greatest) 0 f.blocks (zero_more (length f.blocks)) none.sites in
+    ap₂ (λ l k. l ++ k) (ap₂ (λ l k. l ++ k) none.double still) none.successors
   where
     zero_more : (n : ℕ) → 0 + n ≡ n
     zero_more n = omega arith

@@ -1,7 +1,7 @@
 -- What a function without faults says of each of its sites.
-use Rattle.std.proofs.Common.{◌≡◌, ℕ, zero, suc, ◌+◌, Bool, true, false, cond, not, ◌&&◌, ◌||◌, ◌==◌, List, [], ◌∷◌, ◌++◌, map, Some, slice_get, ⊎_elim, refl, sym, ap, ◌∙◌, subst, arith, true≢false, append_assoc, append-nil}
+use Rattle.std.proofs.Common.{◌≡◌, ℕ, zero, suc, ◌+◌, Bool, true, false, cond, not, ◌&&◌, ◌||◌, ◌==◌, List, [], ◌∷◌, ◌++◌, Option, Some, None, slice_get, ⊎_elim, refl, sym, ap, ◌∙◌, subst, arith, true≢false, append_assoc, append-nil}
 use Rattle.std.proofs.lemmas.Bool.{or_parts, or_from, or_cases, or_left, or_right, and_parts, and_from, and_cases, not-false, eqb-true}
-use Rattle.std.proofs.lemmas.Grind.{flat_map-append}
+use Rattle.std.specs.Option.{option_or}
 use Rattle.std.proofs.lemmas.List.Folds.{list_any-append}
 use Rattle.std.proofs.lemmas.Option.{same_Some}
 use Rattle.std.specs.List.{list_any, list_all}
@@ -12,7 +12,8 @@ use Rattle.gi_mir.specs.declared.operand.Operand.TheVariants as operand
 use Rattle.gi_meaning.specs.Runs.{is_phi, phis_of, after_phis, is_among}
 use Rattle.gi_refine.specs.Rewriting.{is_target}
 use Rattle.gi_valid.specs.Available.{successors_of}
-use Rattle.gi_valid.specs.Faults.{fault_at, Site, sites_in, sites_from, sites, told, blocks_in, is_late, has_late, is_first_late, is_astray, terminators}
+use Rattle.gi_valid.specs.Faults.{with_fault, Site, sites_in, sites_from, sites, told, blocks_in, is_late, has_late, is_first_late, is_astray, terminator}
+use Rattle.gi_valid.specs.declared.invalid.Fault.{Fault}
 use Rattle.gi_valid.specs.declared.invalid.Invalid.{Invalid}
 use Rattle.gi_valid.specs.declared.invalid.Invalid.TheVariants.{Terminator}
 use Rattle.gi_valid.proofs.Walking.{body_is}
@@ -23,34 +24,43 @@ pub nothing_in_either : {A : Type 0} (xs ys : List A) → xs ++ ys ≡ [] → (x
 nothing_in_either [] ys h = (refl, h)
 nothing_in_either (x ∷ xs) ys h = cc
 
-pub nothing_mapped : {A B : Type 0} (f : A → B) (xs : List A) → map f xs ≡ [] → xs ≡ []
-nothing_mapped f [] h = refl
-nothing_mapped f (x ∷ xs) h = cc
+pub nothing_in_front : (line : ℕ) (what : Option Invalid) (faults : List Fault) → with_fault line what faults ≡ [] → (what ≡ None) × (faults ≡ [])
+nothing_in_front line None faults h = (refl, h)
+nothing_in_front line (Some what) faults h = cc
+
+pub neither : {A : Type 0} (a b : Option A) → option_or a b ≡ None → (a ≡ None) × (b ≡ None)
+neither None b h = (refl, h)
+neither (Some a) b h = cc
 
 -- ══ Sites ══
 
 abbrev pub site_of : (b : ℕ) → (before : List (ℕ × InstrData)) → (i : ℕ × InstrData) → (after : List (ℕ × InstrData)) → Site
 site_of b before i after = record { block = b; before = before; instr = i.1; after = after }
 
-first_site : (g : Site → List Invalid) (site : Site) (rest : List Site) → told g (site ∷ rest) ≡ [] → (g site ≡ []) × (told g rest ≡ [])
-first_site g site rest h =
-    let each : (map (fault_at site.instr.line) (g site) ≡ []) × (told g rest ≡ []) = nothing_in_either (map (fault_at site.instr.line) (g site)) (told g rest) h in
-    (nothing_mapped (fault_at site.instr.line) (g site) each.0, each.1)
+pub told_append : (g : Site → Option Invalid) (xs ys : List Site) → told g (xs ++ ys) ≡ told g xs ++ told g ys
+told_append g [] ys = refl
+told_append g (site ∷ xs) ys = ap (with_fault site.instr.line (g site)) (told_append g xs ys) ∙ front (g site) (told g xs)
+  where
+    front : (what : Option Invalid) (l : List Fault) → with_fault site.instr.line what (l ++ told g ys) ≡ with_fault site.instr.line what l ++ told g ys
+    front None l = refl
+    front (Some what) l = refl
 
-in_block : (g : Site → List Invalid) (b : ℕ) (done before : List (ℕ × InstrData)) (i : ℕ × InstrData) (after : List (ℕ × InstrData)) → told g (sites_in b done (before ++ i ∷ after)) ≡ []
-    → g (site_of b (done ++ before) i after) ≡ []
+in_block : (g : Site → Option Invalid) (b : ℕ) (done before : List (ℕ × InstrData)) (i : ℕ × InstrData) (after : List (ℕ × InstrData)) → told g (sites_in b done (before ++ i ∷ after)) ≡ []
+    → g (site_of b (done ++ before) i after) ≡ None
 in_block g b done [] i after h =
-    subst (λ l. g (site_of b l i after) ≡ []) (sym (append-nil done)) (first_site g (site_of b done i after) (sites_in b (done ++ i ∷ []) after) h).0
+    subst (λ l. g (site_of b l i after) ≡ None) (sym (append-nil done))
+    (nothing_in_front i.1.line (g (site_of b done i after)) (told g (sites_in b (done ++ i ∷ []) after)) h).0
 in_block g b done (k ∷ before) i after h =
-    subst (λ l. g (site_of b l i after) ≡ []) (append_assoc done (k ∷ []) before)
-    (in_block g b (done ++ k ∷ []) before i after (first_site g (site_of b done k (before ++ i ∷ after)) (sites_in b (done ++ k ∷ []) (before ++ i ∷ after)) h).1)
+    subst (λ l. g (site_of b l i after) ≡ None) (append_assoc done (k ∷ []) before)
+    (in_block g b (done ++ k ∷ []) before i after
+    (nothing_in_front k.1.line (g (site_of b done k (before ++ i ∷ after))) (told g (sites_in b (done ++ k ∷ []) (before ++ i ∷ after))) h).1)
 
-parts_of_blocks : (g : Site → List Invalid) (place : ℕ) (k : BlockData) (blocks : List BlockData) → told g (sites_from place (k ∷ blocks)) ≡ [] → (told g (sites_in place [] k.instrs) ≡ []) × (told g (sites_from (place + 1) blocks) ≡ [])
+parts_of_blocks : (g : Site → Option Invalid) (place : ℕ) (k : BlockData) (blocks : List BlockData) → told g (sites_from place (k ∷ blocks)) ≡ [] → (told g (sites_in place [] k.instrs) ≡ []) × (told g (sites_from (place + 1) blocks) ≡ [])
 parts_of_blocks g place k blocks h =
     nothing_in_either (told g (sites_in place [] k.instrs)) (told g (sites_from (place + 1) blocks))
-    (sym (flat_map-append (λ site. map (fault_at site.instr.line) (g site)) (sites_in place [] k.instrs) (sites_from (place + 1) blocks)) ∙ h)
+    (sym (told_append g (sites_in place [] k.instrs) (sites_from (place + 1) blocks)) ∙ h)
 
-in_blocks : (g : Site → List Invalid) (place : ℕ) (blocks : List BlockData) → told g (sites_from place blocks) ≡ [] → (b : ℕ) (block : BlockData) → slice_get blocks b ≡ Some block
+in_blocks : (g : Site → Option Invalid) (place : ℕ) (blocks : List BlockData) → told g (sites_from place blocks) ≡ [] → (b : ℕ) (block : BlockData) → slice_get blocks b ≡ Some block
     → told g (sites_in (place + b) [] block.instrs) ≡ []
 in_blocks g place [] h b block found = cc
 in_blocks g place (k ∷ blocks) h zero block found =
@@ -62,8 +72,8 @@ in_blocks g place (k ∷ blocks) h (suc c) block found =
     subst (λ n. told g (sites_in n [] block.instrs) ≡ []) next (in_blocks g (place + 1) blocks (parts_of_blocks g place k blocks h).1 c block found)
 
 -- each site of a function
-pub at_site : (f : FunctionData) (g : Site → List Invalid) → told g (sites f) ≡ [] → (b : ℕ) (block : BlockData) → slice_get f.blocks b ≡ Some block
-    → (before : List (ℕ × InstrData)) (i : ℕ × InstrData) (after : List (ℕ × InstrData)) → block.instrs ≡ before ++ i ∷ after → g (site_of b before i after) ≡ []
+pub at_site : (f : FunctionData) (g : Site → Option Invalid) → told g (sites f) ≡ [] → (b : ℕ) (block : BlockData) → slice_get f.blocks b ≡ Some block
+    → (before : List (ℕ × InstrData)) (i : ℕ × InstrData) (after : List (ℕ × InstrData)) → block.instrs ≡ before ++ i ∷ after → g (site_of b before i after) ≡ None
 at_site f g h b block found before i after splits =
     let none : 0 + b ≡ b = omega arith in
     in_block g b [] before i after
@@ -93,17 +103,17 @@ late_walk instrs ok done (x ∷ xs) splits none =
     or_from (is_late done x.1) (has_late (done ++ x ∷ []) xs) here
     (late_walk instrs ok (done ++ x ∷ []) xs (splits ∙ sym (append_assoc done (x ∷ []) xs)) more)
 
-terminator_parts : (f : FunctionData) (site : Site) → terminators f site ≡ [] → (is_first_late site ≡ false) × (is_astray f site ≡ false)
+terminator_parts : (f : FunctionData) (site : Site) → terminator f site ≡ None → (is_first_late site ≡ false) × (is_astray f site ≡ false)
 terminator_parts f site h = by (is_first_late site || is_astray f site) refl h
   where
-    by : (t : Bool) → (is_first_late site || is_astray f site) ≡ t → cond t (Terminator ∷ []) [] ≡ [] → (is_first_late site ≡ false) × (is_astray f site ≡ false)
+    by : (t : Bool) → (is_first_late site || is_astray f site) ≡ t → cond t (Some Terminator) None ≡ None → (is_first_late site ≡ false) × (is_astray f site ≡ false)
     by true so h = cc
     by false so h = or_parts (is_first_late site) (is_astray f site) so
 
 -- nothing in a block is late
-pub none_late : (f : FunctionData) → told (terminators f) (sites f) ≡ [] → (b : ℕ) (block : BlockData) → slice_get f.blocks b ≡ Some block → has_late [] block.instrs ≡ false
+pub none_late : (f : FunctionData) → told (terminator f) (sites f) ≡ [] → (b : ℕ) (block : BlockData) → slice_get f.blocks b ≡ Some block → has_late [] block.instrs ≡ false
 none_late f h b block found =
-    late_walk block.instrs (λ before i after splits. (terminator_parts f (site_of b before i after) (at_site f (terminators f) h b block found before i after splits)).0) [] block.instrs refl refl
+    late_walk block.instrs (λ before i after splits. (terminator_parts f (site_of b before i after) (at_site f (terminator f) h b block found before i after splits)).0) [] block.instrs refl refl
 
 ends_walk : (front after : List (ℕ × InstrData)) → list_any (λ p. is_terminator_op p.1.op) front ≡ true → has_late front after ≡ false → list_all (λ p. is_terminator_op p.1.op) after ≡ true
 ends_walk front [] some none = refl
@@ -118,8 +128,8 @@ ends_walk front (j ∷ after) some none =
     (ends_walk (front ++ j ∷ []) after
     (list_any-append (λ p. is_terminator_op p.1.op) front (j ∷ []) ∙ or_left (list_any (λ p. is_terminator_op p.1.op) front) (list_any (λ p. is_terminator_op p.1.op) (j ∷ [])) some) each.1)
 
--- behind a terminator stand terminators alone
-pub ends_behind : (f : FunctionData) → told (terminators f) (sites f) ≡ [] → (b : ℕ) (block : BlockData) → slice_get f.blocks b ≡ Some block
+-- behind a terminator stand terminator alone
+pub ends_behind : (f : FunctionData) → told (terminator f) (sites f) ≡ [] → (b : ℕ) (block : BlockData) → slice_get f.blocks b ≡ Some block
     → (front : List (ℕ × InstrData)) (i : ℕ × InstrData) (after : List (ℕ × InstrData)) → block.instrs ≡ front ++ i ∷ after → is_terminator_op i.1.op ≡ true
     → list_all (λ p. is_terminator_op p.1.op) (i ∷ after) ≡ true
 ends_behind f h b block found front i after splits ends =
@@ -140,12 +150,12 @@ aimed_among c successors (operand.Block b ∷ os) all h =
 aimed_among c successors (_ ∷ os) all h = aimed_among c successors os all h
 
 -- the targets of a branch are among the successors of its block
-pub target_among : (f : FunctionData) → told (terminators f) (sites f) ≡ [] → (b : ℕ) (block : BlockData) → slice_get f.blocks b ≡ Some block
+pub target_among : (f : FunctionData) → told (terminator f) (sites f) ≡ [] → (b : ℕ) (block : BlockData) → slice_get f.blocks b ≡ Some block
     → (front : List (ℕ × InstrData)) (i : ℕ × InstrData) (after : List (ℕ × InstrData)) → block.instrs ≡ front ++ i ∷ after → is_branch_op i.1.op ≡ true → (c : ℕ) → is_target c i.1.operands ≡ true
     → is_among c block.successors ≡ true
 target_among f h b block found front i after splits branches c aimed =
     let stray : is_astray f (site_of b front i after) ≡ false =
-    (terminator_parts f (site_of b front i after) (at_site f (terminators f) h b block found front i after splits)).1 in
+    (terminator_parts f (site_of b front i after) (at_site f (terminator f) h b block found front i after splits)).1 in
     let all : list_all (λ k. is_among k (successors_of f b)) (blocks_in i.1.operands) ≡ true =
     ⊎_elim (λ none. absurd (true≢false (sym branches ∙ none))) (λ k. not-false (list_all (λ k. is_among k (successors_of f b)) (blocks_in i.1.operands)) k)
     (and_cases (is_branch_op i.1.op) (not (list_all (λ k. is_among k (successors_of f b)) (blocks_in i.1.operands))) stray) in

@@ -1,8 +1,8 @@
 -- The faults of a function, each with its line.
 -- (MIR Format Reference Manual; Generic Opcodes, "G_PHI"; LLVM's machine verifier demands the like.)
-use Rattle.std.specs.Prelude.{ℕ, ◌+◌, Bool, true, false, not, ◌&&◌, ◌||◌, ◌==◌, nat_lt, List, [], ◌∷◌, ◌++◌, Option, Some, None, option_map, option_to_list, length, map, filter, find, flat_map, if◌then◌else◌}
+use Rattle.std.specs.Prelude.{ℕ, ◌+◌, Bool, true, false, not, ◌&&◌, ◌||◌, ◌==◌, nat_lt, List, [], ◌∷◌, ◌++◌, Option, Some, None, option_map, length, map, find, flat_map, if◌then◌else◌}
 use Rattle.std.specs.List.{list_all, list_any, range_with_len}
-use Rattle.std.specs.Option.{option_map_or}
+use Rattle.std.specs.Option.{option_or, option_map_or}
 use Rattle.gi_llt.specs.Llt.{width_of}
 use Rattle.gi_mir.specs.Data.{InstrData, BlockData, FunctionData, reg_of}
 use Rattle.gi_mir.specs.Edit.{all_instrs}
@@ -12,17 +12,14 @@ use Rattle.gi_mir.specs.declared.opcode.Opcode.TheVariants as op
 use Rattle.gi_mir.specs.declared.operand.Operand.{Operand}
 use Rattle.gi_mir.specs.declared.operand.Operand.TheVariants as operand
 use Rattle.gi_meaning.specs.Runs.{is_phi, entry_of, is_among}
+use Rattle.gi_valid.specs.declared.invalid.Fault.{Fault}
 use Rattle.gi_valid.specs.declared.invalid.Invalid.{Invalid}
 use Rattle.gi_valid.specs.declared.invalid.Invalid.TheVariants.{DoubleDefinition, NotAvailable, TypeMismatch, UnknownBlock, PhiEntries, PhysicalAcross, Terminator}
 use Rattle.gi_valid.specs.Available.{successors_of, predecessors, Extent, behind, at_end, is_physical_there}
 use Rattle.gi_valid.specs.Definitions.{defines_physical, reads_physical}
 use Rattle.gi_valid.specs.Typing.{Phase, type_in, mismatch, results_in}
 
--- a fault and its line
-pub record Fault : Type 0 where
-  pub line : ℕ
-  pub what : Invalid
-
+-- a fault on a line
 abbrev pub fault_at : (line : ℕ) → Invalid → Fault
 fault_at line what = record { line = line; what = what }
 
@@ -47,9 +44,15 @@ sites_from place (block ∷ blocks) = sites_in place [] block.instrs ++ sites_fr
 abbrev pub sites : FunctionData → List Site
 sites f = sites_from 0 f.blocks
 
--- the faults of one kind, each on the line of its site
-abbrev pub told : (Site → List Invalid) → List Site → List Fault
-told faults sites = flat_map (λ site. map (fault_at site.instr.line) (faults site)) sites
+-- a fault, if there is one, in front of others
+abbrev pub with_fault : (line : ℕ) → Option Invalid → List Fault → List Fault
+with_fault line None faults = faults
+with_fault line (Some what) faults = fault_at line what ∷ faults
+
+-- what is told of sites, each on its line
+abbrev pub told : (Site → Option Invalid) → List Site → List Fault
+told fault [] = []
+told fault (site ∷ sites) = with_fault site.instr.line (fault site) (told fault sites)
 
 -- ══ A second definition of a register ══
 
@@ -80,25 +83,25 @@ is_there f extents site (operand.ImplicitUse n) = is_physical_there f site.block
 is_there f extents site _ = true
 
 -- an entry of a phi is used at the end of its block, where there is that block
-abbrev pub missing_entry : FunctionData → (extents : ℕ → Extent) → Option (ℕ × ℕ) → List Invalid
-missing_entry f extents None = []
+abbrev pub missing_entry : FunctionData → (extents : ℕ → Extent) → Option (ℕ × ℕ) → Option Invalid
+missing_entry f extents None = None
 missing_entry f extents (Some entry) =
-    if not (nat_lt entry.1 (length f.blocks)) || at_end f entry.0 (extents entry.0) entry.1 then [] else NotAvailable (operand.Use (reg_of entry.0)) ∷ []
+    if not (nat_lt entry.1 (length f.blocks)) || at_end f entry.0 (extents entry.0) entry.1 then None else Some (NotAvailable (operand.Use (reg_of entry.0)))
 
-abbrev pub missing_entries : FunctionData → (extents : ℕ → Extent) → List Operand → List Invalid
-missing_entries f extents [] = []
-missing_entries f extents (o ∷ os) = missing_entry f extents (entry_of (o ∷ os)) ++ missing_entries f extents os
+abbrev pub missing_entries : FunctionData → (extents : ℕ → Extent) → List Operand → Option Invalid
+missing_entries f extents [] = None
+missing_entries f extents (o ∷ os) = option_or (missing_entry f extents (entry_of (o ∷ os))) (missing_entries f extents os)
 
-abbrev pub missing_uses : FunctionData → (extents : ℕ → Extent) → Site → List Invalid
-missing_uses f extents site = map NotAvailable (filter (λ o. not (is_there f extents site o)) site.instr.operands)
+abbrev pub missing_use : FunctionData → (extents : ℕ → Extent) → Site → Option Invalid
+missing_use f extents site = option_map NotAvailable (find (λ o. not (is_there f extents site o)) site.instr.operands)
 
-abbrev pub not_available : FunctionData → (extents : ℕ → Extent) → Site → List Invalid
-not_available f extents site = if is_phi site.instr then missing_entries f extents site.instr.operands else missing_uses f extents site
+abbrev pub not_available : FunctionData → (extents : ℕ → Extent) → Site → Option Invalid
+not_available f extents site = if is_phi site.instr then missing_entries f extents site.instr.operands else missing_use f extents site
 
 -- ══ Types that don't meet the row ══
 
-abbrev pub type_mismatches : (x : ℕ) → Phase → FunctionData → Site → List Invalid
-type_mismatches x phase f site = option_to_list (option_map (λ r. TypeMismatch (reg_of r)) (mismatch x phase f site.instr))
+abbrev pub type_mismatch : (x : ℕ) → Phase → FunctionData → Site → Option Invalid
+type_mismatch x phase f site = option_map (λ r. TypeMismatch (reg_of r)) (mismatch x phase f site.instr)
 
 -- ══ A block that isn't there ══
 
@@ -107,11 +110,11 @@ blocks_in [] = []
 blocks_in (operand.Block b ∷ os) = b ∷ blocks_in os
 blocks_in (_ ∷ os) = blocks_in os
 
-abbrev pub unknown_among : FunctionData → List ℕ → List Invalid
-unknown_among f bs = map UnknownBlock (filter (λ b. not (nat_lt b (length f.blocks))) bs)
+abbrev pub unknown_among : FunctionData → List ℕ → Option Invalid
+unknown_among f bs = option_map UnknownBlock (find (λ b. not (nat_lt b (length f.blocks))) bs)
 
-abbrev pub unknown_blocks : FunctionData → Site → List Invalid
-unknown_blocks f site = unknown_among f (blocks_in site.instr.operands)
+abbrev pub unknown_block : FunctionData → Site → Option Invalid
+unknown_block f site = unknown_among f (blocks_in site.instr.operands)
 
 -- the line of the last instruction, and this one where there is none
 abbrev pub last_line : (line : ℕ) → List (ℕ × InstrData) → ℕ
@@ -122,7 +125,7 @@ last_line line (i ∷ is) = last_line i.1.line is
 abbrev pub unknown_successors : FunctionData → (line : ℕ) → List BlockData → List Fault
 unknown_successors f line [] = []
 unknown_successors f line (block ∷ blocks) =
-    map (fault_at (last_line line block.instrs)) (unknown_among f block.successors) ++ unknown_successors f (last_line line block.instrs) blocks
+    with_fault (last_line line block.instrs) (unknown_among f block.successors) (unknown_successors f (last_line line block.instrs) blocks)
 
 -- ══ A phi that stands wrong, or whose entries aren't one for each predecessor ══
 
@@ -137,10 +140,10 @@ are_entries predecessors entries = list_all (λ b. count_of b entries == 1) pred
 abbrev pub stands_first : Site → Bool
 stands_first site = not (site.block == 0) && list_all (λ p. is_phi p.1) site.before
 
-abbrev pub phi_entries : FunctionData → Site → List Invalid
+abbrev pub phi_entries : FunctionData → Site → Option Invalid
 phi_entries f site =
     if is_phi site.instr && not (stands_first site && are_entries (predecessors f site.block) (blocks_in site.instr.operands))
-    then PhiEntries ∷ [] else []
+    then Some PhiEntries else None
 
 -- ══ A physical register that is used behind what may overwrite it ══
 
@@ -175,9 +178,9 @@ goes_across f site n =
     && not (defines_physical n (0, site.instr)) && is_used_first n site.after
 
 -- the lowest such register
-abbrev pub physical_across : (x : ℕ) → Phase → FunctionData → Site → List Invalid
+abbrev pub physical_across : (x : ℕ) → Phase → FunctionData → Site → Option Invalid
 physical_across x phase f site =
-    if may_call x phase f site.instr then option_to_list (option_map PhysicalAcross (find (goes_across f site) (range_with_len 0 32))) else []
+    if may_call x phase f site.instr then option_map PhysicalAcross (find (goes_across f site) (range_with_len 0 32)) else None
 
 -- ══ Terminators ══
 
@@ -198,20 +201,22 @@ is_first_late site = is_late site.before site.instr && not (has_late [] site.bef
 abbrev pub is_astray : FunctionData → Site → Bool
 is_astray f site = is_branch_op site.instr.op && not (list_all (λ b. is_among b (successors_of f site.block)) (blocks_in site.instr.operands))
 
-abbrev pub terminators : FunctionData → Site → List Invalid
-terminators f site = if is_first_late site || is_astray f site then Terminator ∷ [] else []
+abbrev pub terminator : FunctionData → Site → Option Invalid
+terminator f site = if is_first_late site || is_astray f site then Some Terminator else None
 
 -- ══ All ══
 
--- The faults of a function, by the sets in which its registers are available, in the order in which those of one line
--- are told.
+-- what is told first of a site, where its registers are available
+abbrev pub others_in : (x : ℕ) → Phase → FunctionData → Site → Option Invalid
+others_in x phase f site =
+    option_or (type_mismatch x phase f site)
+    (option_or (unknown_block f site) (option_or (phi_entries f site) (option_or (physical_across x phase f site) (terminator f site))))
+
+-- what is told first of a site
+abbrev pub fault_in : (x : ℕ) → Phase → FunctionData → (extents : ℕ → Extent) → Site → Option Invalid
+fault_in x phase f extents site = option_or (not_available f extents site) (others_in x phase f site)
+
+-- The faults of a function, by the sets in which its registers are available: of definitions, of sites and of lists of
+-- successors, each in layout order.
 abbrev pub faults : (x : ℕ) → Phase → FunctionData → (extents : ℕ → Extent) → List Fault
-faults x phase f extents =
-    double_definitions f
-    ++ told (not_available f extents) (sites f)
-    ++ told (type_mismatches x phase f) (sites f)
-    ++ told (unknown_blocks f) (sites f)
-    ++ unknown_successors f 1 f.blocks
-    ++ told (phi_entries f) (sites f)
-    ++ told (physical_across x phase f) (sites f)
-    ++ told (terminators f) (sites f)
+faults x phase f extents = double_definitions f ++ told (fault_in x phase f extents) (sites f) ++ unknown_successors f 1 f.blocks

@@ -20,3 +20,10 @@ pub enum Invalid {
     /// An instruction stands behind the terminators, or a branch goes to no successor.
     Terminator,
 }
+
+/// A fault and the line that it stands on.
+#[derive(Clone, Copy, Debug, PartialEq, Eq)]
+pub struct Fault {
+    pub line: u32,
+    pub what: Invalid,
+}

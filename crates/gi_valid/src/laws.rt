@@ -12,7 +12,7 @@ ghost use Rattle.gi_refine.specs.Reached.{IsReached};
 ghost use Rattle.gi_valid.specs.Available.{IsAvailable};
 ghost use Rattle.gi_valid.specs.Definitions.{definition};
 ghost use Rattle.gi_valid.specs.Facts.{HoldsBelow, HoldsDefinition, is_steady};
-ghost use Rattle.gi_valid.specs.Faults.{Fault};
+ghost use Rattle.gi_valid.specs.declared.invalid.Fault.{Fault};
 ghost use Rattle.gi_valid.specs.Typing.{Phase};
 ghost use Rattle.gi_valid.specs.Valid.{IsInvalid, IsValid};
 
