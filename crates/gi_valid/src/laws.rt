@@ -1,6 +1,6 @@
 //! The laws of valid functions.
 
-ghost use Rattle.std.specs.Prelude.{◌≡◌, ◌++◌, ◌∷◌, ℕ, List, Some, true, slice_get};
+ghost use Rattle.std.specs.Prelude.{◌≡◌, ◌++◌, ◌∷◌, ◌⊎◌, ℕ, List, Some, true, slice_get};
 ghost use Rattle.gi_llt.specs.Llt.{width_of};
 ghost use Rattle.gi_mir.specs.Data.{BlockData, FunctionData, InstrData};
 ghost use Rattle.gi_mir.specs.Edit.{uses};
@@ -42,4 +42,9 @@ pub fn uses_are_available()
 /// A valid function isn't invalid by any fault, and so what is told of a function is one thing or the other.
 pub fn valid_is_not_invalid()
     ensures { (x : ℕ) (phase : Phase) (f : FunctionData) (fault : Fault) → IsValid x phase f → IsInvalid x phase f fault → ⊥ }
+{}
+
+/// Each function is valid or invalid by a fault: each of its registers has greatest sets.
+pub fn each_function_is_one()
+    ensures { (x : ℕ) (phase : Phase) (f : FunctionData) → IsValid x phase f ⊎ ((fault : Fault) × IsInvalid x phase f fault) }
 {}
