@@ -4,9 +4,9 @@
 
 ghost use Rattle.std.specs.Prelude.{◌≡◌, ◌<◌, ◌≤◌, IfOk, vec_len};
 
+use gi_mir::module::Module;
 use gi_mir_print::print;
 use gi_mir_read::read_mir;
-use gi_mir::module::Module;
 use gi_text::{LineError, TextError, tokens};
 use std::alloc::{AllocError, Global};
 use std::io;
@@ -51,7 +51,8 @@ fn cut(alloc: Global, size: usize) -> Result<String, AllocError>
 }
 
 /// What stands before the instructions of a text.
-const HEAD: &str = "---\nname: f\nbody: |\n  bb.0:\n    liveins: $x10\n\n    %0:_(s32) = COPY $x10\n";
+const HEAD: &str =
+    "---\nname: f\nbody: |\n  bb.0:\n    liveins: $x10\n\n    %0:_(s32) = COPY $x10\n";
 
 /// A text of about so many bytes: a function with one block of sums, each of the two sums before it.
 fn text_of(alloc: Global, size: usize) -> Result<String, AllocError> {
