@@ -57,13 +57,14 @@ const HEAD: &str =
 /// A text of about so many bytes: a function with one block of sums, each of the two sums before it.
 fn text_of(alloc: Global, size: usize) -> Result<String, AllocError> {
     let mut text = String::from_str(alloc, HEAD)?;
-    let mut number: u32 = 1;
-    while text.len() < size && number < 4_194_303 {
-        let last = number - 1;
+    for last in 0..4_194_303_u32 {
+        if size <= text.len() {
+            break;
+        }
+        let number = last + 1;
         let earlier = last / 2;
         let line = format!(in alloc; "    %{number}:_(s32) = G_ADD %{last}, %{earlier}\n")?;
         text.push_str(line.as_str())?;
-        number += 1;
     }
     Ok(text)
 }
