@@ -112,7 +112,7 @@ fn work(alloc: Global, request: &str) -> Result<String, AllocError> {
     match kind {
         "tokens" => cut(alloc, size.min(GREATEST)),
         "read" => read(alloc, size.min(GREATEST), 0),
-        "print" => read(alloc, size.min(GREATEST), 4),
+        "print" => read(alloc, size.min(GREATEST), 32),
         _ => format!(in alloc; "no work in {request:?}"),
     }
 }
