@@ -1,0 +1,2 @@
+pub mod OnValues
+pub mod Sound
