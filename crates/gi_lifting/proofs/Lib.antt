@@ -1,2 +1,3 @@
+pub mod Powers
 pub mod Rows
 pub mod Rules
