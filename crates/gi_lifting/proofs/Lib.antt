@@ -1,3 +1,4 @@
+pub mod Casts
 pub mod Powers
 pub mod Rows
 pub mod Rules

@@ -1,8 +1,8 @@
 -- Powers of two, and the numbers that constants hold.
-use Rattle.std.proofs.Common.{◌≡◌, ◌≢◌, ◌⊎◌, ⊎_elim, ℕ, zero, suc, ℤ, pos, negsuc, neg_ℤ, ◌-ℤ◌, ◌+◌, ◌-◌, ◌*◌, ◌/◌, ◌%◌, ◌^◌, ◌<◌, ◌≤◌, min, Bool, true, false, ◌&&◌, refl, sym, subst, ap, ◌∙◌, arith, lit<, eqb-true}
-use Rattle.std.specs.Int.{bit_at, is_power_of_two, trailing_zeros, w128}
+use Rattle.std.proofs.Common.{◌≡◌, ◌⊎◌, ⊎_elim, ℕ, zero, suc, pos, negsuc, neg_ℤ, ◌-ℤ◌, ◌+◌, ◌-◌, ◌*◌, ◌/◌, ◌%◌, ◌^◌, ◌<◌, ◌≤◌, true, refl, sym, ap, ◌∙◌, arith, lit<, eqb-true}
+use Rattle.std.specs.Int.{is_power_of_two, trailing_zeros, w128}
 use Rattle.std.specs.Int.RustNames.{count_ones}
-use Rattle.std.proofs.Math.Nat.{div-add-mod', mod-eq_of_lt, pow-le-pow_right}
+use Rattle.std.proofs.Math.Nat.{div-add-mod', mod-eq_of_lt}
 use Rattle.std.proofs.lemmas.Bool.Decides.{Decides-int_eq, nat_tests}
 use Rattle.std.proofs.lemmas.Int.{ints}
 use Rattle.gi_llt.specs.Signs.{negated}
@@ -58,7 +58,6 @@ bits-back n value some fits = ⊎_elim
     negated : (size : ℕ) → 0 < size → size ≤ 2 ^ n → unsigned n (neg_ℤ (pos size)) ≡ 2 ^ n - size
     negated zero some within = absurd (omega arith)
     negated (suc m) some within = let small : m % 2 ^ n ≡ m = mod-eq_of_lt (omega arith) in omega (arith, small)
-
 
 pub zero-is : (n value : ℕ) → 1 ≤ n → value < 2 ^ n → int_eq (signed n value) (pos 0) ≡ true → value ≡ 0
 zero-is n value some fits h =

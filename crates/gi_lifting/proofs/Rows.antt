@@ -1,11 +1,11 @@
 -- What it says that types meet an opcode's row.
-use Rattle.std.proofs.Common.{◌≡◌, ℕ, ◌*◌, ◌<◌, ◌≤◌, Bool, true, false, ◌&&◌, List, [], ◌∷◌, refl, sym, ap, ◌∙◌, eqb-true, arith}
+use Rattle.std.proofs.Common.{◌≡◌, ℕ, nat_lt, ◌*◌, ◌<◌, ◌≤◌, Bool, true, false, ◌&&◌, [], ◌∷◌, refl, sym, ap, eqb-true, arith}
 use Rattle.std.proofs.lemmas.Bool.Decides.{nat_tests}
 use Rattle.gi_llt.specs.declared.Llt.{Llt}
 use Rattle.gi_llt.specs.declared.Llt.TheVariants.{Scalar, Pointer}
 use Rattle.gi_mir.specs.Accepted.{are_typed}
 use Rattle.gi_mir.specs.Types.{is_scalar, same_type}
-use Rattle.gi_mir.specs.Typings.{two_alike}
+use Rattle.gi_mir.specs.Typings.{truncation, two_alike}
 use Rattle.gi_mir.specs.declared.typing.Class.TheVariants as class
 
 pub first_of : (a b : Bool) → (a && b) ≡ true → a ≡ true
@@ -54,3 +54,19 @@ two_scalars x (Scalar n) b c h =
       second = same_types (Scalar n) b second;
       third = same_types (Scalar n) c third;
     }
+
+-- two scalar types
+pub record AreScalars (a b : Llt) : Type 0 where
+  pub narrow : ℕ
+  pub wide : ℕ
+  pub first : a ≡ Scalar narrow
+  pub second : b ≡ Scalar wide
+
+none : {X : Type 0} (s d : Bool) → (((s && true) && false) && d) ≡ true → X
+none true d h = cc
+none false d h = cc
+
+pub cut_scalars : (x : ℕ) (a b : Llt) → are_typed x truncation (a ∷ []) (b ∷ []) ≡ true → AreScalars a b
+cut_scalars x Pointer b h = cc
+cut_scalars x (Scalar n) Pointer h = none (is_scalar x (Scalar n)) (nat_lt n 0) h
+cut_scalars x (Scalar n) (Scalar m) h = record { narrow = n; wide = m; first = refl; second = refl }

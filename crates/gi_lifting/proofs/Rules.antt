@@ -1,9 +1,11 @@
 -- The examples are sound.
-use Rattle.std.proofs.Common.{◌≡◌, ◌⊎◌, ⊎_elim, lit<, false, ℕ, ℤ, pos, min, ◌+◌, ◌-◌, ◌%◌, ◌^◌, ◌<◌, ◌≤◌, ◌*◌, Bool, true, ◌&&◌, List, [], ◌∷◌, Some, inl, refl, sym, subst, ap, ◌∙◌, arith}
+use Rattle.std.proofs.Common.{◌≡◌, ◌⊎◌, ⊎_elim, lit<, false, ℕ, ℤ, pos, min, ◌+◌, ◌-◌, ◌%◌, ◌^◌, ◌<◌, ◌≤◌, ◌*◌, Bool, true, ◌&&◌, [], ◌∷◌, Some, inl, refl, sym, subst, ap, ◌∙◌, arith}
 use Rattle.std.proofs.Math.Nat.{mod-eq_of_lt, pow-le-pow_right}
+use Rattle.std.proofs.lemmas.Option.{same_Some}
 use Rattle.std.specs.Int.{is_power_of_two, trailing_zeros, w128}
-use Rattle.std.specs.Prelude.{nat_le}
-use Rattle.std.proofs.lemmas.Nat.{mod_below, pow_pos}
+use Rattle.std.specs.Prelude.{nat_le, ◌||◌, ◌+ℤ◌, neg_ℤ}
+use Rattle.std.proofs.lemmas.Nat.{mod_below, pow-add, pow_pos}
+use Rattle.std.proofs.lemmas.Int.{ints}
 use Rattle.gi_llt.specs.Signs.{negated}
 use Rattle.gi_mir.specs.Accepted.{are_typed}
 use Rattle.gi_mir.specs.Data.{no_flags}
@@ -12,22 +14,23 @@ use Rattle.gi_mir.specs.declared.opcode.Opcode.TheVariants as op
 use Rattle.gi_mir.specs.declared.typing.Class.TheVariants as class
 use Rattle.gi_pattern.specs.Binding.{bits_of, value_at}
 use Rattle.gi_pattern.specs.Fitting.{value_passes}
-use Rattle.std.specs.List.{list_all}
 use Rattle.std.specs.Ordering.{int_eq}
 use Rattle.gi_llt.specs.Bits.{signed, unsigned, wrapped}
 use Rattle.gi_llt.specs.Llt.{width_of}
 use Rattle.gi_llt.specs.declared.Llt.{Llt}
-use Rattle.gi_llt.specs.declared.Llt.TheVariants.{Scalar, Pointer}
+use Rattle.gi_llt.specs.declared.Llt.TheVariants.{Scalar}
 use Rattle.gi_mir.specs.declared.operand.Flags.{Flags}
-use Rattle.gi_meaning.specs.Generic.{difference, difference_of, product, shifted_left}
-use Rattle.gi_meaning.specs.Given.{one}
+use Rattle.gi_meaning.specs.Generic.{leaves_signed, difference, difference_of, product, shifted_left, sum}
+use Rattle.gi_meaning.specs.Given.{one, unless_broken}
+use Rattle.gi_meaning.proofs.Numbers.{leaves_signed-neg, leaves_signed-pos}
+use Rattle.std.proofs.lemmas.Bool.Decides.{nat_tests}
 use Rattle.gi_meaning.specs.State.{World}
 use Rattle.gi_meaning.specs.Act.{Answers, Results}
-use Rattle.gi_refine.specs.Values.{Defines, Environment, Fact, IsCertain, IsSound, Makes, MayMake, Rule}
+use Rattle.gi_refine.specs.Values.{Correspond, Defines, Environment, Fact, IsCertain, IsSound, Makes, MayMake, Rule}
 use Rattle.gi_refine.specs.TrialRules.{add_zero, constant, on_two, remainder_to_mask, subtract_self}
 use Rattle.gi_refine.proofs.RuleSteps.{answers_given, constant_known, entry_value, exactly, unless_given}
 use Rattle.gi_refine.proofs.TrialRulesMore.{remainder_to_mask_sound}
-use Rattle.gi_refine.proofs.TrialRules.{add_zero_sound, subtract_self_sound}
+use Rattle.gi_refine.proofs.TrialRules.{add_zero_sound, subtract_self_sound, sum_with_zero as sum_with_nothing}
 use Rattle.gi_pattern.specs.Examples.{difference_of_same, difference_with_constant, product_by_power, remainder_by_power, sum_with_zero}
 use Rattle.gi_pattern.specs.declared.binding.Binding.{Binding}
 use Rattle.gi_lifting.specs.OnValues.{Types, values_of}
@@ -92,6 +95,59 @@ sum_with_zero_sound = record {
   by = λ x w types b flags known suits.
       let is = sum_with_zero_known x types b suits in
       subst (λ (rule : Rule). IsSound x w rule) (sym (sum_with_zero_is x types b flags is.bits is.first is.second is.third is.read is.zero)) (add_zero_flagged x w (flags 0) (flags 1) is.bits);
+}
+
+-- the sum keeps its promises
+no_promise_broken : (flags : Flags) (n a : ℕ) → 1 ≤ n → a < 2 ^ n → (flags.nuw && nat_le (2 ^ n) (a + 0) || flags.nsw && leaves_signed n (signed n a +ℤ signed n 0)) ≡ false
+no_promise_broken flags n a some fits = both flags.nuw flags.nsw (nat_le (2 ^ n) (a + 0)) (leaves_signed n (signed n a +ℤ signed n 0)) (grind arith) stays
+  where
+    both : (p q r s : Bool) → r ≡ false → s ≡ false → (p && r || q && s) ≡ false
+    both true true r s e g = rw (e, g) refl
+    both true false r s e g = rw e refl
+    both false true r s e g = g
+    both false false r s e g = refl
+
+    split : (k m : ℕ) → (k < m) ⊎ (m ≤ k)
+    split k m = grind arith
+
+    nothing : (z : ℤ) → z +ℤ signed n 0 ≡ z
+    nothing z =
+        let power : 0 < 2 ^ (n - 1) = pow_pos (n - 1) in
+        let zero : signed n 0 ≡ pos 0 = grind (arith, nat_tests) in
+        ap (λ k. z +ℤ k) zero ∙ grind (arith, ints)
+
+    stays : leaves_signed n (signed n a +ℤ signed n 0) ≡ false
+    stays = ap (leaves_signed n) (nothing (signed n a)) ∙ ⊎_elim
+        (λ (below : a < 2 ^ (n - 1)).
+        let is : signed n a ≡ pos a = grind (arith, nat_tests) in
+        ap (leaves_signed n) is ∙ leaves_signed-pos n a ∙ grind arith)
+        (λ (above : 2 ^ (n - 1) ≤ a).
+        let is : signed n a ≡ neg_ℤ (pos (2 ^ n - a)) = grind (arith, nat_tests) in
+        let back : n ≡ (n - 1) + 1 = omega arith in
+        let twice : 2 ^ n ≡ 2 ^ (n - 1) * 2 ^ 1 = ap (λ k. 2 ^ k) back ∙ pow-add 2 (n - 1) 1 in
+        let small : 2 ^ n - a ≤ 2 ^ (n - 1) = omega arith in
+        ap (leaves_signed n) is ∙ leaves_signed-neg n (2 ^ n - a) ∙ grind (arith, nat_tests))
+        (split a (2 ^ (n - 1)))
+
+-- the sum has the value of the summand
+add_zero_certain_flagged : (x : ℕ) (w : World) (flags more : Flags) (n : ℕ) → 1 ≤ n → IsCertain x w (record (add_zero flags n) { facts = flagged more n 0 1 ∷ [] })
+add_zero_certain_flagged x w flags more n some = record {
+  by = λ outside a a_fits b b_fits facts old makes.
+      let b_is : b ≡ 0 = entry_value n b n 0 (constant_known x w outside ((n, a) ∷ (n, b) ∷ []) n 0 1 facts.0) in
+      let given : sum flags n a b ≡ one (wrapped n (a + 0)) =
+      ap (sum flags n a) b_is ∙ ap (λ t. unless_broken t n (wrapped n (a + 0))) (no_promise_broken flags n a some a_fits) in
+      let answers : Answers (one (wrapped n (a + 0))) outside makes.0 = subst (λ g. Answers g outside makes.0) given makes.1 in
+      let is : Some old ≡ Some ((n, a) ∷ (n, b) ∷ (n, wrapped n (a + 0)) ∷ []) =
+      exactly (wrapped n (a + 0) ∷ []) outside makes.0 ((n, a) ∷ (n, b) ∷ []) (n ∷ []) (Makes x w outside []) (Some old) answers makes.2 in
+      let same : a ≡ wrapped n (a + 0) = sym (sum_with_nothing n a 0 a_fits refl) in
+      subst (λ env. Correspond ((2, 0) ∷ []) env env) (same_Some _ old (sym is)) (ap (λ k. Some (n, k)) same, tt);
+}
+
+pub sum_with_zero_certain : IsCertainRule sum_with_zero
+sum_with_zero_certain = record {
+  by = λ x w types b flags known suits.
+      let is = sum_with_zero_known x types b suits in
+      subst (λ (rule : Rule). IsCertain x w rule) (sym (sum_with_zero_is x types b flags is.bits is.first is.second is.third is.read is.zero)) (add_zero_certain_flagged x w (flags 0) (flags 1) is.bits is.read.some);
 }
 
 -- ══ x - c ══

@@ -1,8 +1,7 @@
 -- A rule as data, seen on values alone: its instructions as operations on an environment, where x is the width of a machine
 -- register in bits, the registers at the rule's places have types, and the binding tells its numbers and its predicate.
-use Rattle.std.specs.Prelude.{ℕ, ℤ, pos, min, ◌+◌, Bool, true, false, ◌||◌, ◌==◌, List, [], ◌∷◌, ◌++◌, Option, Some, None, find, flat_map, length, map, option_map, if◌then◌else◌}
+use Rattle.std.specs.Prelude.{ℕ, pos, min, ◌+◌, Bool, ◌||◌, ◌==◌, List, [], ◌∷◌, ◌++◌, Option, Some, None, flat_map, length, map, if◌then◌else◌}
 use Rattle.std.specs.List.{list_any}
-use Rattle.std.specs.Option.{option_map_or}
 use Rattle.gi_llt.specs.Bits.{unsigned}
 use Rattle.gi_llt.specs.Llt.{width_of}
 use Rattle.gi_llt.specs.declared.Llt.{Llt}
