@@ -1,4 +1,5 @@
 pub mod Casts
+pub mod Positions
 pub mod Powers
 pub mod Rows
 pub mod Rules

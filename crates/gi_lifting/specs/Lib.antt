@@ -1,2 +1,3 @@
 pub mod OnValues
+pub mod Placed
 pub mod Sound
