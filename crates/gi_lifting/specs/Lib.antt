@@ -1,3 +1,4 @@
+pub mod Fits
 pub mod OnValues
 pub mod Placed
 pub mod Sound
