@@ -22,6 +22,7 @@ use Rattle.gi_pattern.specs.declared.rule.Slot.TheVariants as slot
 use Rattle.gi_pattern.specs.declared.rule.Test.{Test}
 use Rattle.gi_lifting.specs.Fits.{AreBoundTo, Extends, IsBoundTo}
 use Rattle.gi_lifting.proofs.Positions.{get-set_other}
+use Rattle.gi_lifting.proofs.Rows.{first_of, rest_of}
 
 pub one-op : (a b : Opcode) → same_op a b ≡ true → a ≡ b
 one-op a b h = same_true the_type tt a b h
@@ -164,3 +165,22 @@ found-extends f tests (m ∷ ms) (Some i) b c h = by (either _ _ c h) (λ d g. f
         let (d, bound, then) = and-then (λ d. found f tests ms (definition_at f d ms) d) (bound_exchanged m i b) c g in
         let (same, slots) = where-true (same_op i.op m.op && is_commutative m.op) (slots_bound m.slots (exchanged i.operands) b) d bound in
         Extends-twice b d c (slots-bind m.slots (exchanged i.operands) b d slots).0 (more d then)
+
+-- what a binding says of the instruction at which the rule fits: its operands are bound as they are written, or the other
+-- way round
+pub root-fits : (f : FunctionData) (tests : List Test) (m : MatchData) (ms : List MatchData) (i : InstrData) (b c : Binding) → found f tests (m ∷ ms) (Some i) b ≡ Some c
+    → (i.op ≡ m.op) × (AreBoundTo c m.slots i.operands ⊎ ((is_commutative m.op ≡ true) × AreBoundTo c m.slots (exchanged i.operands)))
+root-fits f tests m ms i b c h = by (either _ _ c h)
+  where
+    by : (option_and_then (λ d. found f tests ms (definition_at f d ms) d) (bound_as_written m i b) ≡ Some c) ⊎ (option_and_then (λ d. found f tests ms (definition_at f d ms) d) (bound_exchanged m i b) ≡ Some c)
+        → (i.op ≡ m.op) × (AreBoundTo c m.slots i.operands ⊎ ((is_commutative m.op ≡ true) × AreBoundTo c m.slots (exchanged i.operands)))
+    by (inl g) =
+        let (d, bound, then) = and-then (λ d. found f tests ms (definition_at f d ms) d) (bound_as_written m i b) c g in
+        let (same, slots) = where-true (same_op i.op m.op) (slots_bound m.slots i.operands b) d bound in
+        let more = found-extends f tests ms (definition_at f d ms) d c then in
+        (one-op i.op m.op same, inl (all-stay m.slots i.operands d c more (slots-bind m.slots i.operands b d slots).1))
+    by (inr g) =
+        let (d, bound, then) = and-then (λ d. found f tests ms (definition_at f d ms) d) (bound_exchanged m i b) c g in
+        let (same, slots) = where-true (same_op i.op m.op && is_commutative m.op) (slots_bound m.slots (exchanged i.operands) b) d bound in
+        let more = found-extends f tests ms (definition_at f d ms) d c then in
+        (one-op i.op m.op (first_of (same_op i.op m.op) (is_commutative m.op) same), inr (rest_of (same_op i.op m.op) (is_commutative m.op) same, all-stay m.slots (exchanged i.operands) d c more (slots-bind m.slots (exchanged i.operands) b d slots).1))
