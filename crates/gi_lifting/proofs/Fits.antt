@@ -1,8 +1,7 @@
 -- What a binding says of the root.
-use Rattle.std.proofs.Common.{◌≡◌, ◌≢◌, ◌⊎◌, inl, inr, ⊎_elim, ℕ, zero, suc, Bool, true, false, cond, ◌&&◌, ◌==◌, List, [], ◌∷◌, Option, Some, None, set, refl, sym, subst, ap, ◌∙◌, eqb-true}
+use Rattle.std.proofs.Common.{◌≡◌, ◌≢◌, ◌⊎◌, inl, inr, ℕ, zero, suc, Bool, true, false, cond, ◌&&◌, ◌==◌, List, [], ◌∷◌, Option, Some, None, set, refl, sym, subst, ap, ◌∙◌, eqb-true}
 use Rattle.std.specs.Prelude.{slice_get}
 use Rattle.std.proofs.lemmas.Bool.{cases_eq}
-use Rattle.std.specs.List.{list_all}
 use Rattle.std.specs.Option.{option_and_then, option_or}
 use denote.Enum.Bare.{same_true}
 use Rattle.gi_mir.specs.contracts.opcode.Opcode.{the_type}
@@ -55,8 +54,7 @@ register-binds b c place reg h = by (slice_get b.regs place) refl h
         (subst (λ (d : Binding). Extends b d) (sym is) (Extends-itself b), ap (λ (d : Binding). register_at d place) is ∙ ap (option_and_then (λ (f : Option Reg). f)) e ∙ ap Some one)
     by (Some None) e g =
         let put : Binding = record b { regs = set b.regs place (Some reg) } in
-        let is : c ≡ put = cc in
-        (
+        let is : c ≡ put = cc in (
           subst (λ (d : Binding). Extends b d) (sym is) (record { stays = λ q r k. stay q r k (cases_eq place q) }),
           ap (λ (d : Binding). register_at d place) is ∙ ap (option_and_then (λ (f : Option Reg). f)) (get-set_same b.regs place (Some reg) None e),
         )

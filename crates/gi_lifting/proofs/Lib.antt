@@ -6,3 +6,4 @@ pub mod Roots
 pub mod Rows
 pub mod Rules
 pub mod Shown
+pub mod Used

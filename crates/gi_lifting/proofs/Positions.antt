@@ -1,10 +1,7 @@
 -- Where the values stand that stand for places.
-use Rattle.std.proofs.Common.{◌≡◌, ◌≢◌, ◌⊎◌, inl, inr, ⊎_elim, ℕ, zero, suc, ◌+◌, Bool, true, false, cond, ◌||◌, ◌==◌, List, [], ◌∷◌, ◌++◌, Option, Some, None, length, set, refl, sym, subst, ap, ◌∙◌, append_assoc, arith, length-append, eqb-true, eq-eqb, true≢false, is_some, map}
+use Rattle.std.proofs.Common.{◌≡◌, ◌≢◌, ◌⊎◌, inl, inr, ℕ, zero, suc, ◌+◌, Bool, true, false, cond, ◌||◌, ◌==◌, List, [], ◌∷◌, ◌++◌, Option, Some, None, length, set, refl, sym, subst, ap, ◌∙◌, append_assoc, arith, length-append, eqb-true, eq-eqb, true≢false, is_some, map}
 use Rattle.std.specs.Prelude.{slice_get}
-use Rattle.std.specs.List.{list_any}
 use Rattle.std.specs.Option.{option_and_then, option_map_or}
-use Rattle.std.proofs.lemmas.Bool.{eqb-false}
-use Rattle.std.proofs.lemmas.List.Folds.{list_any-append}
 use Rattle.gi_mir.specs.Data.{reg_of}
 use Rattle.gi_mir.specs.declared.operand.Reg.{Reg}
 use Rattle.gi_pattern.specs.Binding.{register_at}
@@ -12,8 +9,8 @@ use Rattle.gi_pattern.specs.Making.{named, put_at, register_or}
 use Rattle.gi_pattern.specs.declared.binding.Binding.{Binding}
 use Rattle.gi_pattern.specs.declared.rule.MakeSlot.{MakeSlot}
 use Rattle.gi_pattern.specs.declared.rule.MakeSlot.TheVariants as make
-use Rattle.gi_lifting.specs.OnValues.{Names, defined_by, position, position_from}
-use Rattle.gi_lifting.specs.Placed.{defined_registers, is_named, is_place}
+use Rattle.gi_lifting.specs.OnValues.{Names, defined_by, position_from}
+use Rattle.gi_lifting.specs.Placed.{defined_registers, is_named}
 
 -- ---- lists
 

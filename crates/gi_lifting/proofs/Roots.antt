@@ -1,11 +1,10 @@
 -- The root of a rule shows its operation on registers.
-use Rattle.std.proofs.Common.{◌≡◌, ◌⊎◌, inl, inr, ℕ, zero, suc, ◌+◌, Bool, true, false, cond, ◌&&◌, ◌||◌, ◌==◌, List, [], ◌∷◌, ◌++◌, Option, Some, None, length, map, refl, sym, subst, ap, ap₂, ◌∙◌, append_assoc, arith, length-append, eqb-true}
+use Rattle.std.proofs.Common.{◌≡◌, ◌⊎◌, inl, inr, ℕ, ◌+◌, Bool, true, false, cond, ◌||◌, ◌==◌, List, [], ◌∷◌, ◌++◌, Option, Some, length, map, refl, sym, subst, ap, ◌∙◌, append_assoc, arith, length-append, eqb-true}
 use Rattle.std.specs.Prelude.{flat_map, slice_get}
-use Rattle.std.specs.List.{list_any}
 use Rattle.std.specs.Option.{option_map_or}
 use Rattle.gi_llt.specs.Llt.{width_of}
 use Rattle.gi_llt.specs.declared.Llt.TheVariants.{Scalar}
-use Rattle.gi_mir.specs.Data.{InstrData, FunctionData, reg_of}
+use Rattle.gi_mir.specs.Data.{FunctionData, reg_of}
 use Rattle.gi_mir.specs.Registers.{kind_of}
 use Rattle.gi_mir.specs.declared.opcode.Opcode.{Opcode}
 use Rattle.gi_mir.specs.declared.operand.Kind.{Kind}
@@ -22,9 +21,9 @@ use Rattle.gi_pattern.specs.Making.{register_or}
 use Rattle.gi_pattern.specs.declared.binding.Binding.{Binding}
 use Rattle.gi_pattern.specs.declared.rule.Slot.{Slot}
 use Rattle.gi_pattern.specs.declared.rule.Slot.TheVariants as slot
-use Rattle.gi_lifting.specs.Fits.{AreBoundTo, IsBoundTo, is_plain, reads_alone}
-use Rattle.gi_lifting.specs.OnValues.{Names, position, position_from, results_of, sources_of, taken_for, width_at}
-use Rattle.gi_lifting.specs.Placed.{AreNamed, is_named, is_place, type_or_word, types_in}
+use Rattle.gi_lifting.specs.Fits.{AreBoundTo, is_plain, reads_alone, uses_named}
+use Rattle.gi_lifting.specs.OnValues.{Names, position_from, results_of, taken_for, width_at}
+use Rattle.gi_lifting.specs.Placed.{AreNamed, is_named, type_or_word, types_in}
 use Rattle.gi_lifting.proofs.Positions.{get-here, get-left}
 use Rattle.gi_lifting.proofs.Rows.{first_of, rest_of}
 
@@ -80,12 +79,6 @@ width-bound x f b place reg h =
     ∙ sym (ap (λ (o : Option Reg). width_of x (option_map_or (λ r. type_or_word x (kind_of f r.0)) o (Scalar x))) h)
 
 -- ══ Operands ══
-
--- what the root reads stands for something
-abbrev pub uses_named : Names → List Slot → Bool
-uses_named places [] = true
-uses_named places (slot.Use place ∷ slots) = is_named place places && uses_named places slots
-uses_named places (_ ∷ slots) = uses_named places slots
 
 bound-number : (b : Binding) (place : ℕ) (reg : Reg) → register_at b place ≡ Some reg → reg.0 ≡ number_at b place
 bound-number b place reg h = sym (ap (λ (o : Option Reg). (option_map_or (λ r. r) o (reg_of 0)).0) h)

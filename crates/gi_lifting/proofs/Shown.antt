@@ -1,23 +1,20 @@
 -- What a rule makes shows its operations on registers.
-use Rattle.std.proofs.Common.{◌≡◌, ◌⊎◌, inl, inr, ℕ, zero, suc, ◌+◌, min, Bool, true, false, cond, ◌&&◌, ◌||◌, ◌==◌, List, [], ◌∷◌, ◌++◌, Option, Some, None, length, map, refl, sym, subst, ap, ap₂, ◌∙◌, append_assoc, arith, length-append}
+use Rattle.std.proofs.Common.{◌≡◌, ◌⊎◌, inl, inr, ℕ, ◌+◌, min, Bool, true, false, cond, ◌||◌, ◌==◌, List, [], ◌∷◌, ◌++◌, Option, Some, None, length, refl, sym, subst, ap, ◌∙◌, append_assoc, arith, length-append}
 use Rattle.std.specs.Prelude.{slice_get}
-use Rattle.std.specs.List.{list_any}
 use Rattle.std.specs.Option.{option_map_or}
 use Rattle.std.proofs.lemmas.List.Folds.{list_any-append}
 use Rattle.gi_llt.specs.Llt.{width_of}
-use Rattle.gi_llt.specs.declared.Llt.{Llt}
 use Rattle.gi_llt.specs.declared.Llt.TheVariants.{Scalar}
 use Rattle.gi_mir.specs.Data.{InstrData, FunctionData}
 use Rattle.gi_mir.specs.Registers.{kind_of}
 use Rattle.gi_mir.specs.declared.operand.Kind.{Kind}
 use Rattle.gi_mir.specs.declared.operand.Kind.TheVariants.{Generic, Banked, Class}
 use Rattle.gi_mir.specs.declared.operand.Reg.{Reg}
-use Rattle.gi_meaning.specs.Argument.{Argument, Bits, Value}
-use Rattle.gi_meaning.specs.Runs.{Setting}
+use Rattle.gi_meaning.specs.Argument.{Bits, Value}
 use Rattle.gi_meaning.specs.State.{World}
 use Rattle.gi_refine.specs.Agreement.{setting}
-use Rattle.gi_refine.specs.Lifting.{AllShow, Shows, ShowsOperands, ShowsSlots, grown}
-use Rattle.gi_refine.specs.Values.{Operation, Slot as Place}
+use Rattle.gi_refine.specs.Lifting.{AllShow, ShowsOperands, ShowsSlots, grown}
+use Rattle.gi_refine.specs.Values.{Operation}
 use Rattle.gi_pattern.specs.Binding.{register_at}
 use Rattle.gi_pattern.specs.Data.{MakeData}
 use Rattle.gi_pattern.specs.InPlace.{with_ids}
@@ -28,7 +25,7 @@ use Rattle.gi_pattern.specs.declared.rule.MakeSlot.TheVariants as make
 use Rattle.gi_pattern.specs.declared.rule.TypeExpr.{TypeExpr}
 use Rattle.gi_pattern.specs.declared.rule.TypeExpr.TheVariants.{Of, Register, Fixed as FixedType}
 use Rattle.gi_pattern.specs.declared.rule.ValueExpr.{ValueExpr}
-use Rattle.gi_lifting.specs.OnValues.{Names, Types, all_made, defined_by, fresh_of, made, names_after, position, position_from, taken_by, unnamed, width_made, zero_register}
+use Rattle.gi_lifting.specs.OnValues.{Names, Types, all_made, defined_by, fresh_of, made, names_after, position, position_from, taken_by, unnamed, width_made}
 use Rattle.gi_lifting.specs.Placed.{AllWide, AreNamed, all_placed, are_placed, are_read, constant_registers, defined_registers, is_named, is_place, registers_made, type_or_word, types_in}
 use Rattle.gi_lifting.proofs.Positions.{defined-there, get-here, get-left, named-other, position-append, position-none, unnamed-none}
 use Rattle.gi_lifting.proofs.Rows.{first_of, rest_of}
@@ -89,7 +86,7 @@ shown-constants x names width w f b line (make.Fresh value ty ∷ slots) next id
     widths = wide.0;
   },
   shown-constants x names width w f b line slots (next + 1) (id + 1) (registers ++ next ∷ []) rss os is wide.1
-  (λ id' more. subst (λ (rs : List ℕ). AllShow (setting x names width) w rs rss os (with_ids id' is)) (sym (append_assoc registers (next ∷ []) (numbers slots (next + 1)))) (rest id' more)),
+      (λ id' more. subst (λ (rs : List ℕ). AllShow (setting x names width) w rs rss os (with_ids id' is)) (sym (append_assoc registers (next ∷ []) (numbers slots (next + 1)))) (rest id' more)),
 )
 shown-constants x names width w f b line (_ ∷ slots) next id registers rss os is wide rest = shown-constants x names width w f b line slots next id registers rss os is wide rest
 
@@ -208,7 +205,7 @@ named-behind x types b places registers m next now are = record {
     length-append places constants,
     are.many,
     many-numbers x types b m.slots next,
-    many-defined after m.slots
+    many-defined after m.slots,
   );
   named = λ place h. by place h (is_named place (defined_by m.slots)) refl;
 }

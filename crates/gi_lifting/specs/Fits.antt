@@ -1,12 +1,11 @@
 -- What a binding says of the instruction at which a rule fits.
-use Rattle.std.specs.Prelude.{◌≡◌, ℕ, Bool, true, false, List, [], ◌∷◌, Option, Some}
+use Rattle.std.specs.Prelude.{◌≡◌, ℕ, ◌&&◌, Bool, true, false, List, [], ◌∷◌, Some}
 use Rattle.gi_mir.specs.declared.operand.Operand.{Operand}
 use Rattle.gi_mir.specs.declared.operand.Operand.TheVariants as operand
 use Rattle.gi_mir.specs.declared.operand.Reg.{Reg}
-use Rattle.gi_mir.specs.Data.{InstrData}
 use Rattle.gi_pattern.specs.Binding.{register_at}
-use Rattle.gi_pattern.specs.Data.{MatchData}
-use Rattle.gi_pattern.specs.Fitting.{exchanged}
+use Rattle.gi_lifting.specs.OnValues.{Names}
+use Rattle.gi_lifting.specs.Placed.{is_named}
 use Rattle.gi_pattern.specs.declared.binding.Binding.{Binding}
 use Rattle.gi_pattern.specs.declared.rule.Slot.{Slot}
 use Rattle.gi_pattern.specs.declared.rule.Slot.TheVariants as slot
@@ -37,3 +36,9 @@ AreBoundTo b _ _ = ⊥
 -- what is bound stays bound
 pub record Extends (first last : Binding) : Type 0 where
   pub stays : (place : ℕ) (reg : Reg) → register_at first place ≡ Some reg → register_at last place ≡ Some reg
+
+-- what the root reads stands for something
+abbrev pub uses_named : Names → List Slot → Bool
+uses_named places [] = true
+uses_named places (slot.Use place ∷ slots) = is_named place places && uses_named places slots
+uses_named places (_ ∷ slots) = uses_named places slots

@@ -2,3 +2,4 @@ pub mod Fits
 pub mod OnValues
 pub mod Placed
 pub mod Sound
+pub mod Uses

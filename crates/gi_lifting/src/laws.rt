@@ -1,18 +1,25 @@
 //! Which rules are sound, and what is promised of their use.
 
-ghost use Rattle.std.specs.Prelude.{◌≡◌, ℕ, List, true};
-ghost use Rattle.gi_mir.specs.Data.{FunctionData};
+ghost use Rattle.std.specs.Prelude.{◌≡◌, ◌⊎◌, ℕ, Bool, List, ◌∷◌, Option, Some, true};
+ghost use Rattle.gi_mir.specs.Data.{FunctionData, InstrData};
+ghost use Rattle.gi_mir.specs.declared.operand.Flags.{Flags};
+ghost use Rattle.gi_refine.specs.Refinement.{IsRefinement};
 ghost use Rattle.gi_meaning.specs.State.{World};
 ghost use Rattle.gi_refine.specs.Agreement.{setting};
 ghost use Rattle.gi_refine.specs.Lifting.{AllShow};
-ghost use Rattle.gi_pattern.specs.Data.{MakeData};
+ghost use Rattle.gi_pattern.specs.Applying.{applied};
+ghost use Rattle.gi_pattern.specs.Data.{MakeData, MatchData};
+ghost use Rattle.gi_pattern.specs.Fitting.{exchanged, found, is_commutative};
+ghost use Rattle.gi_pattern.specs.declared.rule.Test.{Test};
+ghost use Rattle.gi_lifting.specs.Fits.{AreBoundTo};
+ghost use Rattle.gi_lifting.specs.Uses.{IsUsed, rule_of};
 ghost use Rattle.gi_pattern.specs.InPlace.{with_ids};
 ghost use Rattle.gi_pattern.specs.Making.{all_made as instrs_made};
 ghost use Rattle.gi_pattern.specs.declared.binding.Binding.{Binding};
 ghost use Rattle.gi_lifting.specs.OnValues.{Names, all_made};
 ghost use Rattle.gi_lifting.specs.Placed.{AllWide, AreNamed, all_placed, registers_made, types_in};
 ghost use Rattle.gi_pattern.specs.Examples.{difference_of_same, difference_with_constant, product_by_power, remainder_by_power, sum_with_zero, truncated_extension};
-ghost use Rattle.gi_lifting.specs.Sound.{IsCertainRule, IsSoundRule};
+ghost use Rattle.gi_lifting.specs.Sound.{IsCertainRule, IsSoundRule, Suits};
 
 /// Each of these rules is sound: in every world, for all types that its instructions accept, for all numbers with which it
 /// fits, and with all flags.
@@ -39,4 +46,23 @@ pub fn made_instructions_show()
         → all_placed x (types_in x f b) b places makes ≡ true
         → AllWide (setting x names width) (registers_made b makes next now) (all_made x (types_in x f b) b places makes)
         → AllShow (setting x names width) w registers (registers_made b makes next now) (all_made x (types_in x f b) b places makes) (with_ids id (instrs_made x f b line makes next now)) }
+{}
+
+/// What a rule finds of its root: the operation is the root's, and the operands are bound as they are written, or, where the
+/// operation commutes, the other way round.
+pub fn root_is_bound()
+    ensures { (f : FunctionData) (tests : List Test) (m : MatchData) (ms : List MatchData) (i : InstrData) (b c : Binding)
+        → found f tests (m ∷ ms) (Some i) b ≡ Some c
+        → (i.op ≡ m.op) × (AreBoundTo c m.slots i.operands ⊎ ((is_commutative m.op ≡ true) × AreBoundTo c m.slots (exchanged i.operands))) }
+{}
+
+/// A sound rule that replaces no register refines the function in which it is used, where its operands are bound as they are
+/// written.
+pub fn used_rule_refines()
+    ensures { (x : ℕ) (names : List (List ℕ)) (f : FunctionData) (name : ℕ) (root : MatchData) (definitions : List MatchData) (tests : List Test) (makes : List MakeData) (b : Binding) (id : ℕ) (instr : InstrData) (flags : ℕ → Flags) (hidden : ℕ → Bool)
+        → IsSoundRule (rule_of name root definitions tests makes)
+        → (x ≡ 32) ⊎ (x ≡ 64)
+        → Suits x (rule_of name root definitions tests makes) (types_in x f b) b
+        → IsUsed x names f (rule_of name root definitions tests makes) root b id instr flags hidden
+        → IsRefinement x names f (applied x (rule_of name root definitions tests makes) b id f) }
 {}
