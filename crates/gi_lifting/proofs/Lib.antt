@@ -1,5 +1,7 @@
 pub mod Casts
+pub mod Examples
 pub mod Fits
+pub mod Known
 pub mod Positions
 pub mod Powers
 pub mod Roots

@@ -1,3 +1,4 @@
+pub mod Examples
 pub mod Fits
 pub mod OnValues
 pub mod Placed

@@ -1,15 +1,24 @@
 //! Which rules are sound, and what is promised of their use.
 
-ghost use Rattle.std.specs.Prelude.{◌≡◌, ◌⊎◌, ℕ, Bool, List, ◌∷◌, Option, Some, true};
-ghost use Rattle.gi_mir.specs.Data.{FunctionData, InstrData};
+ghost use Rattle.std.specs.Prelude.{◌≡◌, ◌⊎◌, ℕ, Bool, List, ◌∷◌, ◌++◌, [], Option, Some, true, slice_get};
+ghost use Rattle.gi_mir.specs.Data.{BlockData, FunctionData, InstrData};
 ghost use Rattle.gi_mir.specs.declared.operand.Flags.{Flags};
 ghost use Rattle.gi_refine.specs.Refinement.{IsRefinement};
-ghost use Rattle.gi_meaning.specs.State.{World};
+ghost use Rattle.gi_meaning.specs.State.{IsWorld, Returned, State, World};
 ghost use Rattle.gi_refine.specs.Agreement.{setting};
-ghost use Rattle.gi_refine.specs.Lifting.{AllShow};
+ghost use Rattle.gi_refine.specs.Lifting.{AllShow, IsKnown, first_slots};
+ghost use Rattle.gi_refine.specs.Examples.{counting, names, world_of};
+ghost use Rattle.gi_refine.specs.Fitting.{blocks_fit};
+ghost use Rattle.gi_refine.specs.Outcomes.{ComesTo};
+ghost use Rattle.gi_refine.specs.Reached.{IsReached};
+ghost use Rattle.gi_refine.specs.RuleUse.{width_in};
+ghost use Rattle.gi_refine.specs.TestedUse.{AreConstants, ConstantInput, constant_facts, takes_all};
+ghost use Rattle.gi_refine.specs.Values.{Rule};
+ghost use Rattle.gi_lifting.specs.Examples.{less_five, less_five_bound};
+ghost use Rattle.gi_meaning.specs.Runs.{after_phis, setting_of};
 ghost use Rattle.gi_pattern.specs.Applying.{applied};
 ghost use Rattle.gi_pattern.specs.Data.{MakeData, MatchData};
-ghost use Rattle.gi_pattern.specs.Fitting.{exchanged, found, is_commutative};
+ghost use Rattle.gi_pattern.specs.Fitting.{binding_at, exchanged, found, is_commutative};
 ghost use Rattle.gi_pattern.specs.declared.rule.Test.{Test};
 ghost use Rattle.gi_lifting.specs.Fits.{AreBoundTo};
 ghost use Rattle.gi_lifting.specs.Uses.{IsUsed, rule_of};
@@ -65,4 +74,24 @@ pub fn used_rule_refines()
         → Suits x (rule_of name root definitions tests makes) (types_in x f b) b
         → IsUsed x names f (rule_of name root definitions tests makes) root b id instr flags hidden
         → IsRefinement x names f (applied x (rule_of name root definitions tests makes) b id f) }
+{}
+
+/// What a rule owes of reached states is tested, where its definitions are constants and its root takes each input.
+pub fn tests_make_known()
+    ensures { (x : ℕ) (names : List (List ℕ)) (f : FunctionData) (rule : Rule) (registers : List ℕ) (constants : List ConstantInput) (b : ℕ) (block : BlockData) (before back : List (ℕ × InstrData))
+        → blocks_fit (setting_of x names f) f.blocks ≡ true
+        → takes_all (first_slots rule.old) 0 registers ≡ true
+        → rule.facts ≡ constant_facts (width_in x f) constants
+        → AreConstants registers f.blocks constants
+        → slice_get f.blocks b ≡ Some block
+        → after_phis block.instrs ≡ before ++ back
+        → (w : World) → IsWorld x w → (state : State) → IsReached (setting_of x names f) w f.blocks b before state → IsKnown (setting_of x names f) w rule registers state }
+{}
+
+/// A rule used in a whole function: the difference with a constant becomes a sum.
+pub fn a_rule_is_used()
+    ensures fits { binding_at less_five difference_with_constant 2 ≡ Some less_five_bound }
+    ensures refines { IsRefinement 32 names less_five (applied 32 difference_with_constant less_five_bound 2 less_five) }
+    ensures returns { ComesTo 32 names less_five (world_of 7 0 0 []) 1 (Returned (2 ∷ []) counting 0) }
+    ensures new_returns { ComesTo 32 names (applied 32 difference_with_constant less_five_bound 2 less_five) (world_of 7 0 0 []) 1 (Returned (2 ∷ []) counting 0) }
 {}
