@@ -4,6 +4,7 @@ pub mod Fits
 pub mod Known
 pub mod Positions
 pub mod Powers
+pub mod Replaced
 pub mod Roots
 pub mod Rows
 pub mod Rules

@@ -30,17 +30,17 @@ use Rattle.gi_lifting.proofs.Shown.{shown-all}
 
 -- ---- the instruction in its block
 
-get-within : {X : Type 0} (xs : List X) (k : ℕ) (d : X) → k < length xs → slice_get xs k ≡ Some (get_or xs k d)
+pub get-within : {X : Type 0} (xs : List X) (k : ℕ) (d : X) → k < length xs → slice_get xs k ≡ Some (get_or xs k d)
 get-within [] k d h = absurd (omega arith)
 get-within (x ∷ xs) zero d h = refl
 get-within (x ∷ xs) (suc k) d h = get-within xs k d (omega arith)
 
-split-at : {X : Type 0} (xs : List X) (k : ℕ) (x : X) → slice_get xs k ≡ Some x → xs ≡ take k xs ++ (x ∷ drop (k + 1) xs)
+pub split-at : {X : Type 0} (xs : List X) (k : ℕ) (x : X) → slice_get xs k ≡ Some x → xs ≡ take k xs ++ (x ∷ drop (k + 1) xs)
 split-at [] k x h = cc
 split-at (y ∷ xs) zero x h = let same : y ≡ x = cc in ap (λ z. z ∷ xs) same
 split-at (y ∷ xs) (suc k) x h = let one : suc k + 1 ≡ suc (k + 1) = omega arith in rw one (ap (λ ys. y ∷ ys) (split-at xs k x h))
 
-entry-of : (f : FunctionData) (id : ℕ) (i : InstrData) → IsLive f id → instr_of f id ≡ Some i → slice_get (home_block f id).instrs (place_in_block f id) ≡ Some (id, i)
+pub entry-of : (f : FunctionData) (id : ℕ) (i : InstrData) → IsLive f id → instr_of f id ≡ Some i → slice_get (home_block f id).instrs (place_in_block f id) ≡ Some (id, i)
 entry-of f id i live there = by (slice_get (home_block f id).instrs (place_in_block f id)) (id_in-live f id live) there
   where
     by : (o : Option (ℕ × InstrData)) → option_map (λ (p : ℕ × InstrData). p.0) o ≡ Some id → option_map (λ (p : ℕ × InstrData). p.1) o ≡ Some i → o ≡ Some (id, i)

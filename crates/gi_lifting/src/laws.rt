@@ -22,6 +22,7 @@ ghost use Rattle.gi_pattern.specs.Fitting.{binding_at, exchanged, found, is_comm
 ghost use Rattle.gi_pattern.specs.declared.rule.Test.{Test};
 ghost use Rattle.gi_lifting.specs.Fits.{AreBoundTo};
 ghost use Rattle.gi_lifting.specs.Uses.{IsUsed, rule_of};
+ghost use Rattle.gi_lifting.specs.Replaces.{IsReplacing, replacing_of};
 ghost use Rattle.gi_pattern.specs.InPlace.{with_ids};
 ghost use Rattle.gi_pattern.specs.Making.{all_made as instrs_made};
 ghost use Rattle.gi_pattern.specs.declared.binding.Binding.{Binding};
@@ -74,6 +75,17 @@ pub fn used_rule_refines()
         → Suits x (rule_of name root definitions tests makes) (types_in x f b) b
         → IsUsed x names f (rule_of name root definitions tests makes) root b id instr flags hidden
         → IsRefinement x names f (applied x (rule_of name root definitions tests makes) b id f) }
+{}
+
+/// So does one that replaces registers and makes nothing, where its operands are bound as they are written, and each register
+/// has the value of what replaces it wherever runs use it elsewhere.
+pub fn replacing_rule_refines()
+    ensures { (x : ℕ) (names : List (List ℕ)) (f : FunctionData) (name : ℕ) (root : MatchData) (definitions : List MatchData) (tests : List Test) (replaces : List (ℕ × ℕ)) (b : Binding) (id : ℕ) (instr : InstrData) (flags : ℕ → Flags) (hidden : ℕ → Bool)
+        → IsSoundRule (replacing_of name root definitions tests replaces)
+        → (x ≡ 32) ⊎ (x ≡ 64)
+        → Suits x (replacing_of name root definitions tests replaces) (types_in x f b) b
+        → IsReplacing x names f (replacing_of name root definitions tests replaces) root b id instr flags hidden
+        → IsRefinement x names f (applied x (replacing_of name root definitions tests replaces) b id f) }
 {}
 
 /// What a rule owes of reached states is tested, where its definitions are constants and its root takes each input.

@@ -92,7 +92,7 @@ created (i ∷ made) before front back block b g within is named apart =
 
 -- ---- the root is taken out
 
-remove-parts : {X : Type 0} (xs : List X) (k : ℕ) → remove xs k ≡ take k xs ++ drop (k + 1) xs
+pub remove-parts : {X : Type 0} (xs : List X) (k : ℕ) → remove xs k ≡ take k xs ++ drop (k + 1) xs
 remove-parts [] zero = refl
 remove-parts [] (suc k) = let one : suc k + 1 ≡ suc (k + 1) = omega arith in rw one refl
 remove-parts (x ∷ xs) zero = refl
