@@ -88,24 +88,28 @@ once (suc (suc (suc (suc (suc id))))) = let none = given (suc (suc (suc (suc (su
 used : IsUsed 32 names less_five difference_with_constant root less_five_bound 2 (of_two op.GenericSubtract 2 s32 0 1).1 (λ k. no_flags) hides
 used = record {
   own = record { once = once; given = given };
-  live = refl;
-  here = refl;
-  op = refl;
-  bound = (refl, (refl, (refl, tt)));
-  flags_are = refl;
-  mem = refl;
-  plain = refl;
-  named = refl;
+  at = record {
+    live = refl;
+    here = refl;
+    op = refl;
+    bound = (refl, (refl, (refl, tt)));
+    flags_are = refl;
+    mem = refl;
+    plain = refl;
+    named = refl;
+    pure = refl;
+    fresh = refl;
+    inputs = refl;
+    wide = (refl, tt);
+    known = tests-make-known 32 names less_five (on_values 32 less_five difference_with_constant less_five_bound (λ k. no_flags)) (placing_of less_five difference_with_constant less_five_bound root).inputs
+        (record { place = 1; register = 1; value = 5 } ∷ []) 0 (block_of [] (front_of less_five 2 ++ (subtraction ∷ back_of less_five 2))) (after_phis (front_of less_five 2)) (subtraction ∷ back_of less_five 2) refl refl refl (refl, refl, tt) refl refl;
+  };
   placed = refl;
-  old_pure = refl;
   new_pure = refl;
-  old_fresh = refl;
   new_fresh = refl;
   seen = refl;
   covered = covered_by (only_virtual hides) (only_virtual hides) (on_values 32 less_five difference_with_constant less_five_bound (λ k. no_flags)) (placing_of less_five difference_with_constant less_five_bound root) refl (λ p h. h);
-  old_inputs = refl;
   new_inputs = refl;
-  old_wide = (refl, tt);
   new_wide = (refl, (refl, tt));
   widths = one_width;
   no_phi = refl;
@@ -113,8 +117,6 @@ used = record {
   front_clear = refl;
   back_clear = refl;
   others_clear = no_other;
-  known = tests-make-known 32 names less_five (on_values 32 less_five difference_with_constant less_five_bound (λ k. no_flags)) (placing_of less_five difference_with_constant less_five_bound root).inputs
-      (record { place = 1; register = 1; value = 5 } ∷ []) 0 (block_of [] (front_of less_five 2 ++ (subtraction ∷ back_of less_five 2))) (after_phis (front_of less_five 2)) (subtraction ∷ back_of less_five 2) refl refl refl (refl, refl, tt) refl refl;
 }
 
 pub less_five_refined : IsRefinement 32 names less_five (applied 32 difference_with_constant less_five_bound 2 less_five)

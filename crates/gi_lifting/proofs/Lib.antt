@@ -5,6 +5,7 @@ pub mod Known
 pub mod Positions
 pub mod Powers
 pub mod Replaced
+pub mod ReplacedExample
 pub mod Roots
 pub mod Rows
 pub mod Rules

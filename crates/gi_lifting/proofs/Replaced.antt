@@ -11,7 +11,7 @@ use Rattle.gi_mir.specs.declared.operand.Operand.{Operand}
 use Rattle.gi_mir.specs.declared.operand.Operand.TheVariants as operand
 use Rattle.gi_mir.proofs.Located.{id_in-live, id_in-within}
 use Rattle.gi_meaning.specs.Runs.{Setting, after_phis, is_phi, phis_of, setting_of}
-use Rattle.gi_meaning.specs.State.{IsWorld, World}
+use Rattle.gi_meaning.specs.State.{IsWorld, State, World}
 use Rattle.gi_pattern.specs.Applying.{applied, uses_replaced}
 use Rattle.gi_pattern.specs.Data.{MatchData, RuleData}
 use Rattle.gi_pattern.specs.InPlace.{block_renamed, entry_renamed, operand_renamed}
@@ -20,19 +20,21 @@ use Rattle.gi_pattern.specs.declared.binding.Binding.{Binding}
 use Rattle.gi_pattern.specs.declared.rule.Test.{Test}
 use Rattle.gi_refine.specs.Agreement.{AgreeAt, setting}
 use Rattle.gi_refine.specs.Kept.{AllSeenAs, AreKept, BodyHolds, PhisHold, reused_operand, without_kind}
+use Rattle.gi_refine.specs.Lifting.{AllSame, all_grown}
+use Rattle.gi_refine.specs.Reached.{IsReached}
 use Rattle.gi_refine.specs.OnePlace.{OnePlace, StaysAt, only_virtual}
 use Rattle.gi_refine.specs.Refinement.{IsRefinement}
 use Rattle.gi_refine.specs.Replacing.{any_touches}
 use Rattle.gi_refine.specs.RuleUse.{IsRuleUse, width_in}
 use Rattle.gi_refine.specs.Values.{IsSound}
 use Rattle.gi_refine.proofs.OnePlaceFollows.{one_place_refines}
-use Rattle.gi_refine.proofs.RulesUsed.{use_followed}
+use Rattle.gi_refine.proofs.RulesUsed.{use_followed, uses_replaced as uses_held}
 use Rattle.gi_refine.proofs.Staying.{KeepsWidths, all_seen_untouched, bodies_clear, body_before, get_set_other, get_set_same, phis_before, phis_clear}
 use Rattle.gi_lifting.specs.OnValues.{inputs_of}
 use Rattle.gi_lifting.specs.Placed.{types_in}
 use Rattle.gi_lifting.specs.Replaces.{IsReplacing, in_place_of, replacing_of}
-use Rattle.gi_lifting.specs.Sound.{IsSoundRule, Suits}
-use Rattle.gi_lifting.specs.Uses.{back_of, front_of, on_values, placing_of, registers_at}
+use Rattle.gi_lifting.specs.Sound.{IsCertainRule, IsSoundRule, Suits}
+use Rattle.gi_lifting.specs.Uses.{IsAt, back_of, front_of, on_values, placing_of, registers_at}
 use Rattle.gi_lifting.proofs.Roots.{inputs-named, root-operands}
 use Rattle.gi_lifting.proofs.Used.{entry-of, get-within, split-at}
 
@@ -138,27 +140,27 @@ rule-replaces x names f name root definitions tests replaces b id instr flags hi
   placed = λ w is_world.
       let ps = inputs_of (root ∷ definitions) in
       record {
-        old_pure = used.pure;
+        old_pure = used.at.pure;
         new_pure = refl;
         old_shown = (
           record {
-            op = used.op;
-            flags = used.flags_are;
-            mem = used.mem;
-            operands = root-operands (setting x names (width_in x f)) w b root.op (map (λ place. Some place) ps) (registers_at b ps) root.slots instr.operands (inputs-named b ps) used.plain used.named used.bound;
-            widths = used.wide.0;
+            op = used.at.op;
+            flags = used.at.flags_are;
+            mem = used.at.mem;
+            operands = root-operands (setting x names (width_in x f)) w b root.op (map (λ place. Some place) ps) (registers_at b ps) root.slots instr.operands (inputs-named b ps) used.at.plain used.at.named used.at.bound;
+            widths = used.at.wide.0;
           },
           tt,
         );
         new_shown = tt;
-        old_fresh = used.fresh;
+        old_fresh = used.at.fresh;
         new_fresh = refl;
-        old_widths = used.old_inputs;
+        old_widths = used.at.inputs;
         new_widths = used.new_inputs;
         seen = used.seen;
         covered = used.covered;
       };
-  known = used.known;
+  known = used.at.known;
 }
 
 replacing-refines : (x : ℕ) (names : List (List ℕ)) (f : FunctionData) (name : ℕ) (root : MatchData) (definitions : List MatchData) (tests : List Test) (replaces : List (ℕ × ℕ)) (b : Binding) (id : ℕ) (instr : InstrData) (flags : ℕ → Flags) (hidden : ℕ → Bool)
@@ -176,9 +178,9 @@ replacing-refines x names f name root definitions tests replaces b id instr flag
     let back = back_of f id in
     let new_body = block-without rename f id in
     let widths : KeepsWidths s t hidden rename = record { same = used.widths; replaced = used.kept_widths } in
-    let here : slice_get f.blocks (home_of f id) ≡ Some body = get-within f.blocks (home_of f id) empty_block (id_in-within id f.blocks (home_of f id) (place_in_block f id) (id_in-live f id used.live)) in
-    let instrs : body.instrs ≡ front ++ ((id, instr) ∷ back) = split-at body.instrs (place_in_block f id) (id, instr) (entry-of f id instr used.live used.here) in
-    let blocks : g.blocks ≡ slice_set (map (block_renamed rename) f.blocks) (home_of f id) new_body = blocks-without rename f (uses_replaced b replaces f) id (blocks-renamed b replaces f) used.live in
+    let here : slice_get f.blocks (home_of f id) ≡ Some body = get-within f.blocks (home_of f id) empty_block (id_in-within id f.blocks (home_of f id) (place_in_block f id) (id_in-live f id used.at.live)) in
+    let instrs : body.instrs ≡ front ++ ((id, instr) ∷ back) = split-at body.instrs (place_in_block f id) (id, instr) (entry-of f id instr used.at.live used.at.here) in
+    let blocks : g.blocks ≡ slice_set (map (block_renamed rename) f.blocks) (home_of f id) new_body = blocks-without rename f (uses_replaced b replaces f) id (blocks-renamed b replaces f) used.at.live in
     let phis : phis_of body.instrs ≡ phis_of front = ap phis_of instrs ∙ phis_before front ((id, instr) ∷ back) used.no_phi in
     let none : phis_of (map (entry_renamed rename) back) ≡ [] = phis-renamed rename back ∙ ap (map (entry_renamed rename)) used.no_phi_behind in
     let new_phis : phis_of new_body.instrs ≡ map (entry_renamed rename) (phis_of front) = phis_before (map (entry_renamed rename) front) (map (entry_renamed rename) back) none ∙ phis-renamed rename front in
@@ -217,3 +219,33 @@ pub sound-replaces : (x : ℕ) (names : List (List ℕ)) (f : FunctionData) (nam
     → IsRefinement x names f (applied x (replacing_of name root definitions tests replaces) b id f)
 sound-replaces x names f name root definitions tests replaces b id instr flags hidden sound size suits used =
     replacing-refines x names f name root definitions tests replaces b id instr flags hidden used (λ w is_world. sound.by x w (types_in x f b) b flags size suits)
+
+-- ---- what is replaced has the value of what replaces it
+
+pub certain-behind : (x : ℕ) (names : List (List ℕ)) (f : FunctionData) (name : ℕ) (root : MatchData) (definitions : List MatchData) (tests : List Test) (replaces : List (ℕ × ℕ)) (b : Binding) (id : ℕ) (instr : InstrData) (flags : ℕ → Flags)
+    → IsCertainRule (replacing_of name root definitions tests replaces)
+    → (x ≡ 32) ⊎ (x ≡ 64)
+    → Suits x (replacing_of name root definitions tests replaces) (types_in x f b) b
+    → IsAt x names f (replacing_of name root definitions tests replaces) root b id instr flags
+    → (w : World) → IsWorld x w → (state : State) → IsReached (setting_of x names f) w f.blocks (home_of f id) (after_phis (front_of f id) ++ (id, instr) ∷ []) state
+    → AllSame state.values (all_grown (placing_of f (replacing_of name root definitions tests replaces) b root).inputs (placing_of f (replacing_of name root definitions tests replaces) b root).old)
+    (on_values x f (replacing_of name root definitions tests replaces) b flags).kept
+certain-behind x names f name root definitions tests replaces b id instr flags certain size suits at =
+    let ps = inputs_of (root ∷ definitions) in
+    uses_held x names f (λ v. on_values x f (replacing_of name root definitions tests replaces) b flags) (placing_of f (replacing_of name root definitions tests replaces) b root) (home_of f id) (after_phis (front_of f id)) ((id, instr) ∷ []) (record {
+      certain = λ w is_world. certain.by x w (types_in x f b) b flags size suits;
+      pure = λ w is_world. at.pure;
+      shown = λ w is_world. (
+        record {
+          op = at.op;
+          flags = at.flags_are;
+          mem = at.mem;
+          operands = root-operands (setting x names (width_in x f)) w b root.op (map (λ place. Some place) ps) (registers_at b ps) root.slots instr.operands (inputs-named b ps) at.plain at.named at.bound;
+          widths = at.wide.0;
+        },
+        tt,
+      );
+      fresh = at.fresh;
+      widths = λ w is_world. at.inputs;
+      known = at.known;
+    })

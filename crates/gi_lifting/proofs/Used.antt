@@ -71,27 +71,27 @@ rule-used x names f name root definitions tests makes b id instr flags hidden us
       let rule = rule_of name root definitions tests makes in
       let ps = inputs_of rule.matches in
       record {
-        old_pure = used.old_pure;
+        old_pure = used.at.pure;
         new_pure = used.new_pure;
         old_shown = (
           record {
-            op = used.op;
-            flags = used.flags_are;
-            mem = used.mem;
-            operands = root-operands (setting x names (width_in x f)) w b root.op (map (λ place. Some place) ps) (registers_at b ps) root.slots instr.operands (inputs-named b ps) used.plain used.named used.bound;
-            widths = used.old_wide.0;
+            op = used.at.op;
+            flags = used.at.flags_are;
+            mem = used.at.mem;
+            operands = root-operands (setting x names (width_in x f)) w b root.op (map (λ place. Some place) ps) (registers_at b ps) root.slots instr.operands (inputs-named b ps) used.at.plain used.at.named used.at.bound;
+            widths = used.at.wide.0;
           },
           tt,
         );
         new_shown = shown-all x names (width_in x (applied x rule b id f)) w f b (line_of f id) makes f.next_reg f.next_id b (map (λ place. Some place) ps) (registers_at b ps) (inputs-named b ps) used.placed used.new_wide;
-        old_fresh = used.old_fresh;
+        old_fresh = used.at.fresh;
         new_fresh = used.new_fresh;
-        old_widths = used.old_inputs;
+        old_widths = used.at.inputs;
         new_widths = used.new_inputs;
         seen = used.seen;
         covered = used.covered;
       };
-  known = used.known;
+  known = used.at.known;
 }
 
 pub use-refines : (x : ℕ) (names : List (List ℕ)) (f : FunctionData) (name : ℕ) (root : MatchData) (definitions : List MatchData) (tests : List Test) (makes : List MakeData) (b : Binding) (id : ℕ) (instr : InstrData) (flags : ℕ → Flags) (hidden : ℕ → Bool)
@@ -104,9 +104,9 @@ use-refines x names f name root definitions tests makes b id instr flags hidden 
     let body = home_block f id in
     replacement_refines x names f g (replacement_of x f rule b id instr hidden) (record {
       block = body;
-      here = get-within f.blocks (home_of f id) empty_block (id_in-within id f.blocks (home_of f id) (place_in_block f id) (id_in-live f id used.live));
-      instrs = split-at body.instrs (place_in_block f id) (id, instr) (entry-of f id instr used.live used.here);
-      blocks = blocks-replaced f id (made_at x rule b id f) used.own used.live;
+      here = get-within f.blocks (home_of f id) empty_block (id_in-within id f.blocks (home_of f id) (place_in_block f id) (id_in-live f id used.at.live));
+      instrs = split-at body.instrs (place_in_block f id) (id, instr) (entry-of f id instr used.at.live used.at.here);
+      blocks = blocks-replaced f id (made_at x rule b id f) used.own used.at.live;
       no_phi = used.no_phi;
       no_new_phi = used.no_new_phi;
       before_clear = used.front_clear;

@@ -26,3 +26,21 @@ less_five_bound = record {
   values = Some (record { bits = 32; number = pos 5 }) ∷ None ∷ None ∷ None ∷ [];
   pred = None;
 }
+
+-- x10 + 0
+abbrev pub plus_zero : FunctionData
+plus_zero = record (function_of (block_of []
+    (numbered 0 (copy_in 0 10 s32)
+    ∷ numbered 1 (constant_in 1 32 0 s32)
+    ∷ numbered 2 (of_two op.GenericAdd 2 s32 0 1)
+    ∷ numbered 3 (copy_out 10 2)
+    ∷ numbered 4 (return_of 10)
+    ∷ []) ∷ [])) { next_reg = 3; next_id = 5 }
+
+-- what the sum with zero binds at its third instruction
+abbrev pub plus_zero_bound : Binding
+plus_zero_bound = record {
+  regs = Some (reg_of 2) ∷ Some (reg_of 0) ∷ Some (reg_of 1) ∷ None ∷ None ∷ None ∷ None ∷ None ∷ [];
+  values = Some (record { bits = 32; number = pos 0 }) ∷ None ∷ None ∷ None ∷ [];
+  pred = None;
+}

@@ -1,27 +1,21 @@
 -- A rule that replaces registers and makes nothing, used at an instruction of a function.
-use Rattle.std.specs.Prelude.{◌≡◌, ℕ, Bool, true, false, List, [], ◌∷◌, ◌++◌, Some, None, map, slice_get}
+use Rattle.std.specs.Prelude.{◌≡◌, ℕ, Bool, true, false, List, [], ◌∷◌, ◌++◌, Some, map, slice_get}
 use Rattle.gi_mir.specs.Data.{InstrData, BlockData, FunctionData}
-use Rattle.gi_mir.specs.Edit.{IsLive, home_block, home_of, instr_of}
+use Rattle.gi_mir.specs.Edit.{home_block, home_of}
 use Rattle.gi_mir.specs.declared.operand.Flags.{Flags}
 use Rattle.gi_meaning.specs.Runs.{after_phis, phis_of, setting_of}
-use Rattle.gi_meaning.specs.State.{IsWorld, Place, State, World}
+use Rattle.gi_meaning.specs.State.{Place}
 use Rattle.gi_pattern.specs.Applying.{applied}
 use Rattle.gi_pattern.specs.Data.{MatchData, RuleData}
 use Rattle.gi_pattern.specs.InPlace.{renamed}
 use Rattle.gi_pattern.specs.declared.binding.Binding.{Binding}
 use Rattle.gi_pattern.specs.declared.rule.Test.{Test}
-use Rattle.gi_refine.specs.Agreement.{setting}
 use Rattle.gi_refine.specs.Kept.{BodyHolds, PhisHold}
-use Rattle.gi_refine.specs.Lifting.{IsKnown, are_all_fresh, left_hidden, none_hidden}
+use Rattle.gi_refine.specs.Lifting.{left_hidden, none_hidden}
 use Rattle.gi_refine.specs.OnePlace.{only_virtual}
-use Rattle.gi_refine.specs.Reached.{IsReached}
 use Rattle.gi_refine.specs.Replacing.{any_touches}
 use Rattle.gi_refine.specs.RuleUse.{width_in}
-use Rattle.gi_refine.specs.Values.{are_pure}
-use Rattle.gi_lifting.specs.Fits.{AreBoundTo, is_plain, uses_named}
-use Rattle.gi_lifting.specs.OnValues.{inputs_of}
-use Rattle.gi_lifting.specs.Placed.{AllWide}
-use Rattle.gi_lifting.specs.Uses.{back_of, front_of, on_values, placing_of}
+use Rattle.gi_lifting.specs.Uses.{IsAt, back_of, front_of, on_values, placing_of}
 
 -- a rule with this root that makes nothing
 abbrev pub replacing_of : (name : ℕ) → MatchData → List MatchData → List Test → (replaces : List (ℕ × ℕ)) → RuleData
@@ -31,29 +25,15 @@ replacing_of name root definitions tests replaces = record { name = name; matche
 abbrev pub in_place_of : RuleData → Binding → ℕ → ℕ
 in_place_of rule b = renamed b rule.replaces
 
--- The rule fits at the instruction, its operands bound as they are written. Registers that aren't hidden have one width in
+-- The rule is at the instruction. Registers that aren't hidden have one width in
 -- both functions, and so have a register and what replaces it; once uses are replaced, nothing else touches the hidden ones;
 -- and wherever runs use a register elsewhere, it has no value, or that of what replaces it.
 pub record IsReplacing (x : ℕ) (names : List (List ℕ)) (f : FunctionData) (rule : RuleData) (root : MatchData) (b : Binding) (id : ℕ) (instr : InstrData) (flags : ℕ → Flags) (hidden : ℕ → Bool) : Type 0 where
-  -- the instruction
-  pub live : IsLive f id
-  pub here : instr_of f id ≡ Some instr
-  pub op : instr.op ≡ root.op
-  pub bound : AreBoundTo b root.slots instr.operands
-  pub flags_are : instr.flags ≡ flags 0
-  pub mem : instr.mem ≡ None
-  -- tests of the rule
-  pub plain : is_plain root.slots ≡ true
-  pub named : uses_named (map (λ place. Some place) (inputs_of rule.matches)) root.slots ≡ true
-  pub pure : are_pure (on_values x f rule b flags).old ≡ true
-  -- tests of registers
-  pub fresh : are_all_fresh (placing_of f rule b root).inputs (placing_of f rule b root).old ≡ true
+  pub at : IsAt x names f rule root b id instr flags
   pub seen : none_hidden (only_virtual hidden) (placing_of f rule b root).inputs ≡ true
   pub covered : (p : Place) → only_virtual hidden p ≡ false → left_hidden (only_virtual hidden) (on_values x f rule b flags) (placing_of f rule b root) p ≡ false
   -- widths
-  pub old_inputs : map (width_in x f) (placing_of f rule b root).inputs ≡ (on_values x f rule b flags).inputs
   pub new_inputs : map (width_in x (applied x rule b id f)) (placing_of f rule b root).inputs ≡ (on_values x f rule b flags).inputs
-  pub wide : AllWide (setting x names (width_in x f)) (placing_of f rule b root).old (on_values x f rule b flags).old
   pub widths : (q : ℕ) → hidden q ≡ false → (setting_of x names (applied x rule b id f)).width q ≡ (setting_of x names f).width q
   pub kept_widths : (q : ℕ) → (setting_of x names f).width (in_place_of rule b q) ≡ (setting_of x names f).width q
   -- what stands elsewhere
@@ -68,6 +48,3 @@ pub record IsReplacing (x : ℕ) (names : List (List ℕ)) (f : FunctionData) (r
   pub back_holds : BodyHolds x names f (home_of f id) (in_place_of rule b) (after_phis (front_of f id) ++ (id, instr) ∷ []) (back_of f id)
   pub others_hold : (k : ℕ) → (k ≡ home_of f id → ⊥) → (other : BlockData) → slice_get f.blocks k ≡ Some other
       → PhisHold x names f k (in_place_of rule b) (phis_of other.instrs) × BodyHolds x names f k (in_place_of rule b) [] (after_phis other.instrs)
-  -- in the states that runs reach before it, what the inputs hold fits their widths, and the definitions hold
-  pub known : (w : World) → IsWorld x w → (state : State) → IsReached (setting_of x names f) w f.blocks (home_of f id) (after_phis (front_of f id)) state
-      → IsKnown (setting_of x names f) w (on_values x f rule b flags) (placing_of f rule b root).inputs state

@@ -1,4 +1,4 @@
--- A rule that replaces no register, used at an instruction of a function.
+-- A rule at an instruction of a function, and one that replaces no register used there.
 use Rattle.std.specs.Prelude.{◌≡◌, ℕ, ◌+◌, Bool, true, false, List, [], ◌∷◌, ◌++◌, Some, None, drop, map, slice_get, take}
 use Rattle.gi_mir.specs.Data.{InstrData, BlockData, FunctionData}
 use Rattle.gi_mir.specs.Edit.{IsLive, home_block, home_of, instr_of, place_in_block}
@@ -50,12 +50,10 @@ front_of f id = take (place_in_block f id) (home_block f id).instrs
 abbrev pub back_of : FunctionData → ℕ → List (ℕ × InstrData)
 back_of f id = drop (place_in_block f id + 1) (home_block f id).instrs
 
--- The rule fits at the instruction, its operands bound as they are written. In the new function the registers that aren't
--- hidden have the widths that they had; nothing else touches the hidden ones, which are those that the two sides don't
--- share; and no phi is rewritten or made.
-pub record IsUsed (x : ℕ) (names : List (List ℕ)) (f : FunctionData) (rule : RuleData) (root : MatchData) (b : Binding) (id : ℕ) (instr : InstrData) (flags : ℕ → Flags) (hidden : ℕ → Bool) : Type 0 where
+-- The rule fits at the instruction, its operands bound as they are written; its root reads and defines registers alone; and
+-- in the states that runs reach before it, what the inputs hold fits their widths, and the definitions hold.
+pub record IsAt (x : ℕ) (names : List (List ℕ)) (f : FunctionData) (rule : RuleData) (root : MatchData) (b : Binding) (id : ℕ) (instr : InstrData) (flags : ℕ → Flags) : Type 0 where
   -- the instruction
-  pub own : AreOwnIds f.blocks f.next_id
   pub live : IsLive f id
   pub here : instr_of f id ≡ Some instr
   pub op : instr.op ≡ root.op
@@ -65,18 +63,28 @@ pub record IsUsed (x : ℕ) (names : List (List ℕ)) (f : FunctionData) (rule :
   -- tests of the rule
   pub plain : is_plain root.slots ≡ true
   pub named : uses_named (map (λ place. Some place) (inputs_of rule.matches)) root.slots ≡ true
+  pub pure : are_pure (on_values x f rule b flags).old ≡ true
+  -- its registers
+  pub fresh : are_all_fresh (placing_of f rule b root).inputs (placing_of f rule b root).old ≡ true
+  pub inputs : map (width_in x f) (placing_of f rule b root).inputs ≡ (on_values x f rule b flags).inputs
+  pub wide : AllWide (setting x names (width_in x f)) (placing_of f rule b root).old (on_values x f rule b flags).old
+  -- reached states
+  pub known : (w : World) → IsWorld x w → (state : State) → IsReached (setting_of x names f) w f.blocks (home_of f id) (after_phis (front_of f id)) state
+      → IsKnown (setting_of x names f) w (on_values x f rule b flags) (placing_of f rule b root).inputs state
+
+-- The rule is at the instruction. In the new function the registers that aren't hidden have the widths that they had;
+-- nothing else touches the hidden ones, which are those that the two sides don't share; and no phi is rewritten or made.
+pub record IsUsed (x : ℕ) (names : List (List ℕ)) (f : FunctionData) (rule : RuleData) (root : MatchData) (b : Binding) (id : ℕ) (instr : InstrData) (flags : ℕ → Flags) (hidden : ℕ → Bool) : Type 0 where
+  pub own : AreOwnIds f.blocks f.next_id
+  pub at : IsAt x names f rule root b id instr flags
+  -- what is made
   pub placed : all_placed x (types_in x f b) b (map (λ place. Some place) (inputs_of rule.matches)) rule.makes ≡ true
-  pub old_pure : are_pure (on_values x f rule b flags).old ≡ true
   pub new_pure : are_pure (on_values x f rule b flags).new ≡ true
-  -- tests of registers
-  pub old_fresh : are_all_fresh (placing_of f rule b root).inputs (placing_of f rule b root).old ≡ true
   pub new_fresh : are_all_fresh (placing_of f rule b root).inputs (placing_of f rule b root).new ≡ true
   pub seen : none_hidden (only_virtual hidden) (placing_of f rule b root).inputs ≡ true
   pub covered : (p : Place) → only_virtual hidden p ≡ false → left_hidden (only_virtual hidden) (on_values x f rule b flags) (placing_of f rule b root) p ≡ false
-  -- widths in the old function and in the new one
-  pub old_inputs : map (width_in x f) (placing_of f rule b root).inputs ≡ (on_values x f rule b flags).inputs
+  -- widths in the new function
   pub new_inputs : map (width_in x (applied x rule b id f)) (placing_of f rule b root).inputs ≡ (on_values x f rule b flags).inputs
-  pub old_wide : AllWide (setting x names (width_in x f)) (placing_of f rule b root).old (on_values x f rule b flags).old
   pub new_wide : AllWide (setting x names (width_in x (applied x rule b id f))) (placing_of f rule b root).new (on_values x f rule b flags).new
   pub widths : (q : ℕ) → hidden q ≡ false → (setting_of x names (applied x rule b id f)).width q ≡ (setting_of x names f).width q
   -- what stands elsewhere
@@ -85,6 +93,3 @@ pub record IsUsed (x : ℕ) (names : List (List ℕ)) (f : FunctionData) (rule :
   pub front_clear : any_touches hidden (λ q. q) (front_of f id) ≡ false
   pub back_clear : any_touches hidden (λ q. q) (back_of f id) ≡ false
   pub others_clear : (k : ℕ) → (k ≡ home_of f id → ⊥) → (other : BlockData) → slice_get f.blocks k ≡ Some other → any_touches hidden (λ q. q) other.instrs ≡ false
-  -- in the states that runs reach before it, what the inputs hold fits their widths, and the definitions hold
-  pub known : (w : World) → IsWorld x w → (state : State) → IsReached (setting_of x names f) w f.blocks (home_of f id) (after_phis (front_of f id)) state
-      → IsKnown (setting_of x names f) w (on_values x f rule b flags) (placing_of f rule b root).inputs state

@@ -2,11 +2,12 @@
 
 ghost use Rattle.std.specs.Prelude.{◌≡◌, ◌⊎◌, ℕ, Bool, List, ◌∷◌, ◌++◌, [], Option, Some, true, slice_get};
 ghost use Rattle.gi_mir.specs.Data.{BlockData, FunctionData, InstrData};
+ghost use Rattle.gi_mir.specs.Edit.{home_of};
 ghost use Rattle.gi_mir.specs.declared.operand.Flags.{Flags};
 ghost use Rattle.gi_refine.specs.Refinement.{IsRefinement};
 ghost use Rattle.gi_meaning.specs.State.{IsWorld, Returned, State, World};
 ghost use Rattle.gi_refine.specs.Agreement.{setting};
-ghost use Rattle.gi_refine.specs.Lifting.{AllShow, IsKnown, first_slots};
+ghost use Rattle.gi_refine.specs.Lifting.{AllSame, AllShow, IsKnown, all_grown, first_slots};
 ghost use Rattle.gi_refine.specs.Examples.{counting, names, world_of};
 ghost use Rattle.gi_refine.specs.Fitting.{blocks_fit};
 ghost use Rattle.gi_refine.specs.Outcomes.{ComesTo};
@@ -14,14 +15,14 @@ ghost use Rattle.gi_refine.specs.Reached.{IsReached};
 ghost use Rattle.gi_refine.specs.RuleUse.{width_in};
 ghost use Rattle.gi_refine.specs.TestedUse.{AreConstants, ConstantInput, constant_facts, takes_all};
 ghost use Rattle.gi_refine.specs.Values.{Rule};
-ghost use Rattle.gi_lifting.specs.Examples.{less_five, less_five_bound};
+ghost use Rattle.gi_lifting.specs.Examples.{less_five, less_five_bound, plus_zero, plus_zero_bound};
 ghost use Rattle.gi_meaning.specs.Runs.{after_phis, setting_of};
 ghost use Rattle.gi_pattern.specs.Applying.{applied};
 ghost use Rattle.gi_pattern.specs.Data.{MakeData, MatchData};
 ghost use Rattle.gi_pattern.specs.Fitting.{binding_at, exchanged, found, is_commutative};
 ghost use Rattle.gi_pattern.specs.declared.rule.Test.{Test};
 ghost use Rattle.gi_lifting.specs.Fits.{AreBoundTo};
-ghost use Rattle.gi_lifting.specs.Uses.{IsUsed, rule_of};
+ghost use Rattle.gi_lifting.specs.Uses.{IsAt, IsUsed, front_of, on_values, placing_of, rule_of};
 ghost use Rattle.gi_lifting.specs.Replaces.{IsReplacing, replacing_of};
 ghost use Rattle.gi_pattern.specs.InPlace.{with_ids};
 ghost use Rattle.gi_pattern.specs.Making.{all_made as instrs_made};
@@ -88,6 +89,18 @@ pub fn replacing_rule_refines()
         → IsRefinement x names f (applied x (replacing_of name root definitions tests replaces) b id f) }
 {}
 
+/// Wherever runs reach behind the root of a certain rule, what it replaces has the value of what replaces it, or none.
+pub fn replaced_results_hold()
+    ensures { (x : ℕ) (names : List (List ℕ)) (f : FunctionData) (name : ℕ) (root : MatchData) (definitions : List MatchData) (tests : List Test) (replaces : List (ℕ × ℕ)) (b : Binding) (id : ℕ) (instr : InstrData) (flags : ℕ → Flags)
+        → IsCertainRule (replacing_of name root definitions tests replaces)
+        → (x ≡ 32) ⊎ (x ≡ 64)
+        → Suits x (replacing_of name root definitions tests replaces) (types_in x f b) b
+        → IsAt x names f (replacing_of name root definitions tests replaces) root b id instr flags
+        → (w : World) → IsWorld x w → (state : State) → IsReached (setting_of x names f) w f.blocks (home_of f id) (after_phis (front_of f id) ++ (id, instr) ∷ []) state
+        → AllSame state.values (all_grown (placing_of f (replacing_of name root definitions tests replaces) b root).inputs (placing_of f (replacing_of name root definitions tests replaces) b root).old)
+        (on_values x f (replacing_of name root definitions tests replaces) b flags).kept }
+{}
+
 /// What a rule owes of reached states is tested, where its definitions are constants and its root takes each input.
 pub fn tests_make_known()
     ensures { (x : ℕ) (names : List (List ℕ)) (f : FunctionData) (rule : Rule) (registers : List ℕ) (constants : List ConstantInput) (b : ℕ) (block : BlockData) (before back : List (ℕ × InstrData))
@@ -100,10 +113,13 @@ pub fn tests_make_known()
         → (w : World) → IsWorld x w → (state : State) → IsReached (setting_of x names f) w f.blocks b before state → IsKnown (setting_of x names f) w rule registers state }
 {}
 
-/// A rule used in a whole function: the difference with a constant becomes a sum.
-pub fn a_rule_is_used()
+/// Rules used in whole functions: the difference with a constant becomes a sum, and the uses of a sum with zero are replaced.
+pub fn rules_are_used()
     ensures fits { binding_at less_five difference_with_constant 2 ≡ Some less_five_bound }
     ensures refines { IsRefinement 32 names less_five (applied 32 difference_with_constant less_five_bound 2 less_five) }
+    ensures replaced_fits { binding_at plus_zero sum_with_zero 2 ≡ Some plus_zero_bound }
+    ensures replaced_refines { IsRefinement 32 names plus_zero (applied 32 sum_with_zero plus_zero_bound 2 plus_zero) }
+    ensures replaced_returns { ComesTo 32 names plus_zero (world_of 7 0 0 []) 1 (Returned (7 ∷ []) counting 0) }
     ensures returns { ComesTo 32 names less_five (world_of 7 0 0 []) 1 (Returned (2 ∷ []) counting 0) }
     ensures new_returns { ComesTo 32 names (applied 32 difference_with_constant less_five_bound 2 less_five) (world_of 7 0 0 []) 1 (Returned (2 ∷ []) counting 0) }
 {}

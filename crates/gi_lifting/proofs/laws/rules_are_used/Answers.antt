@@ -4,14 +4,18 @@ use Rattle.gi_pattern.specs.Applying.{applied}
 use Rattle.gi_pattern.specs.Examples.{difference_with_constant}
 use Rattle.gi_refine.specs.Examples.{counting, names, world_of}
 use Rattle.gi_refine.proofs.Evaluating.{outcome_so}
-use Rattle.gi_lifting.specs.Examples.{less_five, less_five_bound}
+use Rattle.gi_lifting.specs.Examples.{less_five, less_five_bound, plus_zero}
 use Rattle.gi_lifting.proofs.Examples.{less_five_refined}
-use Rattle.gi_lifting.proofs.laws.a_rule_is_used.Goals as goal
+use Rattle.gi_lifting.proofs.ReplacedExample.{plus_zero_refined}
+use Rattle.gi_lifting.proofs.laws.rules_are_used.Goals as goal
 
 pub returns : goal.returns
 returns c = record {
   fits = refl;
   refines = less_five_refined;
+  replaced_fits = refl;
+  replaced_refines = plus_zero_refined;
+  replaced_returns = outcome_so 32 names plus_zero (world_of 7 0 0 []) 1 (Returned (7 ∷ []) counting 0) refl;
   returns = outcome_so 32 names less_five (world_of 7 0 0 []) 1 (Returned (2 ∷ []) counting 0) refl;
   new_returns = outcome_so 32 names (applied 32 difference_with_constant less_five_bound 2 less_five) (world_of 7 0 0 []) 1 (Returned (2 ∷ []) counting 0) refl;
 }
