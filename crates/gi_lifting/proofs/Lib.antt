@@ -1,5 +1,6 @@
 pub mod Casts
 pub mod Examples
+pub mod Exchanged
 pub mod Fits
 pub mod Known
 pub mod Positions
