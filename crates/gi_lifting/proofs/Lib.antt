@@ -7,6 +7,7 @@ pub mod Positions
 pub mod Powers
 pub mod Replaced
 pub mod ReplacedExample
+pub mod Rooted
 pub mod Roots
 pub mod Rows
 pub mod Rules

@@ -18,24 +18,20 @@ use Rattle.gi_pattern.specs.InPlace.{block_renamed, entry_renamed, operand_renam
 use Rattle.gi_pattern.proofs.InPlace.{blocks-renamed, remove-parts}
 use Rattle.gi_pattern.specs.declared.binding.Binding.{Binding}
 use Rattle.gi_pattern.specs.declared.rule.Test.{Test}
-use Rattle.gi_refine.specs.Agreement.{AgreeAt, setting}
 use Rattle.gi_refine.specs.Kept.{AllSeenAs, AreKept, BodyHolds, PhisHold, reused_operand, without_kind}
 use Rattle.gi_refine.specs.Lifting.{AllSame, all_grown}
 use Rattle.gi_refine.specs.Reached.{IsReached}
 use Rattle.gi_refine.specs.OnePlace.{OnePlace, StaysAt, only_virtual}
 use Rattle.gi_refine.specs.Refinement.{IsRefinement}
 use Rattle.gi_refine.specs.Replacing.{any_touches}
-use Rattle.gi_refine.specs.RuleUse.{IsRuleUse, width_in}
 use Rattle.gi_refine.specs.Values.{IsSound}
 use Rattle.gi_refine.proofs.OnePlaceFollows.{one_place_refines}
-use Rattle.gi_refine.proofs.RulesUsed.{use_followed, uses_replaced as uses_held}
 use Rattle.gi_refine.proofs.Staying.{KeepsWidths, all_seen_untouched, bodies_clear, body_before, get_set_other, get_set_same, phis_before, phis_clear}
-use Rattle.gi_lifting.specs.OnValues.{inputs_of}
 use Rattle.gi_lifting.specs.Placed.{types_in}
 use Rattle.gi_lifting.specs.Replaces.{IsReplacing, in_place_of, replacing_of}
 use Rattle.gi_lifting.specs.Sound.{IsCertainRule, IsSoundRule, Suits}
-use Rattle.gi_lifting.specs.Uses.{IsAt, back_of, front_of, on_values, placing_of, registers_at}
-use Rattle.gi_lifting.proofs.Roots.{inputs-named, root-operands}
+use Rattle.gi_lifting.specs.Uses.{IsAt, back_of, front_of, on_values, placing_of}
+use Rattle.gi_lifting.proofs.Rooted.{NewSide, root-certain, root-follows}
 use Rattle.gi_lifting.proofs.Used.{entry-of, get-within, split-at}
 
 -- ---- what stands where, once uses are replaced
@@ -130,38 +126,10 @@ place-of-rule f rule b id instr hidden = record {
   rename = in_place_of rule b;
 }
 
-rule-replaces : (x : ℕ) (names : List (List ℕ)) (f : FunctionData) (name : ℕ) (root : MatchData) (definitions : List MatchData) (tests : List Test) (replaces : List (ℕ × ℕ)) (b : Binding) (id : ℕ) (instr : InstrData) (flags : ℕ → Flags) (hidden : ℕ → Bool)
+new-side : (x : ℕ) (names : List (List ℕ)) (f : FunctionData) (name : ℕ) (root : MatchData) (definitions : List MatchData) (tests : List Test) (replaces : List (ℕ × ℕ)) (b : Binding) (id : ℕ) (instr : InstrData) (flags : ℕ → Flags) (hidden : ℕ → Bool)
     → IsReplacing x names f (replacing_of name root definitions tests replaces) root b id instr flags hidden
-    → ((w : World) → IsWorld x w → IsSound x w (on_values x f (replacing_of name root definitions tests replaces) b flags))
-    → IsRuleUse x names f (applied x (replacing_of name root definitions tests replaces) b id f) (only_virtual hidden) (only_virtual hidden) (λ w. on_values x f (replacing_of name root definitions tests replaces) b flags)
-    (placing_of f (replacing_of name root definitions tests replaces) b root) (home_of f id) (after_phis (front_of f id)) ((id, instr) ∷ []) []
-rule-replaces x names f name root definitions tests replaces b id instr flags hidden used sound = record {
-  sound = sound;
-  placed = λ w is_world.
-      let ps = inputs_of (root ∷ definitions) in
-      record {
-        old_pure = used.at.pure;
-        new_pure = refl;
-        old_shown = (
-          record {
-            op = used.at.op;
-            flags = used.at.flags_are;
-            mem = used.at.mem;
-            operands = root-operands (setting x names (width_in x f)) w b root.op (map (λ place. Some place) ps) (registers_at b ps) root.slots instr.operands (inputs-named b ps) used.at.plain used.at.named used.at.bound;
-            widths = used.at.wide.0;
-          },
-          tt,
-        );
-        new_shown = tt;
-        old_fresh = used.at.fresh;
-        new_fresh = refl;
-        old_widths = used.at.inputs;
-        new_widths = used.new_inputs;
-        seen = used.seen;
-        covered = used.covered;
-      };
-  known = used.at.known;
-}
+    → NewSide x names f (applied x (replacing_of name root definitions tests replaces) b id f) (on_values x f (replacing_of name root definitions tests replaces) b flags) (placing_of f (replacing_of name root definitions tests replaces) b root) hidden []
+new-side x names f name root definitions tests replaces b id instr flags hidden used = record { pure = refl; shown = λ w. tt; fresh = refl; widths = used.new_inputs; seen = used.seen; covered = used.covered }
 
 replacing-refines : (x : ℕ) (names : List (List ℕ)) (f : FunctionData) (name : ℕ) (root : MatchData) (definitions : List MatchData) (tests : List Test) (replaces : List (ℕ × ℕ)) (b : Binding) (id : ℕ) (instr : InstrData) (flags : ℕ → Flags) (hidden : ℕ → Bool)
     → IsReplacing x names f (replacing_of name root definitions tests replaces) root b id instr flags hidden
@@ -207,8 +175,7 @@ replacing-refines x names f name root definitions tests replaces b id instr flag
           subst (λ o. StaysAt x names f g hidden rename k (slice_get f.blocks k) o)
           (sym (ap (λ (bs : List BlockData). slice_get bs k) blocks ∙ get_set_other (map (block_renamed rename) f.blocks) (home_of f id) k new_body apart ∙ slice_get-map (block_renamed rename) f.blocks k))
           (stays x names f g hidden rename widths k (slice_get f.blocks k) (λ other is. let holds = used.others_hold k apart other is in (used.others_clear k apart other is, holds.0, holds.1)));
-      follows = λ w is_world. use_followed x names f g (only_virtual hidden) (only_virtual hidden) (λ v. on_values x f rule b flags) (placing_of f rule b root) (home_of f id) (after_phis front) ((id, instr) ∷ []) []
-          (AgreeAt s t (λ k. only_virtual hidden)) (rule-replaces x names f name root definitions tests replaces b id instr flags hidden used sound) w is_world;
+      follows = root-follows x names f g name root definitions tests replaces [] b id instr flags hidden [] used.at (new-side x names f name root definitions tests replaces b id instr flags hidden used) sound;
     })
 
 pub sound-replaces : (x : ℕ) (names : List (List ℕ)) (f : FunctionData) (name : ℕ) (root : MatchData) (definitions : List MatchData) (tests : List Test) (replaces : List (ℕ × ℕ)) (b : Binding) (id : ℕ) (instr : InstrData) (flags : ℕ → Flags) (hidden : ℕ → Bool)
@@ -231,21 +198,4 @@ pub certain-behind : (x : ℕ) (names : List (List ℕ)) (f : FunctionData) (nam
     → AllSame state.values (all_grown (placing_of f (replacing_of name root definitions tests replaces) b root).inputs (placing_of f (replacing_of name root definitions tests replaces) b root).old)
     (on_values x f (replacing_of name root definitions tests replaces) b flags).kept
 certain-behind x names f name root definitions tests replaces b id instr flags certain size suits at =
-    let ps = inputs_of (root ∷ definitions) in
-    uses_held x names f (λ v. on_values x f (replacing_of name root definitions tests replaces) b flags) (placing_of f (replacing_of name root definitions tests replaces) b root) (home_of f id) (after_phis (front_of f id)) ((id, instr) ∷ []) (record {
-      certain = λ w is_world. certain.by x w (types_in x f b) b flags size suits;
-      pure = λ w is_world. at.pure;
-      shown = λ w is_world. (
-        record {
-          op = at.op;
-          flags = at.flags_are;
-          mem = at.mem;
-          operands = root-operands (setting x names (width_in x f)) w b root.op (map (λ place. Some place) ps) (registers_at b ps) root.slots instr.operands (inputs-named b ps) at.plain at.named at.bound;
-          widths = at.wide.0;
-        },
-        tt,
-      );
-      fresh = at.fresh;
-      widths = λ w is_world. at.inputs;
-      known = at.known;
-    })
+    root-certain x names f name root definitions tests replaces [] b id instr flags at (λ w is_world. certain.by x w (types_in x f b) b flags size suits)

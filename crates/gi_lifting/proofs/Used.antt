@@ -5,7 +5,6 @@ use Rattle.gi_mir.specs.Data.{InstrData, FunctionData}
 use Rattle.gi_mir.specs.Edit.{IsLive, empty_block, home_block, home_of, instr_of, place_in_block}
 use Rattle.gi_mir.specs.declared.operand.Flags.{Flags}
 use Rattle.gi_mir.proofs.Located.{id_in-live, id_in-within}
-use Rattle.gi_meaning.specs.Runs.{after_phis, setting_of}
 use Rattle.gi_meaning.specs.State.{IsWorld, World}
 use Rattle.gi_pattern.specs.Applying.{applied, line_of, made_at}
 use Rattle.gi_pattern.specs.Data.{MakeData, MatchData, RuleData}
@@ -13,19 +12,17 @@ use Rattle.gi_pattern.specs.InPlace.{with_ids}
 use Rattle.gi_pattern.proofs.InPlace.{blocks-replaced}
 use Rattle.gi_pattern.specs.declared.binding.Binding.{Binding}
 use Rattle.gi_pattern.specs.declared.rule.Test.{Test}
-use Rattle.gi_refine.specs.Agreement.{AgreeAt, setting}
-use Rattle.gi_refine.specs.OnePlace.{only_virtual}
 use Rattle.gi_refine.specs.Refinement.{IsRefinement}
 use Rattle.gi_refine.specs.Replacing.{Replacement}
-use Rattle.gi_refine.specs.RuleUse.{IsRuleUse, width_in}
+use Rattle.gi_refine.specs.RuleUse.{width_in}
 use Rattle.gi_refine.specs.Values.{IsSound}
-use Rattle.gi_refine.proofs.RulesUsed.{use_followed}
 use Rattle.gi_refine.proofs.Staying.{replacement_refines}
 use Rattle.gi_lifting.specs.OnValues.{inputs_of}
 use Rattle.gi_lifting.specs.Placed.{types_in}
 use Rattle.gi_lifting.specs.Sound.{IsSoundRule, Suits}
 use Rattle.gi_lifting.specs.Uses.{IsUsed, back_of, front_of, on_values, placing_of, registers_at, rule_of}
-use Rattle.gi_lifting.proofs.Roots.{inputs-named, root-operands}
+use Rattle.gi_lifting.proofs.Roots.{inputs-named}
+use Rattle.gi_lifting.proofs.Rooted.{NewSide, root-follows}
 use Rattle.gi_lifting.proofs.Shown.{shown-all}
 
 -- ---- the instruction in its block
@@ -60,39 +57,20 @@ replacement_of x f rule b id instr hidden = record {
   hidden = hidden;
 }
 
-rule-used : (x : ℕ) (names : List (List ℕ)) (f : FunctionData) (name : ℕ) (root : MatchData) (definitions : List MatchData) (tests : List Test) (makes : List MakeData) (b : Binding) (id : ℕ) (instr : InstrData) (flags : ℕ → Flags) (hidden : ℕ → Bool)
+new-side : (x : ℕ) (names : List (List ℕ)) (f : FunctionData) (name : ℕ) (root : MatchData) (definitions : List MatchData) (tests : List Test) (makes : List MakeData) (b : Binding) (id : ℕ) (instr : InstrData) (flags : ℕ → Flags) (hidden : ℕ → Bool)
     → IsUsed x names f (rule_of name root definitions tests makes) root b id instr flags hidden
-    → ((w : World) → IsWorld x w → IsSound x w (on_values x f (rule_of name root definitions tests makes) b flags))
-    → IsRuleUse x names f (applied x (rule_of name root definitions tests makes) b id f) (only_virtual hidden) (only_virtual hidden) (λ w. on_values x f (rule_of name root definitions tests makes) b flags)
-    (placing_of f (rule_of name root definitions tests makes) b root) (home_of f id) (after_phis (front_of f id)) ((id, instr) ∷ []) (with_ids f.next_id (made_at x (rule_of name root definitions tests makes) b id f))
-rule-used x names f name root definitions tests makes b id instr flags hidden used sound = record {
-  sound = sound;
-  placed = λ w is_world.
-      let rule = rule_of name root definitions tests makes in
-      let ps = inputs_of rule.matches in
-      record {
-        old_pure = used.at.pure;
-        new_pure = used.new_pure;
-        old_shown = (
-          record {
-            op = used.at.op;
-            flags = used.at.flags_are;
-            mem = used.at.mem;
-            operands = root-operands (setting x names (width_in x f)) w b root.op (map (λ place. Some place) ps) (registers_at b ps) root.slots instr.operands (inputs-named b ps) used.at.plain used.at.named used.at.bound;
-            widths = used.at.wide.0;
-          },
-          tt,
-        );
-        new_shown = shown-all x names (width_in x (applied x rule b id f)) w f b (line_of f id) makes f.next_reg f.next_id b (map (λ place. Some place) ps) (registers_at b ps) (inputs-named b ps) used.placed used.new_wide;
-        old_fresh = used.at.fresh;
-        new_fresh = used.new_fresh;
-        old_widths = used.at.inputs;
-        new_widths = used.new_inputs;
-        seen = used.seen;
-        covered = used.covered;
-      };
-  known = used.at.known;
-}
+    → NewSide x names f (applied x (rule_of name root definitions tests makes) b id f) (on_values x f (rule_of name root definitions tests makes) b flags) (placing_of f (rule_of name root definitions tests makes) b root) hidden
+    (with_ids f.next_id (made_at x (rule_of name root definitions tests makes) b id f))
+new-side x names f name root definitions tests makes b id instr flags hidden used =
+    let ps = inputs_of (root ∷ definitions) in
+    record {
+      pure = used.new_pure;
+      shown = λ w. shown-all x names (width_in x (applied x (rule_of name root definitions tests makes) b id f)) w f b (line_of f id) makes f.next_reg f.next_id b (map (λ place. Some place) ps) (registers_at b ps) (inputs-named b ps) used.placed used.new_wide;
+      fresh = used.new_fresh;
+      widths = used.new_inputs;
+      seen = used.seen;
+      covered = used.covered;
+    }
 
 pub use-refines : (x : ℕ) (names : List (List ℕ)) (f : FunctionData) (name : ℕ) (root : MatchData) (definitions : List MatchData) (tests : List Test) (makes : List MakeData) (b : Binding) (id : ℕ) (instr : InstrData) (flags : ℕ → Flags) (hidden : ℕ → Bool)
     → IsUsed x names f (rule_of name root definitions tests makes) root b id instr flags hidden
@@ -113,9 +91,7 @@ use-refines x names f name root definitions tests makes b id instr flags hidden 
       after_clear = used.back_clear;
       others_clear = used.others_clear;
       widths = used.widths;
-      follows = λ w is_world. use_followed x names f g (only_virtual hidden) (only_virtual hidden) (λ v. on_values x f rule b flags) (placing_of f rule b root) (home_of f id) (after_phis (front_of f id)) ((id, instr) ∷ [])
-          (with_ids f.next_id (made_at x rule b id f)) (AgreeAt (setting_of x names f) (setting_of x names g) (λ k. only_virtual hidden))
-          (rule-used x names f name root definitions tests makes b id instr flags hidden used sound) w is_world;
+      follows = root-follows x names f g name root definitions tests [] makes b id instr flags hidden (with_ids f.next_id (made_at x rule b id f)) used.at (new-side x names f name root definitions tests makes b id instr flags hidden used) sound;
     })
 
 pub sound-refines : (x : ℕ) (names : List (List ℕ)) (f : FunctionData) (name : ℕ) (root : MatchData) (definitions : List MatchData) (tests : List Test) (makes : List MakeData) (b : Binding) (id : ℕ) (instr : InstrData) (flags : ℕ → Flags) (hidden : ℕ → Bool)

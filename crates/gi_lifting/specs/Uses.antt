@@ -19,7 +19,7 @@ use Rattle.gi_refine.specs.Reached.{IsReached}
 use Rattle.gi_refine.specs.Replacing.{any_touches}
 use Rattle.gi_refine.specs.RuleUse.{width_in}
 use Rattle.gi_refine.specs.Values.{Rule, are_pure}
-use Rattle.gi_lifting.specs.Fits.{AreBoundTo, is_plain, uses_named}
+use Rattle.gi_lifting.specs.Fits.{IsBound, is_plain, uses_named}
 use Rattle.gi_lifting.specs.OnValues.{inputs_of, results_of, values_of}
 use Rattle.gi_lifting.specs.Placed.{AllWide, all_placed, registers_made, types_in}
 
@@ -50,14 +50,14 @@ front_of f id = take (place_in_block f id) (home_block f id).instrs
 abbrev pub back_of : FunctionData → ℕ → List (ℕ × InstrData)
 back_of f id = drop (place_in_block f id + 1) (home_block f id).instrs
 
--- The rule fits at the instruction, its operands bound as they are written; its root reads and defines registers alone; and
+-- The rule fits at the instruction, its operands bound as they are written or the other way round; its root reads and defines registers alone; and
 -- in the states that runs reach before it, what the inputs hold fits their widths, and the definitions hold.
 pub record IsAt (x : ℕ) (names : List (List ℕ)) (f : FunctionData) (rule : RuleData) (root : MatchData) (b : Binding) (id : ℕ) (instr : InstrData) (flags : ℕ → Flags) : Type 0 where
   -- the instruction
   pub live : IsLive f id
   pub here : instr_of f id ≡ Some instr
   pub op : instr.op ≡ root.op
-  pub bound : AreBoundTo b root.slots instr.operands
+  pub bound : IsBound b root instr
   pub flags_are : instr.flags ≡ flags 0
   pub mem : instr.mem ≡ None
   -- tests of the rule

@@ -68,7 +68,7 @@ pub fn root_is_bound()
 {}
 
 /// A sound rule that replaces no register refines the function in which it is used, where its operands are bound as they are
-/// written.
+/// written, or the other way round where its root's operation commutes.
 pub fn used_rule_refines()
     ensures { (x : ℕ) (names : List (List ℕ)) (f : FunctionData) (name : ℕ) (root : MatchData) (definitions : List MatchData) (tests : List Test) (makes : List MakeData) (b : Binding) (id : ℕ) (instr : InstrData) (flags : ℕ → Flags) (hidden : ℕ → Bool)
         → IsSoundRule (rule_of name root definitions tests makes)
@@ -78,8 +78,8 @@ pub fn used_rule_refines()
         → IsRefinement x names f (applied x (rule_of name root definitions tests makes) b id f) }
 {}
 
-/// So does one that replaces registers and makes nothing, where its operands are bound as they are written, and each register
-/// has the value of what replaces it wherever runs use it elsewhere.
+/// So does one that replaces registers and makes nothing, where besides each register has the value of what replaces it wherever
+/// runs use it elsewhere.
 pub fn replacing_rule_refines()
     ensures { (x : ℕ) (names : List (List ℕ)) (f : FunctionData) (name : ℕ) (root : MatchData) (definitions : List MatchData) (tests : List Test) (replaces : List (ℕ × ℕ)) (b : Binding) (id : ℕ) (instr : InstrData) (flags : ℕ → Flags) (hidden : ℕ → Bool)
         → IsSoundRule (replacing_of name root definitions tests replaces)
