@@ -1,17 +1,20 @@
 -- A rule used at a root, its operands bound as they are written or the other way round.
-use Rattle.std.proofs.Common.{◌≡◌, inl, inr, ℕ, suc, ◌==◌, ◌||◌, Bool, true, false, List, [], ◌∷◌, ◌++◌, Option, Some, flat_map, map, refl, sym, subst, ap, ◌∙◌}
+use Rattle.std.proofs.Common.{◌≡◌, inl, inr, ⊎_elim, ℕ, suc, ◌==◌, ◌||◌, Bool, true, false, List, [], ◌∷◌, ◌++◌, Option, Some, None, flat_map, map, refl, sym, subst, ap, ◌∙◌}
 use Rattle.gi_mir.specs.Data.{InstrData, FunctionData}
-use Rattle.gi_mir.specs.Edit.{home_of}
+use Rattle.gi_mir.specs.Edit.{home_of, instr_of}
 use Rattle.gi_mir.specs.declared.operand.Flags.{Flags}
 use Rattle.gi_mir.specs.declared.operand.Operand.{Operand}
 use Rattle.gi_mir.specs.declared.operand.Operand.TheVariants as operand
 use Rattle.gi_meaning.specs.Runs.{after_phis, setting_of, Setting}
 use Rattle.gi_meaning.specs.State.{IsWorld, Place, State, Virtual, Physical, World}
-use Rattle.gi_pattern.specs.Data.{MakeData, MatchData, RuleData}
-use Rattle.gi_pattern.specs.Fitting.{exchanged}
+use Rattle.gi_pattern.specs.Data.{MakeData, MatchData}
+use Rattle.gi_pattern.specs.Fitting.{binding_at, exchanged, found, is_commutative}
 use Rattle.gi_pattern.specs.Making.{register_or}
 use Rattle.gi_pattern.specs.declared.binding.Binding.{Binding}
+use Rattle.gi_pattern.specs.Binding.{empty_binding}
 use Rattle.gi_pattern.specs.declared.rule.Slot.{Slot}
+use Rattle.gi_pattern.specs.declared.rule.Slot.TheVariants as slot
+use Rattle.gi_lifting.proofs.Fits.{root-fits}
 use Rattle.gi_pattern.specs.declared.rule.Test.{Test}
 use Rattle.gi_refine.specs.Agreement.{Agree, AgreeAt, setting}
 use Rattle.gi_refine.specs.Lifting.{AllSame, AllShow, AreThere, IsKnown, Placing, ShowsOperands, all_grown, are_all_fresh, left_hidden, none_hidden}
@@ -22,17 +25,11 @@ use Rattle.gi_refine.specs.Simulation.{IsFollowed}
 use Rattle.gi_refine.specs.Values.{At, IsCertain, IsSound, Operation, Rule, Slot as Taken, are_pure}
 use Rattle.gi_refine.proofs.RulesUsed.{use_followed, uses_replaced as uses_held}
 use Rattle.gi_lifting.specs.Fits.{IsBound}
-use Rattle.gi_lifting.specs.OnValues.{Names, asked, inputs_of, position, results_of, taken_for}
+use Rattle.gi_lifting.specs.OnValues.{asked, inputs_of, position, results_of, taken_for}
 use Rattle.gi_lifting.specs.Placed.{types_in}
-use Rattle.gi_lifting.specs.Uses.{IsAt, front_of, on_values, placing_of, registers_at}
+use Rattle.gi_lifting.specs.Uses.{IsAt, front_of, on_values, placing_of, registers_at, rule_with}
 use Rattle.gi_lifting.proofs.Exchanged.{certain-turned, sound-turned}
 use Rattle.gi_lifting.proofs.Roots.{inputs-named, root-operands}
-
-abbrev pub rule_with : (name : ℕ) → MatchData → List MatchData → List Test → List (ℕ × ℕ) → List MakeData → RuleData
-rule_with name root definitions tests replaces makes = record { name = name; matches = root ∷ definitions; tests = tests; replaces = replaces; makes = makes }
-
-abbrev pub named_by : RuleData → Names
-named_by rule = map (λ place. Some place) (inputs_of rule.matches)
 
 -- ---- two operands the other way round
 
@@ -199,3 +196,32 @@ root-certain x names f name root definitions tests replaces makes b id instr fla
       widths = λ v is. at.inputs;
       known = old.known;
     })
+
+-- ---- what a rule finds of its root
+
+pub fitting-bound : (f : FunctionData) (name : ℕ) (root : MatchData) (definitions : List MatchData) (tests : List Test) (replaces : List (ℕ × ℕ)) (makes : List MakeData) (b : Binding) (id result left right : ℕ)
+    → root.slots ≡ slot.Def result ∷ slot.Use left ∷ slot.Use right ∷ []
+    → binding_at f (rule_with name root definitions tests replaces makes) id ≡ Some b
+    → (instr : InstrData) × (instr_of f id ≡ Some instr) × (instr.op ≡ root.op) × IsBound b root instr
+fitting-bound f name root definitions tests replaces makes b id result left right slots fits = by (instr_of f id) refl fits
+  where
+    by : (o : Option InstrData) → instr_of f id ≡ o → found f tests (root ∷ definitions) o empty_binding ≡ Some b → (instr : InstrData) × (instr_of f id ≡ Some instr) × (instr.op ≡ root.op) × IsBound b root instr
+    by None e h = cc
+    by (Some i) e h =
+        let (op, bound) = root-fits f tests root definitions i empty_binding b h in
+        (i, e, op, ⊎_elim (λ written. inl written) (λ other. inr (record { result = result; left = left; right = right; slots = slots; commutes = other.0; bound = other.1 })) bound)
+
+both : (c : Bool) → c ≡ false → c ≡ true → ⊥
+both c g h = cc
+
+pub fitting-written : (f : FunctionData) (name : ℕ) (root : MatchData) (definitions : List MatchData) (tests : List Test) (replaces : List (ℕ × ℕ)) (makes : List MakeData) (b : Binding) (id : ℕ)
+    → is_commutative root.op ≡ false
+    → binding_at f (rule_with name root definitions tests replaces makes) id ≡ Some b
+    → (instr : InstrData) × (instr_of f id ≡ Some instr) × (instr.op ≡ root.op) × IsBound b root instr
+fitting-written f name root definitions tests replaces makes b id apart fits = by (instr_of f id) refl fits
+  where
+    by : (o : Option InstrData) → instr_of f id ≡ o → found f tests (root ∷ definitions) o empty_binding ≡ Some b → (instr : InstrData) × (instr_of f id ≡ Some instr) × (instr.op ≡ root.op) × IsBound b root instr
+    by None e h = cc
+    by (Some i) e h =
+        let (op, bound) = root-fits f tests root definitions i empty_binding b h in
+        (i, e, op, ⊎_elim (λ written. inl written) (λ other. absurd (both (is_commutative root.op) apart other.0)) bound)

@@ -23,7 +23,11 @@ use Rattle.gi_lifting.specs.Fits.{IsBound, is_plain, uses_named}
 use Rattle.gi_lifting.specs.OnValues.{inputs_of, results_of, values_of}
 use Rattle.gi_lifting.specs.Placed.{AllWide, all_placed, registers_made, types_in}
 
--- a rule with this root that replaces no register
+-- a rule with this root
+abbrev pub rule_with : (name : ℕ) → MatchData → List MatchData → List Test → (replaces : List (ℕ × ℕ)) → List MakeData → RuleData
+rule_with name root definitions tests replaces makes = record { name = name; matches = root ∷ definitions; tests = tests; replaces = replaces; makes = makes }
+
+-- one that replaces no register
 abbrev pub rule_of : (name : ℕ) → MatchData → List MatchData → List Test → List MakeData → RuleData
 rule_of name root definitions tests makes = record { name = name; matches = root ∷ definitions; tests = tests; replaces = []; makes = makes }
 

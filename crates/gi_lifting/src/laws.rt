@@ -1,8 +1,8 @@
 //! Which rules are sound, and what is promised of their use.
 
-ghost use Rattle.std.specs.Prelude.{◌≡◌, ◌⊎◌, ℕ, Bool, List, ◌∷◌, ◌++◌, [], Option, Some, true, slice_get};
+ghost use Rattle.std.specs.Prelude.{◌≡◌, ◌⊎◌, ℕ, Bool, List, ◌∷◌, ◌++◌, [], Option, Some, false, true, slice_get};
 ghost use Rattle.gi_mir.specs.Data.{BlockData, FunctionData, InstrData};
-ghost use Rattle.gi_mir.specs.Edit.{home_of};
+ghost use Rattle.gi_mir.specs.Edit.{home_of, instr_of};
 ghost use Rattle.gi_mir.specs.declared.operand.Flags.{Flags};
 ghost use Rattle.gi_refine.specs.Refinement.{IsRefinement};
 ghost use Rattle.gi_meaning.specs.State.{IsWorld, Returned, State, World};
@@ -20,9 +20,10 @@ ghost use Rattle.gi_meaning.specs.Runs.{after_phis, setting_of};
 ghost use Rattle.gi_pattern.specs.Applying.{applied};
 ghost use Rattle.gi_pattern.specs.Data.{MakeData, MatchData};
 ghost use Rattle.gi_pattern.specs.Fitting.{binding_at, exchanged, found, is_commutative};
+ghost use Rattle.gi_pattern.specs.declared.rule.Slot.TheVariants as slot;
 ghost use Rattle.gi_pattern.specs.declared.rule.Test.{Test};
-ghost use Rattle.gi_lifting.specs.Fits.{AreBoundTo};
-ghost use Rattle.gi_lifting.specs.Uses.{IsAt, IsUsed, front_of, on_values, placing_of, rule_of};
+ghost use Rattle.gi_lifting.specs.Fits.{AreBoundTo, IsBound};
+ghost use Rattle.gi_lifting.specs.Uses.{IsAt, IsUsed, front_of, on_values, placing_of, rule_of, rule_with};
 ghost use Rattle.gi_lifting.specs.Replaces.{IsReplacing, replacing_of};
 ghost use Rattle.gi_pattern.specs.InPlace.{with_ids};
 ghost use Rattle.gi_pattern.specs.Making.{all_made as instrs_made};
@@ -65,6 +66,19 @@ pub fn root_is_bound()
     ensures { (f : FunctionData) (tests : List Test) (m : MatchData) (ms : List MatchData) (i : InstrData) (b c : Binding)
         → found f tests (m ∷ ms) (Some i) b ≡ Some c
         → (i.op ≡ m.op) × (AreBoundTo c m.slots i.operands ⊎ ((is_commutative m.op ≡ true) × AreBoundTo c m.slots (exchanged i.operands))) }
+{}
+
+/// Where a rule fits, its root is bound in one of the ways in which a use asks for it: if it has one result and two operands,
+/// or doesn't commute.
+pub fn fitting_root_is_bound()
+    ensures in_either_order { (f : FunctionData) (name : ℕ) (root : MatchData) (definitions : List MatchData) (tests : List Test) (replaces : List (ℕ × ℕ)) (makes : List MakeData) (b : Binding) (id result left right : ℕ)
+        → root.slots ≡ slot.Def result ∷ slot.Use left ∷ slot.Use right ∷ []
+        → binding_at f (rule_with name root definitions tests replaces makes) id ≡ Some b
+        → (instr : InstrData) × (instr_of f id ≡ Some instr) × (instr.op ≡ root.op) × IsBound b root instr }
+    ensures as_written { (f : FunctionData) (name : ℕ) (root : MatchData) (definitions : List MatchData) (tests : List Test) (replaces : List (ℕ × ℕ)) (makes : List MakeData) (b : Binding) (id : ℕ)
+        → is_commutative root.op ≡ false
+        → binding_at f (rule_with name root definitions tests replaces makes) id ≡ Some b
+        → (instr : InstrData) × (instr_of f id ≡ Some instr) × (instr.op ≡ root.op) × IsBound b root instr }
 {}
 
 /// A sound rule that replaces no register refines the function in which it is used, where its operands are bound as they are
