@@ -12,4 +12,5 @@ pub mod Roots
 pub mod Rows
 pub mod Rules
 pub mod Shown
+pub mod TurnedExample
 pub mod Used

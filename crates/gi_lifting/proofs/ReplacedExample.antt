@@ -80,13 +80,13 @@ sum_is_summand : (w : World) → IsWorld 32 w → (state : State) → IsReached 
 sum_is_summand w is_world state reached =
     (certain-behind 32 names plus_zero 5 root definitions (Is 0 (pos 0) ∷ []) ((0, 1) ∷ []) plus_zero_bound 2 sum.1 (λ k. no_flags) sum_with_zero_certain (inl refl) suited stands w is_world state reached).0
 
-first_is : (a i : ℕ × InstrData) (rest back : List (ℕ × InstrData)) → a ∷ rest ≡ i ∷ back → a ≡ i
+pub first_is : (a i : ℕ × InstrData) (rest back : List (ℕ × InstrData)) → a ∷ rest ≡ i ∷ back → a ≡ i
 first_is a i rest back h = cc
 
-second_is : (a c b i : ℕ × InstrData) (rest back : List (ℕ × InstrData)) → a ∷ b ∷ rest ≡ c ∷ i ∷ back → b ≡ i
+pub second_is : (a c b i : ℕ × InstrData) (rest back : List (ℕ × InstrData)) → a ∷ b ∷ rest ≡ c ∷ i ∷ back → b ≡ i
 second_is a c b i rest back h = cc
 
-too_long : (a b c d : ℕ × InstrData) (front : List (ℕ × InstrData)) (i : ℕ × InstrData) (back : List (ℕ × InstrData)) → a ∷ b ∷ [] ≡ c ∷ d ∷ (front ++ (i ∷ back)) → ⊥
+pub too_long : (a b c d : ℕ × InstrData) (front : List (ℕ × InstrData)) (i : ℕ × InstrData) (back : List (ℕ × InstrData)) → a ∷ b ∷ [] ≡ c ∷ d ∷ (front ++ (i ∷ back)) → ⊥
 too_long a b c d [] i back h = cc
 too_long a b c d (e ∷ front) i back h = cc
 

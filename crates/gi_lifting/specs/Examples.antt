@@ -44,3 +44,17 @@ plus_zero_bound = record {
   values = Some (record { bits = 32; number = pos 0 }) ∷ None ∷ None ∷ None ∷ [];
   pred = None;
 }
+
+-- 0 + x10
+abbrev pub zero_plus : FunctionData
+zero_plus = record (function_of (block_of []
+    (numbered 0 (copy_in 0 10 s32)
+    ∷ numbered 1 (constant_in 1 32 0 s32)
+    ∷ numbered 2 (of_two op.GenericAdd 2 s32 1 0)
+    ∷ numbered 3 (copy_out 10 2)
+    ∷ numbered 4 (return_of 10)
+    ∷ []) ∷ [])) { next_reg = 3; next_id = 5 }
+
+-- what the sum with zero binds at its third instruction, whose operands it finds the other way round
+abbrev pub zero_plus_bound : Binding
+zero_plus_bound = plus_zero_bound

@@ -15,7 +15,7 @@ ghost use Rattle.gi_refine.specs.Reached.{IsReached};
 ghost use Rattle.gi_refine.specs.RuleUse.{width_in};
 ghost use Rattle.gi_refine.specs.TestedUse.{AreConstants, ConstantInput, constant_facts, takes_all};
 ghost use Rattle.gi_refine.specs.Values.{Rule};
-ghost use Rattle.gi_lifting.specs.Examples.{less_five, less_five_bound, plus_zero, plus_zero_bound};
+ghost use Rattle.gi_lifting.specs.Examples.{zero_plus, zero_plus_bound, less_five, less_five_bound, plus_zero, plus_zero_bound};
 ghost use Rattle.gi_meaning.specs.Runs.{after_phis, setting_of};
 ghost use Rattle.gi_pattern.specs.Applying.{applied};
 ghost use Rattle.gi_pattern.specs.Data.{MakeData, MatchData};
@@ -127,10 +127,14 @@ pub fn tests_make_known()
         → (w : World) → IsWorld x w → (state : State) → IsReached (setting_of x names f) w f.blocks b before state → IsKnown (setting_of x names f) w rule registers state }
 {}
 
-/// Rules used in whole functions: the difference with a constant becomes a sum, and the uses of a sum with zero are replaced.
+/// Rules used in whole functions: the difference with a constant becomes a sum, and the uses of a sum with zero, which stands on
+/// either side, are replaced.
 pub fn rules_are_used()
     ensures fits { binding_at less_five difference_with_constant 2 ≡ Some less_five_bound }
     ensures refines { IsRefinement 32 names less_five (applied 32 difference_with_constant less_five_bound 2 less_five) }
+    ensures turned_fits { binding_at zero_plus sum_with_zero 2 ≡ Some zero_plus_bound }
+    ensures turned_refines { IsRefinement 32 names zero_plus (applied 32 sum_with_zero zero_plus_bound 2 zero_plus) }
+    ensures turned_returns { ComesTo 32 names zero_plus (world_of 7 0 0 []) 1 (Returned (7 ∷ []) counting 0) }
     ensures replaced_fits { binding_at plus_zero sum_with_zero 2 ≡ Some plus_zero_bound }
     ensures replaced_refines { IsRefinement 32 names plus_zero (applied 32 sum_with_zero plus_zero_bound 2 plus_zero) }
     ensures replaced_returns { ComesTo 32 names plus_zero (world_of 7 0 0 []) 1 (Returned (7 ∷ []) counting 0) }
