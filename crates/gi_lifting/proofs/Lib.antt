@@ -3,6 +3,7 @@ pub mod Examples
 pub mod Exchanged
 pub mod Fits
 pub mod Known
+pub mod Parts
 pub mod Positions
 pub mod Powers
 pub mod Replaced

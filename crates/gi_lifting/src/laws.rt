@@ -30,7 +30,7 @@ ghost use Rattle.gi_pattern.specs.Making.{all_made as instrs_made};
 ghost use Rattle.gi_pattern.specs.declared.binding.Binding.{Binding};
 ghost use Rattle.gi_lifting.specs.OnValues.{Names, all_made};
 ghost use Rattle.gi_lifting.specs.Placed.{AllWide, AreNamed, all_placed, registers_made, types_in};
-ghost use Rattle.gi_pattern.specs.Examples.{difference_of_same, difference_with_constant, product_by_power, remainder_by_power, sum_with_zero, truncated_extension};
+ghost use Rattle.gi_pattern.specs.Examples.{difference_of_same, difference_with_constant, product_by_power, remainder_by_power, sum_with_zero, truncated_extension, unmerged_pair};
 ghost use Rattle.gi_lifting.specs.Sound.{IsCertainRule, IsSoundRule, Suits};
 
 /// Each of these rules is sound: in every world, for all types that its instructions accept, for all numbers with which it
@@ -42,12 +42,14 @@ pub fn example_rules_are_sound()
     ensures difference_with_constant { IsSoundRule difference_with_constant }
     ensures remainder_by_power { IsSoundRule remainder_by_power }
     ensures truncated_extension { IsSoundRule truncated_extension }
+    ensures unmerged_pair { IsSoundRule unmerged_pair }
 {}
 
 /// Where one of these fits, the root's result has the value of what replaces it.
 pub fn example_replacements_are_certain()
     ensures sum_with_zero { IsCertainRule sum_with_zero }
     ensures truncated_extension { IsCertainRule truncated_extension }
+    ensures unmerged_pair { IsCertainRule unmerged_pair }
 {}
 
 /// What a rule makes shows the operations of the rule on values, on the registers that it defines: where the rule's
