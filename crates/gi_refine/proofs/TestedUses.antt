@@ -13,7 +13,7 @@ use Rattle.gi_refine.specs.Values.{Environment, Slot, AllHold, Rule}
 use Rattle.gi_refine.proofs.ConstantsHeld.{constant_where_reached, constant_fact}
 use Rattle.gi_refine.proofs.Fitted.{fit_where_reached, fit_sized}
 
-pub taken_there : (slots : List Slot) (values : ℕ → Option ℕ) (place : ℕ) (rs : List ℕ) → takes_all slots place rs ≡ true → AreThere slots values place rs
+taken_there : (slots : List Slot) (values : ℕ → Option ℕ) (place : ℕ) (rs : List ℕ) → takes_all slots place rs ≡ true → AreThere slots values place rs
 taken_there slots values place [] h = tt
 taken_there slots values place (r ∷ rs) h = (
   (λ not_taken. both_ways (takes place slots) (values r) (and_parts (takes place slots) (takes_all slots (suc place) rs) h).0 not_taken),
@@ -24,7 +24,7 @@ taken_there slots values place (r ∷ rs) h = (
     both_ways true v h g = cc
     both_ways false v h g = cc
 
-pub constants_held : (s : Setting) (w : World) (blocks : List BlockData) (b : ℕ) (block : BlockData) (before back : List (ℕ × InstrData)) → slice_get blocks b ≡ Some block → after_phis block.instrs ≡ before ++ back
+constants_held : (s : Setting) (w : World) (blocks : List BlockData) (b : ℕ) (block : BlockData) (before back : List (ℕ × InstrData)) → slice_get blocks b ≡ Some block → after_phis block.instrs ≡ before ++ back
     → (state : State) → IsReached s w blocks b before state → (registers : List ℕ) (env : Environment) → Reads s.width state.values registers env → (cs : List ConstantInput) → AreConstants registers blocks cs
     → AllHold s.x w (outside_of state) env (constant_facts s.width cs)
 constants_held s w blocks b block before back here splits state reached registers env reads [] hold = tt
