@@ -1,4 +1,5 @@
 pub mod Finding
+pub mod Front
 pub mod Growing
 pub mod KindLemmas
 pub mod Letters

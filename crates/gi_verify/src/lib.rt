@@ -12,6 +12,8 @@ mod physical;
 mod reached;
 mod registers;
 mod site;
+#[cfg(test)]
+mod tests;
 mod typing;
 mod uses;
 mod verifying;
