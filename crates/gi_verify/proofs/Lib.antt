@@ -5,5 +5,6 @@ pub mod KindLemmas
 pub mod Letters
 pub mod Marking
 pub mod Missing
+pub mod Placing
 pub mod Told
 pub mod Unmet
