@@ -6,5 +6,6 @@ pub mod Letters
 pub mod Marking
 pub mod Missing
 pub mod Placing
+pub mod Same
 pub mod Told
 pub mod Unmet

@@ -5,6 +5,7 @@ mod available;
 mod blocks;
 mod definitions;
 mod ends;
+mod laws;
 mod lowest;
 mod mismatch;
 mod operands;
@@ -18,4 +19,5 @@ mod typing;
 mod uses;
 mod verifying;
 
+pub use laws::one_fault_is_told;
 pub use verifying::{VerifyError, verify};
