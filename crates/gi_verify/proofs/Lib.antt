@@ -1,3 +1,4 @@
+pub mod Backwards
 pub mod Finding
 pub mod Front
 pub mod Growing
