@@ -1,4 +1,5 @@
 pub mod FormedMade
+pub mod InPlace
 pub mod KindFound
 pub mod NormalForms
 pub mod Numbers

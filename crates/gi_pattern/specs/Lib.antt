@@ -3,5 +3,6 @@ pub mod Binding
 pub mod Data
 pub mod Examples
 pub mod Fitting
+pub mod InPlace
 pub mod Making
 pub mod NormalForms
