@@ -1,0 +1,6 @@
+pub mod Faultless
+pub mod Frames
+pub mod Listed
+pub mod Single
+pub mod Sites
+pub mod Typed
