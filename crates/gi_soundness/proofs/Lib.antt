@@ -1,3 +1,5 @@
+pub mod Accounted
+pub mod Across
 pub mod Faultless
 pub mod Frames
 pub mod Listed

@@ -1,9 +1,10 @@
 //! What a rewriting keeps, fault by fault.
 
-ghost use Rattle.std.specs.Prelude.{◌≡◌, []};
+ghost use Rattle.std.specs.Prelude.{◌≡◌, [], ℕ};
 ghost use Rattle.gi_mir.specs.Data.{FunctionData};
-ghost use Rattle.gi_valid.specs.Faults.{double_definitions, phi_entries, sites, terminator, told, unknown_block, unknown_successors};
-ghost use Rattle.gi_soundness.specs.Conditions.{ArePlain, DefinesAnew};
+ghost use Rattle.gi_valid.specs.Faults.{double_definitions, phi_entries, physical_across, sites, terminator, told, type_mismatch, unknown_block, unknown_successors};
+ghost use Rattle.gi_valid.specs.Typing.{Phase};
+ghost use Rattle.gi_soundness.specs.Conditions.{AccountsForResults, ArePlain, DefinesAnew, KeepsTypes, MakesNoCall};
 ghost use Rattle.gi_soundness.specs.Rewriting.{IsRewritten, Rewriting};
 
 /// No register comes to be defined twice.
@@ -25,4 +26,16 @@ pub fn phis_stay_first()
 /// Terminators stand last in their blocks, and go to successors.
 pub fn terminators_stay_last()
     ensures { (w : Rewriting) (f g : FunctionData) → IsRewritten w f g → ArePlain w → told (terminator f) (sites f) ≡ [] → told (terminator g) (sites g) ≡ [] }
+{}
+
+/// Types meet the rows of their instructions.
+pub fn types_stay_met()
+    ensures { (x : ℕ) (phase : Phase) (w : Rewriting) (f g : FunctionData) → IsRewritten w f g → DefinesAnew w f → AccountsForResults w f → KeepsTypes x phase w f g → double_definitions f ≡ []
+        → told (type_mismatch x phase f) (sites f) ≡ [] → told (type_mismatch x phase g) (sites g) ≡ [] }
+{}
+
+/// No physical register comes to be used behind what may overwrite it.
+pub fn physical_registers_stay()
+    ensures { (x : ℕ) (phase : Phase) (w : Rewriting) (f g : FunctionData) → IsRewritten w f g → ArePlain w → DefinesAnew w f → AccountsForResults w f → KeepsTypes x phase w f g → MakesNoCall x phase w g → double_definitions f ≡ []
+        → told (physical_across x phase f) (sites f) ≡ [] → told (physical_across x phase g) (sites g) ≡ [] }
 {}
