@@ -1,8 +1,11 @@
 pub mod Accounted
 pub mod Across
+pub mod Circles
 pub mod Faultless
 pub mod Frames
 pub mod Listed
 pub mod Single
+pub mod Staying
 pub mod Sites
+pub mod Stepwise
 pub mod Typed

@@ -223,6 +223,11 @@ site_inside f b front p back site =
 among_front : (p : ℕ × InstrData) (front rest : List (ℕ × InstrData)) → IsOneOf p front → IsOneOf p (front ++ rest)
 among_front p front rest there = inside p front rest (inl there)
 
+-- so is one in front of it
+pub front_inside : (f : FunctionData) (b : ℕ) (front : List (ℕ × InstrData)) (p : ℕ × InstrData) (back : List (ℕ × InstrData)) → IsSite f b front p back → (q : ℕ × InstrData) → IsOneOf q front → IsOneOf q (all_instrs f.blocks)
+front_inside f b front p back site q there =
+    inside_blocks f.blocks b site.block site.found q (subst (λ l. IsOneOf q l) (sym site.splits) (inside q front (p ∷ back) (inl there)))
+
 -- the root is the one with its id in front of a site, and behind it
 pub site_own : (w : Rewriting) (f g : FunctionData) → IsRewritten w f g → (b : ℕ) (front : List (ℕ × InstrData)) (p : ℕ × InstrData) (back : List (ℕ × InstrData)) → IsSite f b front p back
     → ((q : ℕ × InstrData) → IsOneOf q front → (q.0 == w.root.0) ≡ true → q ≡ w.root) × ((q : ℕ × InstrData) → IsOneOf q back → (q.0 == w.root.0) ≡ true → q ≡ w.root)
