@@ -105,6 +105,34 @@ site_in_body f b test h = by (slice_get f.blocks b) refl
         let split : IsSplit test block.instrs = split_at test block.instrs (sym (ap (λ (k : BlockData). list_any test k.instrs) (body_is f b block so)) ∙ h) in
         record { front = split.front; instr = split.instr; back = split.back; site = record { block = block; found = so; splits = split.splits }; passes = split.passes }
 
+-- where an instruction of a function stands
+pub record HasPlace (f : FunctionData) (i : ℕ × InstrData) : Type 0 where
+  pub block : ℕ
+  pub front : List (ℕ × InstrData)
+  pub back : List (ℕ × InstrData)
+  pub site : IsSite f block front i back
+
+pub one_of_either : (i : ℕ × InstrData) (xs ys : List (ℕ × InstrData)) → IsOneOf i (xs ++ ys) → IsOneOf i xs ⊎ IsOneOf i ys
+one_of_either i [] ys there = inr there
+one_of_either i (x ∷ xs) ys there =
+    ⊎_elim (λ same. inl (inl same)) (λ later. ⊎_elim (λ l. inl (inr l)) (λ l. inr l) (one_of_either i xs ys later)) there
+
+pub split_one : (i : ℕ × InstrData) (is : List (ℕ × InstrData)) → IsOneOf i is → (front : List (ℕ × InstrData)) × (back : List (ℕ × InstrData)) × (is ≡ front ++ i ∷ back)
+split_one i [] there = absurd there
+split_one i (k ∷ is) there =
+    ⊎_elim (λ same. ([], is, ap (λ l. l ∷ is) (sym same))) (λ later. let (front, back, splits) = split_one i is later in (k ∷ front, back, ap (λ l. k ∷ l) splits)) there
+
+place_in : (i : ℕ × InstrData) (blocks : List BlockData) → IsOneOf i (all_instrs blocks) → (b : ℕ) × (block : BlockData) × (slice_get blocks b ≡ Some block) × IsOneOf i block.instrs
+place_in i [] there = absurd there
+place_in i (k ∷ blocks) there =
+    ⊎_elim (λ now. (0, k, refl, now)) (λ later. let (b, block, found, own) = place_in i blocks later in (suc b, block, found, own)) (one_of_either i k.instrs (all_instrs blocks) there)
+
+pub site_of_one : (f : FunctionData) (i : ℕ × InstrData) → IsOneOf i (all_instrs f.blocks) → HasPlace f i
+site_of_one f i there =
+    let (b, block, found, own) = place_in i f.blocks there in
+    let (front, back, splits) = split_one i block.instrs own in
+    record { block = b; front = front; back = back; site = record { block = block; found = found; splits = splits } }
+
 -- ══ Definitions ══
 
 joining_is : (flags : Flags) (o : Opcode) → is_joining (meaning_of flags o) ≡ is_phi_op o
@@ -243,7 +271,7 @@ none_step f great k d loop b front i back site none z c =
         let own : (is_pure i.1 ≡ true) × (uses next.next i ≡ true) = purely_at f k.once z next.next next.used i (site_inside f b front i back site) defined in
         true≢false (sym (use_at f great k b front i back site (pure_is_no_phi i.1 own.0) next.next own.1) ∙ none next.next next.rest)
     by (ByStaying there kept) = true≢false (sym there ∙ none z c)
-    by (ByPhi defined phis there) = true≢false (sym there ∙ none z c)
+    by (ByPhi phi defined phis there) = true≢false (sym there ∙ none z c)
 
 none_at_start : (f : FunctionData) (great : ℕ → Extent) (d b : ℕ) → ((z : ℕ) → IsComputedFrom f z d → (great z).starts b ≡ false) → NoneHere f great d b []
 none_at_start f great d b none z c = ap (λ t. false || (t && true)) (none z c)

@@ -1,9 +1,11 @@
 pub mod Accounted
 pub mod Across
 pub mod Circles
+pub mod Computed
 pub mod Faultless
 pub mod Frames
 pub mod Listed
+pub mod Origins
 pub mod Single
 pub mod Staying
 pub mod Sites

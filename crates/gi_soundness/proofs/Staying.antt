@@ -155,7 +155,7 @@ follow_step f great k d y purely b front i back site follows h = by (came_by d (
         stays_behind y (great y).origins ((great y).starts b || (great d).starts b) front i first (follows there)
         (takes_none (great y).origins i (λ e defined origin.
         true≢false (sym (takes_origin (great d).origins e i defined ((k.greatest d).contained.computed e (computed_on f d y e direct ((k.greatest y).alone e origin)))) ∙ kept)))
-    by (ByPhi defined phis there) =
+    by (ByPhi phi defined phis there) =
         let one : HasPhi d front = phi_in d front phis defined in
         let own : (is_pure one.phi.1 ≡ true) × (uses y one.phi ≡ true) = purely_at f k.once d y purely one.phi (front_inside f b front i back site one.phi one.among) one.own in
         absurd (true≢false (sym one.joins ∙ pure_is_no_phi one.phi.1 own.0))

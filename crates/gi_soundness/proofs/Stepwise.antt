@@ -67,7 +67,7 @@ behind_other r origins here front i rest other = by (are_phis front) refl
 pub data CameBy (r : ℕ) (origins : ℕ → Bool) (here : Bool) (front : List (ℕ × InstrData)) (i : ℕ × InstrData) : Type 0 where
   ByDefinition : defines r i ≡ true → CameBy r origins here front i
   ByStaying : behind r origins here front ≡ true → defines_origin origins i ≡ false → CameBy r origins here front i
-  ByPhi : list_any (defines r) front ≡ true → are_phis front ≡ true → behind r origins here front ≡ true → CameBy r origins here front i
+  ByPhi : is_phi i.1 ≡ true → list_any (defines r) front ≡ true → are_phis front ≡ true → behind r origins here front ≡ true → CameBy r origins here front i
 
 abbrev at_one : (r : ℕ) (origins : ℕ → Bool) (here : Bool) (i : ℕ × InstrData) → Bool
 at_one r origins here i = at_once r origins here (i ∷ [])
@@ -107,7 +107,7 @@ came_by r origins here front i first h = by (is_phi i.1) refl
         let parts : ((D || (defines r i || false)) || (here && not (O || (defines_origin origins i || false)))) ≡ true =
         sym (ap₂ (λ a b. a || (here && not b)) (list_any-append (defines r) front (i ∷ [])) (list_any-append (defines_origin origins) front (i ∷ []))) ∙ now in
         ⊎_elim
-        (λ defined. ⊎_elim (λ d. ByPhi d all (behind_phis r origins here front all ∙ or_left D (here && not O) d)) (λ d. ByDefinition d) defined)
+        (λ defined. ⊎_elim (λ d. ByPhi so d all (behind_phis r origins here front all ∙ or_left D (here && not O) d)) (λ d. ByDefinition d) defined)
         (λ kept. ByStaying (behind_phis r origins here front all ∙ or_right D (here && not O) kept.0) kept.1)
         (spread D (defines r i) here O (defines_origin origins i) parts)
 
@@ -145,3 +145,37 @@ defined_or_there r origins here (i ∷ is) h =
     ⊎_elim (λ later. inl (or_right (defines r i) (list_any (defines r) is) later))
     (λ now. ⊎_elim (λ d. inl (or_left (defines r i) (list_any (defines r) is) d)) (λ k. inr k.0) (came_one r origins here i now))
     (defined_or_there r origins (at_one r origins here i) is h)
+
+-- ══ Forward ══
+
+pub defined_behind : (r : ℕ) (origins : ℕ → Bool) (here : Bool) (front : List (ℕ × InstrData)) (i : ℕ × InstrData) → (is_phi i.1 ≡ true → are_phis front ≡ true) → defines r i ≡ true → behind r origins here (front ++ i ∷ []) ≡ true
+defined_behind r origins here front i first own = by (is_phi i.1) refl
+  where
+    by : (t : Bool) → is_phi i.1 ≡ t → behind r origins here (front ++ i ∷ []) ≡ true
+    by false so = behind_other r origins here front i [] so ∙ ap (λ d. (d || false) || (behind r origins here front && not (defines_origin origins i || false))) own
+    by true so =
+        let all : are_phis front ≡ true = first so in
+        let both : are_phis (front ++ i ∷ []) ≡ true = list_all-append (λ p. is_phi p.1) front (i ∷ []) ∙ and_from (are_phis front) (is_phi i.1 && true) all (and_from (is_phi i.1) true so refl) in
+        behind_phis r origins here (front ++ i ∷ []) both
+        ∙ or_left (list_any (defines r) (front ++ i ∷ [])) (here && not (list_any (defines_origin origins) (front ++ i ∷ [])))
+        (list_any-append (defines r) front (i ∷ []) ∙ or_right (list_any (defines r) front) (defines r i || false) (or_left (defines r i) false own))
+
+pub phis_behind : (r : ℕ) (origins : ℕ → Bool) (here : Bool) (front : List (ℕ × InstrData)) (i : ℕ × InstrData) → is_phi i.1 ≡ true → are_phis front ≡ true → list_any (defines r) front ≡ true → behind r origins here (front ++ i ∷ []) ≡ true
+phis_behind r origins here front i phi all own =
+    let both : are_phis (front ++ i ∷ []) ≡ true = list_all-append (λ p. is_phi p.1) front (i ∷ []) ∙ and_from (are_phis front) (is_phi i.1 && true) all (and_from (is_phi i.1) true phi refl) in
+    behind_phis r origins here (front ++ i ∷ []) both
+    ∙ or_left (list_any (defines r) (front ++ i ∷ [])) (here && not (list_any (defines_origin origins) (front ++ i ∷ [])))
+    (list_any-append (defines r) front (i ∷ []) ∙ or_left (list_any (defines r) front) (defines r i || false) own)
+
+-- one more, one after the other
+pub one_more_defines : (r : ℕ) (origins : ℕ → Bool) (here : Bool) (xs : List (ℕ × InstrData)) (i : ℕ × InstrData) → defines r i ≡ true → one_by_one r origins here (xs ++ i ∷ []) ≡ true
+one_more_defines r origins here xs i own =
+    one_by_one_append r origins here xs (i ∷ []) ∙ ap (λ d. (d || false) || (one_by_one r origins here xs && not (defines_origin origins i || false))) own
+
+pub one_more_stays : (r : ℕ) (origins : ℕ → Bool) (here : Bool) (xs : List (ℕ × InstrData)) (i : ℕ × InstrData) → one_by_one r origins here xs ≡ true → defines_origin origins i ≡ false → one_by_one r origins here (xs ++ i ∷ []) ≡ true
+one_more_stays r origins here xs i there none =
+    one_by_one_append r origins here xs (i ∷ []) ∙ ap₂ (λ k o. (defines r i || false) || (k && not (o || false))) there none ∙ either (defines r i || false)
+  where
+    either : (d : Bool) → (d || true) ≡ true
+    either true = refl
+    either false = refl

@@ -9,7 +9,7 @@ use Rattle.gi_mir.specs.declared.operand.Operand.{Operand}
 use Rattle.gi_mir.specs.declared.operand.Operand.TheVariants as operand
 use Rattle.gi_meaning.specs.Runs.{is_phi}
 use Rattle.gi_valid.specs.Faults.{definitions, times, may_call}
-use Rattle.gi_valid.specs.Definitions.{IsComputedFrom}
+use Rattle.gi_valid.specs.Definitions.{is_pure, IsComputedFrom}
 use Rattle.gi_valid.specs.Typing.{Phase, mismatch}
 use Rattle.gi_soundness.specs.Rewriting.{Rewriting, IsOneOf}
 
@@ -58,6 +58,19 @@ pub record AccountsForResults (w : Rewriting) (f : FunctionData) : Type 0 where
   pub covered : (r : ℕ) → defines r w.root ≡ true → is_replaced w r ≡ false → list_any (defines r) w.made ≡ true
   pub origins : (r : ℕ) → is_replaced w r ≡ true → IsComputedFrom f r (w.rename r)
   pub apart : (r : ℕ) → is_replaced w r ≡ true → defines (w.rename r) w.root ≡ false
+
+-- ══ Reading ══
+
+-- all results of the root are computed from a register
+abbrev pub IsOrigin : Rewriting → FunctionData → ℕ → Type 0
+IsOrigin w f r = (d : ℕ) → defines d w.root ≡ true → IsComputedFrom f d r
+
+-- The root is pure, and what is made reads registers that are made before, and such that the root's results are computed
+-- from.
+pub record ReadsOrigins (w : Rewriting) (f : FunctionData) : Type 0 where
+  pub pure : is_pure w.root.1 ≡ true
+  pub read : (earlier : List (ℕ × InstrData)) (i : ℕ × InstrData) (later : List (ℕ × InstrData)) → w.made ≡ earlier ++ i ∷ later → (r : ℕ) → uses r i ≡ true
+      → (list_any (defines r) earlier ≡ true) ⊎ IsOrigin w f r
 
 -- ══ Types ══
 
