@@ -1,5 +1,5 @@
 -- The laws on types and physical registers, for functions in which no register is defined twice.
-use Rattle.std.proofs.Common.{◌≡◌, ℕ, [], refl}
+use Rattle.std.proofs.Common.{◌≡◌, ℕ, []}
 use Rattle.gi_mir.specs.Data.{FunctionData}
 use Rattle.gi_valid.specs.Faults.{double_definitions, physical_across, sites, told, type_mismatch}
 use Rattle.gi_valid.specs.Typing.{Phase}

@@ -1,29 +1,28 @@
 -- No physical register comes to be used behind what may overwrite it.
-use Rattle.std.proofs.Common.{◌≡◌, ℕ, zero, suc, Bool, true, false, cond, not, ◌&&◌, ◌||◌, ◌==◌, nat_lt, List, [], ◌∷◌, ◌++◌, Option, Some, None, option_map, find, map, length, inl, inr, ⊎_elim, refl, sym, ap, ap₂, ◌∙◌, subst, true≢false}
-use Rattle.std.proofs.lemmas.Bool.{or_parts, or_cases, and_parts, eqb-true, eq-eqb, false_from_ne_true}
+use Rattle.std.proofs.Common.{◌≡◌, ℕ, Bool, true, false, cond, not, ◌&&◌, ◌||◌, ◌==◌, nat_lt, List, [], ◌∷◌, ◌++◌, Option, Some, None, option_map, find, map, length, inl, ⊎_elim, refl, sym, ap, ap₂, ◌∙◌, subst, true≢false}
+use Rattle.std.proofs.lemmas.Bool.{or_cases, and_parts, eqb-true, eq-eqb, false_from_ne_true}
 use Rattle.std.specs.List.{list_any, list_all, range_with_len}
 use Rattle.std.specs.Option.{option_map_or}
 use Rattle.gi_llt.specs.Llt.{width_of}
 use Rattle.gi_llt.specs.declared.Llt.{Llt}
 use Rattle.gi_mir.specs.Data.{InstrData, BlockData, FunctionData}
 use Rattle.gi_mir.specs.Edit.{all_instrs}
-use Rattle.gi_mir.specs.Places.{body_at}
 use Rattle.gi_mir.specs.Row.{is_call_op}
 use Rattle.gi_mir.specs.declared.operand.Operand.{Operand}
 use Rattle.gi_mir.specs.declared.operand.Operand.TheVariants as operand
 use Rattle.gi_meaning.specs.Runs.{is_among}
 use Rattle.gi_pattern.specs.InPlace.{operand_renamed, entry_renamed}
-use Rattle.gi_valid.specs.Available.{predecessors, is_physical_at_start, is_physical_there}
+use Rattle.gi_valid.specs.Available.{is_physical_at_start, is_physical_there}
 use Rattle.gi_valid.specs.Definitions.{is_physical_def_of, is_physical_use_of, defines_physical, reads_physical}
-use Rattle.gi_valid.specs.Faults.{Site, sites, told, is_division, is_product, is_wider, may_call, is_used_first, goes_across, physical_across}
+use Rattle.gi_valid.specs.Faults.{sites, told, is_division, is_product, is_wider, is_used_first, goes_across, physical_across}
 use Rattle.gi_valid.specs.Typing.{Phase, type_in, results_in}
 use Rattle.gi_valid.specs.declared.invalid.Invalid.TheVariants.{PhysicalAcross}
 use Rattle.gi_valid.proofs.Sited.{site_of}
 use Rattle.gi_soundness.specs.Conditions.{is_plain_operand, is_plain, ArePlain, KeepsTypes, MakesNoCall}
-use Rattle.gi_soundness.specs.Rewriting.{Rewriting, standing_for, rewritten, block_rewritten, IsOneOf, IsRewritten}
+use Rattle.gi_soundness.specs.Rewriting.{Rewriting, rewritten, IsOneOf, IsRewritten}
 use Rattle.gi_soundness.proofs.Frames.{body_after, same_predecessors, IsOwn, own_later, IsIdle, any_rewritten, Plain, plain, idle}
 use Rattle.gi_soundness.proofs.Listed.{results_left, defines_physical_left, reads_physical_left}
-use Rattle.gi_soundness.proofs.Sites.{IsSite, AreQuiet, nothing_new, site_inside, site_own}
+use Rattle.gi_soundness.proofs.Sites.{IsSite, nothing_new, site_inside, site_own}
 use Rattle.gi_soundness.proofs.Typed.{IsAccounted, result_type, results_alike, one_of_made}
 
 -- ══ Plain instructions and physical registers ══

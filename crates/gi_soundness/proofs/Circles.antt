@@ -1,11 +1,9 @@
 -- In a valid function no register is computed from itself, and where one is available, so is each that it is computed from.
-use Rattle.std.proofs.Common.{◌≡◌, ℕ, zero, suc, ◌+◌, ◌≤◌, ◌<◌, Bool, true, false, cond, not, ◌&&◌, ◌||◌, ◌==◌, nat_lt, List, [], ◌∷◌, ◌++◌, Option, Some, None, option_map, find, length, slice_get, ◌⊎◌, inl, inr, ⊎_elim, refl, sym, ap, ap₂, ◌∙◌, subst, arith, true≢false, append-nil, append_assoc}
-use Rattle.std.proofs.lemmas.Bool.{or_cases, or_left, or_right, and_parts, and_from, not-true, eqb-true, false_from_ne_true}
-use Rattle.std.proofs.lemmas.Option.{same_Some}
+use Rattle.std.proofs.Common.{◌≡◌, ℕ, zero, suc, ◌≤◌, Bool, true, false, cond, not, ◌&&◌, ◌||◌, ◌==◌, List, [], ◌∷◌, ◌++◌, Option, Some, None, find, slice_get, ◌⊎◌, inl, inr, ⊎_elim, refl, sym, ap, ◌∙◌, subst, true≢false, append-nil, append_assoc}
+use Rattle.std.proofs.lemmas.Bool.{or_cases, and_parts, not-true, eqb-true, false_from_ne_true}
 use Rattle.std.specs.List.{list_any, list_all}
-use Rattle.std.specs.Option.{option_or}
 use Rattle.gi_mir.specs.Data.{InstrData, BlockData, FunctionData}
-use Rattle.gi_mir.specs.Edit.{empty_block, all_instrs, is_use_of, is_def_of, defines, uses}
+use Rattle.gi_mir.specs.Edit.{empty_block, all_instrs, is_use_of, defines, uses}
 use Rattle.gi_mir.specs.Places.{body_at}
 use Rattle.gi_mir.specs.Row.{access_of, is_phi_op}
 use Rattle.gi_mir.specs.declared.opcode.Opcode.{Opcode}
@@ -14,22 +12,19 @@ use Rattle.gi_mir.specs.declared.operand.Flags.{Flags}
 use Rattle.gi_mir.specs.declared.operand.Operand.{Operand}
 use Rattle.gi_mir.specs.declared.operand.Operand.TheVariants as operand
 use Rattle.gi_meaning.specs.Meaning.{meaning_of, is_joining}
-use Rattle.gi_meaning.specs.Runs.{is_phi, is_among}
-use Rattle.gi_valid.specs.Available.{successors_of, IsReachedIn, IsReachedBlock, predecessors, Extent, is_origin, defines_origin, behind, at_end, defines_in, IsDefinedInReach, IsExtent}
+use Rattle.gi_meaning.specs.Runs.{is_phi}
+use Rattle.gi_valid.specs.Available.{IsReachedIn, predecessors, Extent, behind, at_end, IsDefinedInReach}
 use Rattle.gi_valid.specs.Definitions.{is_load, copies_physical, is_erasable, is_pure, definition, uses_purely, IsComputedOver, IsComputedFrom}
-use Rattle.gi_valid.specs.Faults.{with_fault, Site, sites, told, definitions, times, blocks_in, is_there, missing_use, missing_entries, not_available, are_entries, stands_first, phi_entries, fault_in, faults}
-use Rattle.gi_valid.specs.Typing.{Phase}
+use Rattle.gi_valid.specs.Faults.{Site, sites, told, definitions, times, blocks_in, is_there, missing_use, missing_entries, not_available, are_entries, stands_first, phi_entries}
 use Rattle.gi_valid.specs.Valid.{IsGreatest}
-use Rattle.gi_valid.specs.declared.invalid.Invalid.{Invalid}
 use Rattle.gi_valid.specs.declared.invalid.Invalid.TheVariants.{NotAvailable, PhiEntries}
-use Rattle.gi_valid.proofs.Greatest.{more_behind}
 use Rattle.gi_valid.proofs.Single.{one_definition}
 use Rattle.gi_valid.proofs.Sited.{site_of, at_site}
 use Rattle.gi_valid.proofs.Valid.{nothing_mapped}
 use Rattle.gi_valid.proofs.Walking.{body_is}
 use Rattle.gi_soundness.specs.Rewriting.{IsOneOf}
 use Rattle.gi_soundness.proofs.Sites.{IsSite, site_inside}
-use Rattle.gi_soundness.proofs.Stepwise.{are_phis, CameBy, ByDefinition, ByStaying, ByPhi, came_by, stays_behind, defined_or_there, behind_phis}
+use Rattle.gi_soundness.proofs.Stepwise.{are_phis, CameBy, ByDefinition, ByStaying, ByPhi, came_by}
 use Rattle.gi_soundness.proofs.Typed.{in_list, found_there}
 
 -- what is known of a function by its greatest sets

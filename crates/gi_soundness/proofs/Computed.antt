@@ -1,24 +1,23 @@
 -- The sets after a rewriting hold all that a register is computed from.
-use Rattle.std.proofs.Common.{◌≡◌, ℕ, zero, suc, Bool, true, false, cond, not, ◌&&◌, ◌||◌, ◌==◌, List, [], ◌∷◌, ◌++◌, Option, Some, None, map, find, ◌⊎◌, inl, inr, ⊎_elim, refl, sym, ap, ap₂, ◌∙◌, subst, true≢false}
-use Rattle.std.proofs.lemmas.Bool.{or_cases, or_left, or_right, and_parts, and_from, eqb-true, eq-eqb, not-true, not-false, false_from_ne_true}
-use Rattle.std.specs.List.{list_any, list_all}
-use Rattle.gi_mir.specs.Data.{InstrData, BlockData, FunctionData}
-use Rattle.gi_mir.specs.Edit.{all_instrs, is_def_of, is_use_of, defines, uses}
+use Rattle.std.proofs.Common.{◌≡◌, ℕ, zero, suc, Bool, true, false, cond, not, ◌&&◌, ◌||◌, ◌==◌, List, [], ◌∷◌, ◌++◌, Option, Some, None, map, ◌⊎◌, inl, inr, ⊎_elim, refl, sym, ap, ap₂, ◌∙◌, subst}
+use Rattle.std.proofs.lemmas.Bool.{or_cases, or_left, or_right, and_parts, and_from, eqb-true, eq-eqb, not-false}
+use Rattle.std.specs.List.{list_any}
+use Rattle.gi_mir.specs.Data.{InstrData, FunctionData}
+use Rattle.gi_mir.specs.Edit.{all_instrs, is_use_of, defines, uses}
 use Rattle.gi_mir.specs.Formed.{is_def, is_physical, is_physical_def, is_implicit_def}
 use Rattle.gi_mir.specs.Row.{access_of, is_call_op, is_phi_op}
 use Rattle.gi_mir.specs.declared.operand.Operand.{Operand}
 use Rattle.gi_mir.specs.declared.operand.Operand.TheVariants as operand
 use Rattle.gi_pattern.specs.InPlace.{operand_renamed, entry_renamed}
-use Rattle.gi_valid.specs.Available.{Extent, is_origin, defines_origin, IsExtent}
-use Rattle.gi_valid.specs.Definitions.{is_load, is_copy, copies_physical, defines_any_physical, is_erasable, is_pure, definition, uses_purely, IsComputedOver, IsComputedFrom}
-use Rattle.gi_valid.specs.Valid.{IsGreatest}
-use Rattle.gi_soundness.specs.Conditions.{IsNew, is_replaced, AccountsForResults, IsOrigin, ReadsOrigins}
-use Rattle.gi_soundness.specs.Rewriting.{Rewriting, standing_for, rewritten, IsOneOf, IsRewritten}
-use Rattle.gi_soundness.proofs.Circles.{IsKnown, is_definition, computed_on, split_one, one_of_either}
+use Rattle.gi_valid.specs.Available.{Extent}
+use Rattle.gi_valid.specs.Definitions.{is_load, is_copy, is_pure, definition, uses_purely, IsComputedOver, IsComputedFrom}
+use Rattle.gi_soundness.specs.Conditions.{is_replaced, IsOrigin}
+use Rattle.gi_soundness.specs.Rewriting.{Rewriting, standing_for, rewritten, IsOneOf}
+use Rattle.gi_soundness.proofs.Circles.{is_definition, computed_on, split_one, one_of_either}
 use Rattle.gi_soundness.proofs.Listed.{instrs_after, any_left, defines_left}
 use Rattle.gi_soundness.proofs.Origins.{IsReady, result_of, result_defined, same_origins, no_root_circle, is_made, comes_earlier, earlier_on, is_earlier, not_before, IsOutside, origin_outside, reaches_root, origins_after, of_other, of_other_made, of_made, of_made_other}
 use Rattle.gi_soundness.proofs.Staying.{TakesWith, takes_with, takes_origin}
-use Rattle.gi_soundness.proofs.Typed.{IsAccounted, found_there, not_root, not_made, not_new_defined, not_new_used}
+use Rattle.gi_soundness.proofs.Typed.{found_there, not_root, not_made, not_new_defined, not_new_used}
 
 -- ══ Where an instruction comes from ══
 
@@ -102,7 +101,7 @@ any_one test e (q ∷ is) there h =
 pub made_result : (w : Rewriting) (f g : FunctionData) (great : ℕ → Extent) → IsReady w f g great → (p : ℕ × InstrData) → IsOneOf p (all_instrs f.blocks) → (z : ℕ) → uses z p ≡ true → is_made w z ≡ true → defines z w.root ≡ true
 made_result w f g great c p there z used made = ⊎_elim (λ own. own) (λ new. absurd (not_new_used f p there z used new)) (c.account.anew.own z made)
 
-kept_made : (w : Rewriting) (f g : FunctionData) (great : ℕ → Extent) → IsReady w f g great → (p : ℕ × InstrData) → IsOneOf p (all_instrs f.blocks) → (p.0 == w.root.0) ≡ false → (r : ℕ) → defines r p ≡ true → is_made w r ≡ false
+pub kept_made : (w : Rewriting) (f g : FunctionData) (great : ℕ → Extent) → IsReady w f g great → (p : ℕ × InstrData) → IsOneOf p (all_instrs f.blocks) → (p.0 == w.root.0) ≡ false → (r : ℕ) → defines r p ≡ true → is_made w r ≡ false
 kept_made w f g great c p there other r own =
     not_made w f g c.account r (not_root w f g c.account p there other r own) (not_new_defined f p there r own)
 

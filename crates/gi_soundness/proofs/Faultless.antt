@@ -1,27 +1,24 @@
 -- No block that isn't there comes to be named, phis stay first with their entries, and terminators last.
-use Rattle.std.proofs.Common.{◌≡◌, ℕ, Bool, true, false, cond, not, ◌&&◌, ◌||◌, ◌==◌, nat_lt, List, [], ◌∷◌, ◌++◌, Option, Some, None, find, map, option_map, length, ⊎_elim, inl, inr, refl, sym, ap, ap₂, ◌∙◌, subst, true≢false, append_assoc, append-nil}
-use Rattle.std.proofs.lemmas.Bool.{or_parts, or_cases, or_from, or_left, and_parts, and_from, and_cases, not-true, not-false, false_from_ne_true}
+use Rattle.std.proofs.Common.{◌≡◌, ℕ, Bool, true, false, cond, not, ◌&&◌, ◌||◌, ◌==◌, nat_lt, List, [], ◌∷◌, ◌++◌, Some, None, find, map, option_map, inl, refl, sym, ap, ap₂, ◌∙◌, subst, true≢false, append_assoc, append-nil}
+use Rattle.std.proofs.lemmas.Bool.{or_parts, or_from, and_parts, and_from, false_from_ne_true}
 use Rattle.std.proofs.lemmas.List.Folds.{list_any-append, list_all-append}
 use Rattle.std.specs.List.{list_any, list_all}
 use Rattle.gi_mir.specs.Data.{InstrData, BlockData, FunctionData}
-use Rattle.gi_mir.specs.Edit.{all_instrs}
 use Rattle.gi_mir.specs.Row.{is_terminator_op, is_unconditional_op, is_branch_op, role_of, is_terminator, is_unconditional}
-use Rattle.gi_mir.specs.declared.opcode.Opcode.{Opcode}
 use Rattle.gi_mir.specs.declared.entry.Role.{Role}
 use Rattle.gi_mir.specs.declared.entry.Role.TheVariants as role
 use Rattle.gi_meaning.specs.Runs.{is_phi, is_among}
 use Rattle.gi_pattern.specs.InPlace.{entry_renamed}
 use Rattle.gi_valid.specs.Available.{successors_of, predecessors}
 use Rattle.gi_valid.specs.Faults.{with_fault, Site, sites, told, blocks_in, unknown_among, unknown_block, last_line, unknown_successors, are_entries, stands_first, phi_entries, is_late, has_late, is_first_late, is_astray, terminator}
-use Rattle.gi_valid.specs.declared.invalid.Invalid.{Invalid}
 use Rattle.gi_valid.specs.declared.invalid.Invalid.TheVariants.{UnknownBlock, PhiEntries, Terminator}
 use Rattle.gi_valid.proofs.Answering.{branch_ends}
 use Rattle.gi_valid.proofs.Sited.{nothing_in_front, site_of, at_site, none_late}
 use Rattle.gi_soundness.specs.Conditions.{ArePlain}
-use Rattle.gi_soundness.specs.Rewriting.{Rewriting, rewritten, block_rewritten, standing_for, IsOneOf, IsRewritten}
-use Rattle.gi_soundness.proofs.Frames.{as_many_blocks, same_successors, same_predecessors, IsOwn, own_later, IsIdle, any_rewritten, any_earlier, Plain, plain, made_plain, idle, no_blocks}
+use Rattle.gi_soundness.specs.Rewriting.{Rewriting, rewritten, block_rewritten, standing_for, IsRewritten}
+use Rattle.gi_soundness.proofs.Frames.{as_many_blocks, same_successors, same_predecessors, IsOwn, own_later, IsIdle, any_rewritten, any_earlier, plain, made_plain, idle, no_blocks}
 use Rattle.gi_soundness.proofs.Listed.{blocks_left}
-use Rattle.gi_soundness.proofs.Sites.{IsSite, AreQuiet, nothing_new, site_inside, site_own}
+use Rattle.gi_soundness.proofs.Sites.{IsSite, AreQuiet, nothing_new, site_own}
 
 -- ══ Blocks that are there ══
 
@@ -51,7 +48,7 @@ successors_still_there w f g is none = ap (unknown_successors g 1) is.blocks ∙
 
 -- ══ Phis ══
 
-all_phis : (w : Rewriting) → ArePlain w → (is : List (ℕ × InstrData)) → IsOwn w is → list_all (λ p. is_phi p.1) is ≡ true → list_all (λ p. is_phi p.1) (rewritten w is) ≡ true
+pub all_phis : (w : Rewriting) → ArePlain w → (is : List (ℕ × InstrData)) → IsOwn w is → list_all (λ p. is_phi p.1) is ≡ true → list_all (λ p. is_phi p.1) (rewritten w is) ≡ true
 all_phis w are [] own all = refl
 all_phis w are (p ∷ is) own all =
     let each : (is_phi p.1 ≡ true) × (list_all (λ q. is_phi q.1) is ≡ true) = and_parts (is_phi p.1) (list_all (λ q. is_phi q.1) is) all in

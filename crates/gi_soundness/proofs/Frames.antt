@@ -1,6 +1,6 @@
 -- What a rewriting leaves of the blocks, and of tests of instructions.
-use Rattle.std.proofs.Common.{◌≡◌, ℕ, zero, suc, ◌+◌, Bool, true, false, cond, not, ◌&&◌, ◌||◌, ◌==◌, List, [], ◌∷◌, ◌++◌, map, length, ⊎_elim, inl, inr, refl, sym, ap, ap₂, ◌∙◌, subst}
-use Rattle.std.proofs.lemmas.Bool.{or_parts, or_cases, and_parts, and_from, not-true}
+use Rattle.std.proofs.Common.{◌≡◌, ℕ, zero, suc, ◌+◌, Bool, true, false, cond, not, ◌&&◌, ◌||◌, ◌==◌, List, [], ◌∷◌, ◌++◌, map, length, inl, inr, refl, sym, ap, ap₂, ◌∙◌}
+use Rattle.std.proofs.lemmas.Bool.{or_parts, and_parts, not-true}
 use Rattle.std.proofs.lemmas.List.Folds.{list_any-append, list_all-append}
 use Rattle.std.specs.List.{list_any, list_all}
 use Rattle.gi_mir.specs.Data.{InstrData, BlockData, FunctionData}
@@ -81,6 +81,9 @@ pub all_earlier : (test : ℕ × InstrData → Bool) (made earlier : List (ℕ �
 all_earlier test made earlier i later splits all =
     let both : (list_all test earlier && list_all test (i ∷ later)) ≡ true = sym (ap (list_all test) splits ∙ list_all-append test earlier (i ∷ later)) ∙ all in
     (and_parts (test i) (list_all test later) (and_parts (list_all test earlier) (list_all test (i ∷ later)) both).1).0
+
+pub all_before : (test : ℕ × InstrData → Bool) (made earlier rest : List (ℕ × InstrData)) → made ≡ earlier ++ rest → list_all test made ≡ true → list_all test earlier ≡ true
+all_before test made earlier rest splits all = (and_parts (list_all test earlier) (list_all test rest) (sym (ap (list_all test) splits ∙ list_all-append test earlier rest) ∙ all)).0
 
 -- ══ Plain instructions ══
 

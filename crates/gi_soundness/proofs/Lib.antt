@@ -1,13 +1,16 @@
 pub mod Accounted
 pub mod Across
+pub mod Available
 pub mod Circles
 pub mod Computed
 pub mod Faultless
 pub mod Frames
 pub mod Listed
 pub mod Origins
+pub mod Reading
 pub mod Single
 pub mod Staying
 pub mod Sites
 pub mod Stepwise
 pub mod Typed
+pub mod Valid

@@ -1,27 +1,21 @@
 -- The sets of a function after a rewriting: with which registers each is taken away.
-use Rattle.std.proofs.Common.{◌≡◌, ℕ, zero, suc, ◌+◌, ◌≤◌, Bool, true, false, cond, not, ◌&&◌, ◌||◌, ◌==◌, List, [], ◌∷◌, ◌++◌, Option, Some, None, map, find, slice_get, ◌⊎◌, inl, inr, ⊎_elim, refl, sym, ap, ap₂, ◌∙◌, subst, arith, true≢false}
-use Rattle.std.proofs.lemmas.Bool.{or_cases, or_left, or_right, or_parts, and_parts, and_from, eq-eqb, eqb-true, not-true, not-false, false_from_ne_true, true_from_ne_false}
-use Rattle.std.proofs.lemmas.List.Folds.{list_any-append}
-use Rattle.std.specs.List.{list_any, list_all}
-use Rattle.gi_mir.specs.Data.{InstrData, BlockData, FunctionData}
-use Rattle.gi_mir.specs.Edit.{all_instrs, is_def_of, is_use_of, defines, uses}
-use Rattle.gi_mir.specs.Formed.{is_def, is_physical, is_physical_def, is_implicit_def}
+use Rattle.std.proofs.Common.{◌≡◌, ℕ, zero, suc, ◌+◌, ◌≤◌, Bool, true, false, cond, not, ◌&&◌, ◌||◌, ◌==◌, List, [], ◌∷◌, ◌++◌, Some, ◌⊎◌, inl, inr, ⊎_elim, refl, sym, ap, ap₂, ◌∙◌, subst, arith, true≢false}
+use Rattle.std.proofs.lemmas.Bool.{or_cases, or_left, or_parts, and_parts, eq-eqb, false_from_ne_true}
+use Rattle.std.specs.List.{list_any}
+use Rattle.gi_mir.specs.Data.{InstrData, FunctionData}
+use Rattle.gi_mir.specs.Edit.{is_def_of, defines, uses}
+use Rattle.gi_mir.specs.Formed.{is_def}
 use Rattle.gi_mir.specs.Row.{access_of, is_call_op, is_phi_op}
 use Rattle.gi_mir.specs.declared.operand.Operand.{Operand}
 use Rattle.gi_mir.specs.declared.operand.Operand.TheVariants as operand
-use Rattle.gi_pattern.specs.InPlace.{operand_renamed, entry_renamed}
-use Rattle.gi_valid.specs.Available.{Extent, is_origin, defines_origin, IsExtent}
-use Rattle.gi_valid.specs.Definitions.{is_load, is_copy, copies_physical, defines_any_physical, is_erasable, is_pure, definition, uses_purely, IsComputedOver, IsComputedFrom}
+use Rattle.gi_valid.specs.Available.{Extent, defines_origin}
+use Rattle.gi_valid.specs.Definitions.{is_load, copies_physical, defines_any_physical, is_erasable, is_pure, definition, uses_purely, IsComputedOver, IsComputedFrom}
 use Rattle.gi_valid.specs.Faults.{definitions, times}
-use Rattle.gi_valid.specs.Valid.{IsGreatest}
-use Rattle.gi_soundness.specs.Conditions.{IsNew, DefinesAnew, is_replaced, AccountsForResults, ArePlain, IsOrigin, ReadsOrigins}
-use Rattle.gi_soundness.specs.Rewriting.{Rewriting, standing_for, rewritten, IsOneOf, IsRewritten}
-use Rattle.gi_soundness.proofs.Circles.{IsKnown, is_here, pure_is_no_phi, is_definition, use_at, computed_on, none_in_circle, HasPlace, site_of_one}
-use Rattle.gi_soundness.proofs.Listed.{instrs_after, any_left, defines_left}
-use Rattle.gi_soundness.proofs.Single.{definitions_append, defined_times, none_times}
-use Rattle.gi_soundness.proofs.Sites.{IsSite, site_inside}
-use Rattle.gi_soundness.proofs.Staying.{TakesWith, takes_with, takes_origin}
-use Rattle.gi_soundness.proofs.Typed.{IsAccounted, found_there, not_root, not_made, not_new_defined, not_new_used, origin_used}
+use Rattle.gi_soundness.specs.Conditions.{DefinesAnew, ArePlain, ReadsOrigins}
+use Rattle.gi_soundness.specs.Rewriting.{Rewriting}
+use Rattle.gi_soundness.proofs.Circles.{IsKnown, is_here, pure_is_no_phi, is_definition, use_at, none_in_circle, HasPlace, site_of_one}
+use Rattle.gi_soundness.proofs.Single.{definitions_append, defined_times}
+use Rattle.gi_soundness.proofs.Typed.{IsAccounted, not_made, origin_used}
 
 -- what is known before a rewriting
 pub record IsReady (w : Rewriting) (f g : FunctionData) (great : ℕ → Extent) : Type 0 where

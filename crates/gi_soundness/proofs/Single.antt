@@ -1,6 +1,6 @@
 -- No register comes to be defined twice.
-use Rattle.std.proofs.Common.{◌≡◌, ℕ, zero, suc, ◌+◌, ◌≤◌, Bool, true, false, cond, ◌==◌, List, [], ◌∷◌, ◌++◌, map, ◌⊎◌, inl, inr, ⊎_elim, refl, sym, ap, ap₂, ◌∙◌, subst, arith, true≢false}
-use Rattle.std.proofs.lemmas.Bool.{or_parts, or_cases, or_left, or_right, eq-eqb, eqb-true, false_from_ne_true, true_from_ne_false}
+use Rattle.std.proofs.Common.{◌≡◌, ℕ, ◌+◌, ◌≤◌, Bool, true, false, cond, ◌==◌, List, [], ◌∷◌, ◌++◌, map, inl, inr, ⊎_elim, refl, sym, ap, ap₂, ◌∙◌, subst, arith}
+use Rattle.std.proofs.lemmas.Bool.{or_parts, or_cases, eq-eqb, eqb-true}
 use Rattle.std.proofs.lemmas.List.Sums.{sum_by-append}
 use Rattle.std.specs.List.{list_any}
 use Rattle.gi_mir.specs.Data.{InstrData, FunctionData, reg_of}
@@ -14,7 +14,7 @@ use Rattle.gi_valid.specs.Typing.{results_in}
 use Rattle.gi_valid.specs.declared.invalid.Invalid.TheVariants.{DoubleDefinition}
 use Rattle.gi_valid.proofs.Single.{often, defined_once}
 use Rattle.gi_soundness.specs.Conditions.{DefinesAnew}
-use Rattle.gi_soundness.specs.Rewriting.{Rewriting, standing_for, rewritten, IsOneOf, IsRewritten}
+use Rattle.gi_soundness.specs.Rewriting.{Rewriting, rewritten, IsOneOf, IsRewritten}
 use Rattle.gi_soundness.proofs.Listed.{instrs_after, results_left}
 
 -- ══ Counting ══

@@ -1,5 +1,5 @@
 -- Where a register is available, each that it is computed from is.
-use Rattle.std.proofs.Common.{◌≡◌, ℕ, zero, suc, ◌+◌, ◌≤◌, ◌<◌, Bool, true, false, cond, not, ◌&&◌, ◌||◌, ◌==◌, List, [], ◌∷◌, ◌++◌, Some, length, slice_get, ◌⊎◌, inl, inr, ⊎_elim, refl, sym, ap, ap₂, ◌∙◌, subst, arith, true≢false}
+use Rattle.std.proofs.Common.{◌≡◌, ℕ, zero, suc, ◌<◌, Bool, true, false, cond, ◌&&◌, ◌||◌, ◌==◌, List, [], ◌∷◌, ◌++◌, Some, length, slice_get, ◌⊎◌, inl, inr, ⊎_elim, refl, sym, ap, ap₂, ◌∙◌, subst, arith, true≢false, nat_lt, ltb-true, lt-ltb, append-nil}
 use Rattle.std.proofs.lemmas.Bool.{or_cases, or_left, or_right, and_parts, eq-eqb, eqb-true, false_from_ne_true, and_from}
 use Rattle.std.specs.List.{list_any}
 use Rattle.gi_mir.specs.Data.{InstrData, BlockData, FunctionData}
@@ -7,16 +7,15 @@ use Rattle.gi_mir.specs.Edit.{all_instrs, is_def_of, defines, uses}
 use Rattle.gi_mir.specs.Places.{body_at}
 use Rattle.gi_mir.specs.declared.operand.Operand.{Operand}
 use Rattle.gi_mir.specs.declared.operand.Operand.TheVariants as operand
-use Rattle.gi_meaning.specs.Runs.{is_phi, is_among, phis_of, after_phis}
-use Rattle.gi_valid.specs.Available.{successors_of, IsReachedIn, IsReachedBlock, Extent, is_origin, defines_origin, at_once, behind, at_end, defines_in, IsDefinedInReach, IsExtent}
+use Rattle.gi_meaning.specs.Runs.{is_phi, phis_of, after_phis}
+use Rattle.gi_valid.specs.Available.{IsReachedIn, IsReachedBlock, Extent, is_origin, defines_origin, at_once, behind, at_end, IsDefinedInReach, IsExtent}
 use Rattle.gi_valid.specs.Definitions.{is_pure, definition, uses_purely, IsComputedOver, IsComputedFrom}
-use Rattle.gi_valid.specs.Valid.{IsGreatest}
 use Rattle.gi_valid.proofs.Greatest.{more_behind}
 use Rattle.gi_valid.proofs.Walking.{body_is}
 use Rattle.gi_soundness.specs.Rewriting.{IsOneOf}
 use Rattle.gi_soundness.proofs.Circles.{IsKnown, is_here, walk, walk_body, HasSite, site_in_body, pure_is_no_phi, purely_at, is_definition, use_at, phis_before, computed_on, none_in_circle}
 use Rattle.gi_soundness.proofs.Sites.{IsSite, site_inside, front_inside}
-use Rattle.gi_soundness.proofs.Stepwise.{are_phis, CameBy, ByDefinition, ByStaying, ByPhi, came_by, stays_behind, defined_or_there, behind_phis}
+use Rattle.gi_soundness.proofs.Stepwise.{are_phis, CameBy, ByDefinition, ByStaying, ByPhi, came_by, stays_behind, defined_or_there}
 
 -- ══ What an instruction takes away ══
 
@@ -218,3 +217,19 @@ over_at f great k (suc n) d y c b block found front back splits h =
 pub origin_here : (f : FunctionData) (great : ℕ → Extent) → IsKnown f great → (d y : ℕ) → IsComputedFrom f d y → (b : ℕ) (block : BlockData) → slice_get f.blocks b ≡ Some block
     → (front back : List (ℕ × InstrData)) → block.instrs ≡ front ++ back → is_here great b front d ≡ true → is_here great b front y ≡ true
 origin_here f great k d y c b block found front back splits h = over_at f great k c.others d y c.over b block found front back splits h
+
+-- the same at the end of a block
+pub origin_at_end : (f : FunctionData) (great : ℕ → Extent) → IsKnown f great → (d y : ℕ) → IsComputedFrom f d y → (b : ℕ) → nat_lt b (length f.blocks) ≡ true → at_end f d (great d) b ≡ true → at_end f y (great y) b ≡ true
+origin_at_end f great k d y c b within h =
+    let (block, found) = there f.blocks b within in
+    subst (λ (body : BlockData). is_here great b body.instrs y ≡ true) (sym (body_is f b block found))
+    (origin_here f great k d y c b block found block.instrs [] (sym (append-nil block.instrs)) (subst (λ (body : BlockData). is_here great b body.instrs d ≡ true) (body_is f b block found) h))
+  where
+    there : (blocks : List BlockData) (b : ℕ) → nat_lt b (length blocks) ≡ true → (block : BlockData) × (slice_get blocks b ≡ Some block)
+    there [] b h = absurd (none b h)
+      where
+        none : (b : ℕ) → nat_lt b 0 ≡ true → ⊥
+        none b h = let less : b < 0 = ltb-true b 0 h in omega (arith, less)
+    there (k ∷ blocks) zero h = (k, refl)
+    there (k ∷ blocks) (suc b) h =
+        let less : suc b < suc (length blocks) = ltb-true (suc b) (suc (length blocks)) h in there blocks b (lt-ltb b (length blocks) (omega (arith, less)))

@@ -1,9 +1,8 @@
 -- Types still meet their rows.
-use Rattle.std.proofs.Common.{◌≡◌, ℕ, zero, suc, ◌+◌, ◌≤◌, Bool, true, false, cond, not, ◌&&◌, ◌||◌, ◌==◌, List, [], ◌∷◌, ◌++◌, Option, Some, None, option_map, find, map, length, replicate, take, drop, ◌⊎◌, inl, inr, ⊎_elim, refl, sym, ap, ap₂, ◌∙◌, subst, true≢false, unwrap_or}
-use Rattle.std.proofs.lemmas.Bool.{or_parts, or_cases, or_from, or_left, or_right, and_parts, eq-eqb, eqb-true, not-true, not-false, false_from_ne_true}
+use Rattle.std.proofs.Common.{◌≡◌, ℕ, zero, suc, ◌≤◌, Bool, true, false, cond, ◌&&◌, ◌==◌, List, [], ◌∷◌, ◌++◌, Option, Some, None, option_map, find, map, length, replicate, take, drop, inl, inr, ⊎_elim, refl, sym, ap, ap₂, ◌∙◌, subst, true≢false, unwrap_or}
+use Rattle.std.proofs.lemmas.Bool.{or_parts, or_left, or_right, and_parts, eq-eqb, eqb-true, not-false, false_from_ne_true}
 use Rattle.std.proofs.lemmas.List.{map-append}
-use Rattle.std.specs.List.{list_any, list_all}
-use Rattle.std.specs.Option.{option_map_or}
+use Rattle.std.specs.List.{list_any}
 use Rattle.gi_llt.specs.declared.Llt.{Llt}
 use Rattle.gi_mir.specs.Data.{InstrData, BlockData, FunctionData, reg_of}
 use Rattle.gi_mir.specs.Edit.{all_instrs, is_def_of, is_use_of, defines, uses}
@@ -17,18 +16,17 @@ use Rattle.gi_mir.specs.declared.operand.Operand.{Operand}
 use Rattle.gi_mir.specs.declared.operand.Operand.TheVariants as operand
 use Rattle.gi_pattern.specs.InPlace.{operand_renamed, entry_renamed}
 use Rattle.gi_valid.specs.Definitions.{is_copy, is_pure, definition, uses_purely, IsComputedOver, IsComputedFrom}
-use Rattle.gi_valid.specs.Faults.{Site, sites, told, definitions, times, type_mismatch}
+use Rattle.gi_valid.specs.Faults.{sites, told, definitions, times, type_mismatch}
 use Rattle.gi_valid.specs.Typing.{Phase, Typed, Selecting, Untyped, type_in, meets, results_in, sources_in, is_met, first_unmet, joins_any, unmet, mismatch}
-use Rattle.gi_valid.specs.declared.invalid.Invalid.{Invalid}
 use Rattle.gi_valid.specs.declared.invalid.Invalid.TheVariants.{TypeMismatch}
 use Rattle.gi_valid.proofs.Single.{IsIn, one_definition}
 use Rattle.gi_valid.proofs.Sited.{site_of}
 use Rattle.gi_valid.proofs.Valid.{nothing_mapped}
 use Rattle.gi_soundness.specs.Conditions.{IsNew, DefinesAnew, is_replaced, AccountsForResults, KeepsTypes}
-use Rattle.gi_soundness.specs.Rewriting.{Rewriting, standing_for, rewritten, block_rewritten, IsOneOf, IsRewritten}
+use Rattle.gi_soundness.specs.Rewriting.{Rewriting, standing_for, rewritten, IsOneOf, IsRewritten}
 use Rattle.gi_soundness.proofs.Frames.{IsOwn, own_later}
 use Rattle.gi_soundness.proofs.Listed.{instrs_after, results_left, any_left}
-use Rattle.gi_soundness.proofs.Sites.{IsSite, AreQuiet, nothing_new, site_inside}
+use Rattle.gi_soundness.proofs.Sites.{IsSite, nothing_new, site_inside}
 
 -- ══ Kinds ══
 

@@ -1,5 +1,5 @@
 -- What is asked of a rewriting, so that a valid function stays valid.
-use Rattle.std.specs.Prelude.{◌≡◌, ◌≢◌, ◌⊎◌, ℕ, ◌≤◌, Bool, true, false, not, ◌&&◌, ◌||◌, ◌==◌, List, [], ◌∷◌, ◌++◌, None}
+use Rattle.std.specs.Prelude.{◌≡◌, ◌⊎◌, ℕ, ◌≤◌, Bool, true, false, not, ◌&&◌, ◌||◌, ◌==◌, List, ◌∷◌, ◌++◌, None}
 use Rattle.std.specs.List.{list_all, list_any}
 use Rattle.gi_mir.specs.Data.{InstrData, FunctionData}
 use Rattle.gi_mir.specs.Edit.{all_instrs, defines, uses}

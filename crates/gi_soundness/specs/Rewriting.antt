@@ -1,5 +1,5 @@
 -- A rewriting seen at every instruction: what stands in the place of each.
-use Rattle.std.specs.Prelude.{◌≡◌, ◌⊎◌, ℕ, Bool, true, false, List, [], ◌∷◌, ◌==◌, if◌then◌else◌, map, flat_map}
+use Rattle.std.specs.Prelude.{◌≡◌, ◌⊎◌, ℕ, true, List, [], ◌∷◌, ◌==◌, if◌then◌else◌, map, flat_map}
 use Rattle.gi_mir.specs.Data.{InstrData, BlockData, FunctionData}
 use Rattle.gi_mir.specs.Ids.{uses_among}
 use Rattle.gi_mir.specs.Edit.{all_instrs}

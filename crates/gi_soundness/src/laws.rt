@@ -4,7 +4,8 @@ ghost use Rattle.std.specs.Prelude.{◌≡◌, [], ℕ};
 ghost use Rattle.gi_mir.specs.Data.{FunctionData};
 ghost use Rattle.gi_valid.specs.Faults.{double_definitions, phi_entries, physical_across, sites, terminator, told, type_mismatch, unknown_block, unknown_successors};
 ghost use Rattle.gi_valid.specs.Typing.{Phase};
-ghost use Rattle.gi_soundness.specs.Conditions.{AccountsForResults, ArePlain, DefinesAnew, KeepsTypes, MakesNoCall};
+ghost use Rattle.gi_valid.specs.Valid.{IsValid};
+ghost use Rattle.gi_soundness.specs.Conditions.{AccountsForResults, ArePlain, DefinesAnew, KeepsTypes, MakesNoCall, ReadsOrigins};
 ghost use Rattle.gi_soundness.specs.Rewriting.{IsRewritten, Rewriting};
 
 /// No register comes to be defined twice.
@@ -38,4 +39,10 @@ pub fn types_stay_met()
 pub fn physical_registers_stay()
     ensures { (x : ℕ) (phase : Phase) (w : Rewriting) (f g : FunctionData) → IsRewritten w f g → ArePlain w → DefinesAnew w f → AccountsForResults w f → KeepsTypes x phase w f g → MakesNoCall x phase w g → double_definitions f ≡ []
         → told (physical_across x phase f) (sites f) ≡ [] → told (physical_across x phase g) (sites g) ≡ [] }
+{}
+
+/// A valid function stays valid: also each register that is read is available.
+pub fn valid_function_stays_valid()
+    ensures { (x : ℕ) (phase : Phase) (w : Rewriting) (f g : FunctionData) → IsRewritten w f g → ArePlain w → DefinesAnew w f → AccountsForResults w f → ReadsOrigins w f → KeepsTypes x phase w f g → MakesNoCall x phase w g
+        → IsValid x phase f → IsValid x phase g }
 {}
