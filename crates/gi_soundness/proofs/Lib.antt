@@ -7,6 +7,7 @@ pub mod Faultless
 pub mod Frames
 pub mod Listed
 pub mod Origins
+pub mod Placed
 pub mod Reading
 pub mod Single
 pub mod Staying

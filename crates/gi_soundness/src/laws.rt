@@ -1,12 +1,24 @@
 //! What a rewriting keeps, fault by fault.
 
-ghost use Rattle.std.specs.Prelude.{◌≡◌, [], ℕ};
-ghost use Rattle.gi_mir.specs.Data.{FunctionData};
+ghost use Rattle.std.specs.Prelude.{◌≡◌, [], Some, ℕ};
+ghost use Rattle.gi_mir.specs.Data.{FunctionData, InstrData};
+ghost use Rattle.gi_mir.specs.Edit.{IsLive, instr_of};
+ghost use Rattle.gi_mir.specs.Ids.{AreOwnIds};
+ghost use Rattle.gi_pattern.specs.Applying.{applied};
+ghost use Rattle.gi_pattern.specs.Data.{RuleData};
+ghost use Rattle.gi_pattern.specs.declared.binding.Binding.{Binding};
 ghost use Rattle.gi_valid.specs.Faults.{double_definitions, phi_entries, physical_across, sites, terminator, told, type_mismatch, unknown_block, unknown_successors};
 ghost use Rattle.gi_valid.specs.Typing.{Phase};
 ghost use Rattle.gi_valid.specs.Valid.{IsValid};
+ghost use Rattle.gi_soundness.specs.Applying.{rewriting_of};
 ghost use Rattle.gi_soundness.specs.Conditions.{AccountsForResults, ArePlain, DefinesAnew, KeepsTypes, MakesNoCall, ReadsOrigins};
 ghost use Rattle.gi_soundness.specs.Rewriting.{IsRewritten, Rewriting};
+
+/// A rule that is applied at an instruction is a rewriting there.
+pub fn applied_rule_rewrites()
+    ensures { (x : ℕ) (rule : RuleData) (b : Binding) (id : ℕ) (f : FunctionData) (root : InstrData) → AreOwnIds f.blocks f.next_id → IsLive f id → instr_of f id ≡ Some root
+        → IsRewritten (rewriting_of x rule b id root f) f (applied x rule b id f) }
+{}
 
 /// No register comes to be defined twice.
 pub fn definitions_stay_single()
