@@ -1,6 +1,7 @@
 pub mod Accounted
 pub mod Across
 pub mod Available
+pub mod Binding
 pub mod Circles
 pub mod Computed
 pub mod Faultless
