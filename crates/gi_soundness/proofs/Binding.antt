@@ -4,7 +4,7 @@ use Rattle.std.proofs.lemmas.Bool.{or_cases, or_left, or_right, and_parts, and_f
 use Rattle.std.specs.List.{list_any, list_all}
 use Rattle.std.specs.Option.{option_and_then}
 use Rattle.gi_mir.specs.Edit.{is_def_of, is_use_of}
-use Rattle.gi_mir.specs.Formed.{is_def}
+use Rattle.gi_mir.specs.Formed.{is_def, is_physical}
 use Rattle.gi_mir.specs.declared.operand.Kind.{Kind}
 use Rattle.gi_mir.specs.declared.operand.Operand.{Operand}
 use Rattle.gi_mir.specs.declared.operand.Operand.TheVariants as operand
@@ -105,6 +105,7 @@ pub record SlotSays (s : Slot) (o : Operand) (b c : Binding) : Type 0 where
   pub results : (n : ℕ) → is_looked_at s ≡ true → is_def_of n o ≡ true → (p : ℕ) × (is_in p (places_defined (s ∷ [])) ≡ true) × IsBound c p n
   pub plain : is_looked_at s ≡ true → is_plain_operand o ≡ true
   pub defines : is_result s ≡ true → is_def o ≡ true
+  pub unphysical : is_looked_at s ≡ true → is_physical o ≡ false
 
 only : (p q : ℕ) → ((p == q) || false) ≡ true → p ≡ q
 only p q h = ⊎_elim (λ same. eqb-true p q same) (λ none. absurd (true≢false (sym none))) (or_cases (p == q) false h)
@@ -119,6 +120,7 @@ slot_says (slot.Def p) (operand.Def r kind) b c h =
       results = λ n looked own. (p, or_left (p == p) false (eq-eqb p p refl), subst (λ k. IsBound c p k) (eqb-true r.0 n own) both.1);
       plain = λ looked. refl;
       defines = λ result. refl;
+      unphysical = λ looked. refl;
     }
 slot_says (slot.Use p) (operand.Use r) b c h =
     let both : Extends b c × IsBound c p r.0 = register_step (slice_get b.regs p) p r b c refl h in
@@ -129,6 +131,7 @@ slot_says (slot.Use p) (operand.Use r) b c h =
       results = λ n looked own. absurd (true≢false (sym own));
       plain = λ looked. refl;
       defines = λ result. absurd (true≢false (sym result));
+      unphysical = λ looked. refl;
     }
 slot_says (slot.Value p) (operand.Constant bits value) b c h = by (constant_value bits value) h
   where
@@ -141,6 +144,7 @@ slot_says (slot.Value p) (operand.Constant bits value) b c h = by (constant_valu
       results = λ n looked own. absurd (true≢false (sym own));
       plain = λ looked. refl;
       defines = λ result. absurd (true≢false (sym result));
+      unphysical = λ looked. refl;
     }
 slot_says (slot.Value p) (operand.Int number) b c h = record {
   extends = same_registers b c (value_registers (slice_get b.values p) p (whole_value number) b c h);
@@ -149,6 +153,7 @@ slot_says (slot.Value p) (operand.Int number) b c h = record {
   results = λ n looked own. absurd (true≢false (sym own));
   plain = λ looked. refl;
   defines = λ result. absurd (true≢false (sym result));
+  unphysical = λ looked. refl;
 }
 slot_says (slot.Pred asked) (operand.Predicate pred) b c h = record {
   extends = same_registers b c (with_pred_registers b asked pred c h);
@@ -157,6 +162,7 @@ slot_says (slot.Pred asked) (operand.Predicate pred) b c h = record {
   results = λ n looked own. absurd (true≢false (sym own));
   plain = λ looked. refl;
   defines = λ result. absurd (true≢false (sym result));
+  unphysical = λ looked. refl;
 }
 slot_says slot.Any o b c h =
     let same : b ≡ c = cc in
@@ -167,6 +173,7 @@ slot_says slot.Any o b c h =
       results = λ n looked own. absurd (true≢false (sym looked));
       plain = λ looked. absurd (true≢false (sym looked));
       defines = λ result. absurd (true≢false (sym result));
+      unphysical = λ looked. absurd (true≢false (sym looked));
     }
 slot_says _ _ b c h = cc
 
@@ -179,6 +186,7 @@ pub record SlotsSay (ss : List Slot) (os : List Operand) (b c : Binding) : Type 
   pub results : (n : ℕ) → list_all is_looked_at ss ≡ true → list_any (is_def_of n) os ≡ true → (p : ℕ) × (is_in p (places_defined ss) ≡ true) × IsBound c p n
   pub plain : list_all is_looked_at ss ≡ true → list_all is_plain_operand os ≡ true
   pub defines : list_any is_result ss ≡ true → list_any is_def os ≡ true
+  pub unphysical : list_all is_looked_at ss ≡ true → list_any is_physical os ≡ false
 
 in_first_or_rest : (p : ℕ) (xs ys : List ℕ) → is_in p (xs ++ ys) ≡ true → (is_in p xs ≡ true) ⊎ (is_in p ys ≡ true)
 in_first_or_rest p [] ys h = inr h
@@ -211,6 +219,7 @@ slots_say [] [] b c h =
       results = λ n looked none. absurd (true≢false (sym none));
       plain = λ looked. refl;
       defines = λ none. absurd (true≢false (sym none));
+      unphysical = λ looked. refl;
     }
 slots_say [] (o ∷ os) b c h = cc
 slots_say (s ∷ ss) [] b c h = cc
@@ -240,5 +249,8 @@ slots_say (s ∷ ss) (o ∷ os) b c h = by (slot_bound s o b) refl h (λ d l. sl
           plain = λ looked.
               let each : (is_looked_at s ≡ true) × (list_all is_looked_at ss ≡ true) = and_parts (is_looked_at s) (list_all is_looked_at ss) looked in
               and_from (is_plain_operand o) (list_all is_plain_operand os) (one.plain each.0) (rest.plain each.1);
+          unphysical = λ looked.
+              let each : (is_looked_at s ≡ true) × (list_all is_looked_at ss ≡ true) = and_parts (is_looked_at s) (list_all is_looked_at ss) looked in
+              ap₂ (λ a b. a || b) (one.unphysical each.0) (rest.unphysical each.1);
           defines = λ some. ⊎_elim (λ now. or_left (is_def o) (list_any is_def os) (one.defines now)) (λ later. or_right (is_def o) (list_any is_def os) (rest.defines later)) (or_cases (is_result s) (list_any is_result ss) some);
         }

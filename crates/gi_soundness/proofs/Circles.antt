@@ -130,7 +130,7 @@ site_of_one f i there =
 
 -- ══ Definitions ══
 
-joining_is : (flags : Flags) (o : Opcode) → is_joining (meaning_of flags o) ≡ is_phi_op o
+pub joining_is : (flags : Flags) (o : Opcode) → is_joining (meaning_of flags o) ≡ is_phi_op o
 joining_is flags op.Copy = refl
 joining_is flags _ = refl
 

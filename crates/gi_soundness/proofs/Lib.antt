@@ -7,6 +7,7 @@ pub mod Computed
 pub mod Faultless
 pub mod Frames
 pub mod Listed
+pub mod Matching
 pub mod Origins
 pub mod Placed
 pub mod Reading
