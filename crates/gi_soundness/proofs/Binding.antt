@@ -188,7 +188,7 @@ pub record SlotsSay (ss : List Slot) (os : List Operand) (b c : Binding) : Type 
   pub defines : list_any is_result ss ≡ true → list_any is_def os ≡ true
   pub unphysical : list_all is_looked_at ss ≡ true → list_any is_physical os ≡ false
 
-in_first_or_rest : (p : ℕ) (xs ys : List ℕ) → is_in p (xs ++ ys) ≡ true → (is_in p xs ≡ true) ⊎ (is_in p ys ≡ true)
+pub in_first_or_rest : (p : ℕ) (xs ys : List ℕ) → is_in p (xs ++ ys) ≡ true → (is_in p xs ≡ true) ⊎ (is_in p ys ≡ true)
 in_first_or_rest p [] ys h = inr h
 in_first_or_rest p (x ∷ xs) ys h =
     ⊎_elim (λ now. inl (or_left (p == x) (is_in p xs) now)) (λ later. ⊎_elim (λ l. inl (or_right (p == x) (is_in p xs) l)) (λ l. inr l) (in_first_or_rest p xs ys later)) (or_cases (p == x) (is_in p (xs ++ ys)) h)

@@ -5,6 +5,7 @@ pub mod Binding
 pub mod Circles
 pub mod Computed
 pub mod Faultless
+pub mod Found
 pub mod Frames
 pub mod Listed
 pub mod Matching

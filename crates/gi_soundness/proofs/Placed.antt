@@ -33,7 +33,7 @@ uses_first id p is =
 uses_both : (id : ℕ) (xs ys : List (ℕ × InstrData)) → uses_among id (xs ++ ys) ≡ uses_among id xs + uses_among id ys
 uses_both id xs ys = sum_by-append (λ (q : ℕ × InstrData). cond (q.0 == id) 1 0) xs ys
 
-uses_in_all : (id : ℕ) (blocks : List BlockData) → uses_of id blocks ≡ uses_among id (all_instrs blocks)
+pub uses_in_all : (id : ℕ) (blocks : List BlockData) → uses_of id blocks ≡ uses_among id (all_instrs blocks)
 uses_in_all id [] = refl
 uses_in_all id (k ∷ blocks) =
     let all : uses_of id (k ∷ blocks) ≡ uses_of id (k ∷ []) + uses_of id blocks = sum_by-append (uses_in id) (k ∷ []) blocks in
@@ -71,7 +71,7 @@ counted id p (q ∷ is) there own =
     (λ same. let one : ◌≡◌ {A = ℕ} (cond (q.0 == id) 1 0) 1 = ap (λ t. cond t 1 0) (subst (λ (k : ℕ × InstrData). (k.0 == id) ≡ true) same own) in omega (arith, all, one))
     (λ later. let one : 1 ≤ uses_among id is = counted id p is later own in omega (arith, all, one)) there
 
-one_with : (id : ℕ) (p q : ℕ × InstrData) (is : List (ℕ × InstrData)) → uses_among id is ≤ 1 → IsOneOf p is → IsOneOf q is → (p.0 == id) ≡ true → (q.0 == id) ≡ true → p ≡ q
+pub one_with : (id : ℕ) (p q : ℕ × InstrData) (is : List (ℕ × InstrData)) → uses_among id is ≤ 1 → IsOneOf p is → IsOneOf q is → (p.0 == id) ≡ true → (q.0 == id) ≡ true → p ≡ q
 one_with id p q [] most there then own own' = absurd there
 one_with id p q (i ∷ is) most there then own own' =
     ⊎_elim

@@ -1,7 +1,9 @@
 -- What is asked of a rule by its own list, so that it keeps valid functions valid: tests that are worked out rule by rule.
-use Rattle.std.specs.Prelude.{ℕ, Bool, true, false, not, ◌&&◌, ◌||◌, ◌==◌, nat_le, List, [], ◌∷◌, ◌++◌, Option, Some, None, length, map, if◌then◌else◌}
+use Rattle.std.specs.Prelude.{◌≡◌, ◌<◌, ℕ, Bool, true, false, not, ◌&&◌, ◌||◌, ◌==◌, nat_le, List, [], ◌∷◌, ◌++◌, Option, Some, None, length, map, if◌then◌else◌}
 use Rattle.std.specs.List.{list_all, list_any}
 use Rattle.std.specs.Option.{option_map_or}
+use Rattle.gi_mir.specs.Data.{FunctionData}
+use Rattle.gi_mir.specs.Edit.{all_instrs, defines, uses}
 use Rattle.gi_mir.specs.Row.{access_of, is_call_op, is_phi_op, is_terminator_op}
 use Rattle.gi_mir.specs.declared.opcode.Opcode.{Opcode}
 use Rattle.gi_valid.specs.Definitions.{is_load}
@@ -101,14 +103,24 @@ replaced_places pairs = map (λ pair. pair.0) pairs
 
 -- Such a rule has a pure root; each of its results is made or replaced, and at most one is made; what is made or stands for a
 -- result is computed from what the root's results are computed from.
+abbrev pub keeps_with : RuleData → (root : MatchData) → Bool
+keeps_with rule root =
+    is_pure_match root
+    && list_all (is_pure_make (origins_in rule.matches)) rule.makes
+    && are_results (places_defined root.slots) (all_places_made rule.makes)
+    && list_all (λ p. is_in p (all_places_made rule.makes) || is_in p (replaced_places rule.replaces)) (places_defined root.slots)
+    && list_all (λ pair. is_in pair.0 (places_defined root.slots) && is_in pair.1 (origins_in rule.matches)) rule.replaces
+
+abbrev pub keeps_rooted : RuleData → List MatchData → Bool
+keeps_rooted rule [] = false
+keeps_rooted rule (root ∷ ms) = keeps_with rule root
+
 abbrev pub keeps_valid : RuleData → Bool
-keeps_valid rule = is_kept rule rule.matches
-  where
-    is_kept : RuleData → List MatchData → Bool
-    is_kept rule [] = false
-    is_kept rule (root ∷ ms) =
-        is_pure_match root
-        && list_all (is_pure_make (origins_in rule.matches)) rule.makes
-        && are_results (places_defined root.slots) (all_places_made rule.makes)
-        && list_all (λ p. is_in p (all_places_made rule.makes) || is_in p (replaced_places rule.replaces)) (places_defined root.slots)
-        && list_all (λ pair. is_in pair.0 (places_defined root.slots) && not (is_in pair.0 (all_places_made rule.makes)) && is_in pair.1 (origins_in rule.matches)) rule.replaces
+keeps_valid rule = keeps_rooted rule rule.matches
+
+-- ══ Numbers ══
+
+-- the function has had each register that its instructions mention
+pub record HasHadAll (f : FunctionData) : Type 0 where
+  pub defined : (r : ℕ) → list_any (defines r) (all_instrs f.blocks) ≡ true → r < f.next_reg
+  pub used : (r : ℕ) → list_any (uses r) (all_instrs f.blocks) ≡ true → r < f.next_reg
