@@ -193,11 +193,11 @@ in_first_or_rest p [] ys h = inr h
 in_first_or_rest p (x ∷ xs) ys h =
     ⊎_elim (λ now. inl (or_left (p == x) (is_in p xs) now)) (λ later. ⊎_elim (λ l. inl (or_right (p == x) (is_in p xs) l)) (λ l. inr l) (in_first_or_rest p xs ys later)) (or_cases (p == x) (is_in p (xs ++ ys)) h)
 
-in_first : (p : ℕ) (xs ys : List ℕ) → is_in p xs ≡ true → is_in p (xs ++ ys) ≡ true
+pub in_first : (p : ℕ) (xs ys : List ℕ) → is_in p xs ≡ true → is_in p (xs ++ ys) ≡ true
 in_first p [] ys h = cc
 in_first p (x ∷ xs) ys h = ⊎_elim (λ now. or_left (p == x) (is_in p (xs ++ ys)) now) (λ later. or_right (p == x) (is_in p (xs ++ ys)) (in_first p xs ys later)) (or_cases (p == x) (is_in p xs) h)
 
-in_rest : (p : ℕ) (xs ys : List ℕ) → is_in p ys ≡ true → is_in p (xs ++ ys) ≡ true
+pub in_rest : (p : ℕ) (xs ys : List ℕ) → is_in p ys ≡ true → is_in p (xs ++ ys) ≡ true
 in_rest p [] ys h = h
 in_rest p (x ∷ xs) ys h = or_right (p == x) (is_in p (xs ++ ys)) (in_rest p xs ys h)
 

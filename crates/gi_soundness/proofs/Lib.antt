@@ -8,6 +8,7 @@ pub mod Faultless
 pub mod Found
 pub mod Frames
 pub mod Listed
+pub mod Made
 pub mod Matching
 pub mod Origins
 pub mod Placed

@@ -22,7 +22,7 @@ use Rattle.gi_soundness.proofs.Listed.{instrs_after, results_left}
 abbrev lined : (ℕ × InstrData) → List (ℕ × ℕ)
 lined p = map (λ r. (p.1.line, r)) (results_in p.1.operands)
 
-times_append : (r : ℕ) (xs ys : List (ℕ × ℕ)) → times r (xs ++ ys) ≡ times r xs + times r ys
+pub times_append : (r : ℕ) (xs ys : List (ℕ × ℕ)) → times r (xs ++ ys) ≡ times r xs + times r ys
 times_append r [] ys = omega arith
 times_append r (d ∷ xs) ys = let h : times r (xs ++ ys) ≡ times r xs + times r ys = times_append r xs ys in omega (arith, h)
 
@@ -34,7 +34,7 @@ definitions_append r (p ∷ xs) ys =
     let own : times r (lined p ++ definitions xs) ≡ times r (lined p) + times r (definitions xs) = times_append r (lined p) (definitions xs) in
     omega (arith, h, all, own)
 
-times_lined : (r line : ℕ) (qs : List ℕ) → times r (map (λ q. (line, q)) qs) ≡ often r qs
+pub times_lined : (r line : ℕ) (qs : List ℕ) → times r (map (λ q. (line, q)) qs) ≡ often r qs
 times_lined r line [] = refl
 times_lined r line (q ∷ qs) = ap (λ n. cond (q == r) 1 0 + n) (times_lined r line qs)
 
