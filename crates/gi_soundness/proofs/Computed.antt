@@ -92,7 +92,7 @@ made_or_else w r = by (is_made w r) refl
     by true so = inl so
     by false so = inr so
 
-any_one : (test : ℕ × InstrData → Bool) (e : ℕ × InstrData) (is : List (ℕ × InstrData)) → IsOneOf e is → test e ≡ true → list_any test is ≡ true
+pub any_one : (test : ℕ × InstrData → Bool) (e : ℕ × InstrData) (is : List (ℕ × InstrData)) → IsOneOf e is → test e ≡ true → list_any test is ≡ true
 any_one test e [] there h = absurd there
 any_one test e (q ∷ is) there h =
     ⊎_elim (λ same. or_left (test q) (list_any test is) (subst (λ k. test k ≡ true) same h)) (λ later. or_right (test q) (list_any test is) (any_one test e is later h)) there

@@ -13,6 +13,7 @@ pub mod Matching
 pub mod Origins
 pub mod Placed
 pub mod Reading
+pub mod Rule
 pub mod Single
 pub mod Staying
 pub mod Sites

@@ -416,10 +416,12 @@ all_read P x f b line origins good (m ∷ ms) next done all =
     let cs : List InstrData = constants_made x f b line m.slots next in
     let i : InstrData = plain m.op (operands_made x f b b b next m.slots) line in
     reads_append P done (one_bound x f b line m next) (all_bound x f b line ms (next + fresh_count m.slots))
-    (reads_append P done (constants_made x f b line m.slots next) (i ∷ []) (constants_read P x f b line m.slots next done)
-    (λ r used. ⊎_elim
-    (λ constant. inl (list_any-append (has_def r) done (constants_made x f b line m.slots next) ∙ or_right (list_any (has_def r) done) (list_any (has_def r) (constants_made x f b line m.slots next)) constant))
-    (λ holds. inr holds) (operands_read P x f b line origins good m.slots next pure.operands r used), tt))
+    (reads_append P done (constants_made x f b line m.slots next) (i ∷ []) (constants_read P x f b line m.slots next done) (
+      λ r used. ⊎_elim
+          (λ constant. inl (list_any-append (has_def r) done (constants_made x f b line m.slots next) ∙ or_right (list_any (has_def r) done) (list_any (has_def r) (constants_made x f b line m.slots next)) constant))
+          (λ holds. inr holds) (operands_read P x f b line origins good m.slots next pure.operands r used),
+      tt,
+    ))
     (all_read P x f b line origins good ms (next + fresh_count m.slots) (done ++ one_bound x f b line m next) each.1)
 
 -- with ids, split in two at one of these
