@@ -1,16 +1,15 @@
 -- What the slots of a match say of the operands, and of what is bound behind them.
-use Rattle.std.proofs.Common.{◌≡◌, ℕ, ℤ, zero, suc, Bool, true, false, cond, not, ◌&&◌, ◌||◌, ◌==◌, List, [], ◌∷◌, ◌++◌, Option, Some, None, set, slice_get, ◌⊎◌, inl, inr, ⊎_elim, refl, sym, ap, ap₂, ◌∙◌, subst, true≢false}
+use Rattle.std.proofs.Common.{◌≡◌, ℕ, zero, suc, Bool, true, false, cond, ◌||◌, ◌==◌, List, [], ◌∷◌, ◌++◌, Option, Some, None, set, slice_get, ◌⊎◌, inl, inr, ⊎_elim, refl, sym, ap, ap₂, ◌∙◌, subst, true≢false}
 use Rattle.std.proofs.lemmas.Bool.{or_cases, or_left, or_right, and_parts, and_from, eqb-true, eq-eqb}
 use Rattle.std.specs.List.{list_any, list_all}
 use Rattle.std.specs.Option.{option_and_then}
 use Rattle.gi_mir.specs.Edit.{is_def_of, is_use_of}
 use Rattle.gi_mir.specs.Formed.{is_def, is_physical}
-use Rattle.gi_mir.specs.declared.operand.Kind.{Kind}
 use Rattle.gi_mir.specs.declared.operand.Operand.{Operand}
 use Rattle.gi_mir.specs.declared.operand.Operand.TheVariants as operand
 use Rattle.gi_mir.specs.declared.operand.Pred.{Pred as Predicate}
 use Rattle.gi_mir.specs.declared.operand.Reg.{Reg}
-use Rattle.gi_pattern.specs.Binding.{kept_if, pred_bound, register_at, register_bound, same_pred, slot_bound, slots_bound, value_bound, whole_value, with_pred, with_register, with_value, constant_value}
+use Rattle.gi_pattern.specs.Binding.{kept_if, pred_bound, register_at, register_bound, same_pred, slot_bound, slots_bound, value_bound, whole_value, with_pred, with_value, constant_value}
 use Rattle.gi_pattern.specs.declared.binding.Binding.{Binding}
 use Rattle.gi_pattern.specs.declared.binding.BoundValue.{BoundValue}
 use Rattle.gi_pattern.specs.declared.rule.Slot.{Slot}

@@ -1,12 +1,12 @@
 -- Registers that the root's results are computed from, by the places where they are bound.
-use Rattle.std.proofs.Common.{◌≡◌, ℕ, zero, suc, ◌≤◌, Bool, true, false, cond, not, ◌&&◌, ◌||◌, ◌==◌, List, [], ◌∷◌, ◌++◌, Option, Some, None, option_map, find, ◌⊎◌, inl, inr, ⊎_elim, refl, sym, ap, ap₂, ◌∙◌, subst, true≢false}
-use Rattle.std.proofs.lemmas.Bool.{or_cases, or_left, or_right, and_parts, and_from, eqb-true, eq-eqb}
-use Rattle.std.specs.List.{list_any, list_all}
+use Rattle.std.proofs.Common.{◌≡◌, ℕ, ◌≤◌, Bool, true, false, cond, ◌&&◌, ◌==◌, List, [], ◌∷◌, ◌++◌, Option, Some, None, option_map, ⊎_elim, refl, sym, ap, ◌∙◌, subst}
+use Rattle.std.proofs.lemmas.Bool.{or_left, or_right, and_parts, and_from, eq-eqb}
+use Rattle.std.specs.List.{list_any}
 use Rattle.std.specs.Option.{option_and_then, option_map_or}
 use Rattle.gi_mir.specs.declared.operand.Reg.{Reg}
 use Rattle.gi_mir.specs.Data.{InstrData, BlockData, FunctionData}
-use Rattle.gi_mir.specs.Edit.{IsLive, all_instrs, defines, definition_of, has_instr, instr_of, is_def_of, is_use_of, uses}
-use Rattle.gi_mir.specs.Ids.{AreOwnIds, uses_among, uses_of}
+use Rattle.gi_mir.specs.Edit.{IsLive, all_instrs, defines, definition_of, has_instr, instr_of, is_use_of}
+use Rattle.gi_mir.specs.Ids.{AreOwnIds}
 use Rattle.gi_pattern.specs.Binding.{register_at}
 use Rattle.gi_pattern.specs.Data.{MatchData}
 use Rattle.gi_pattern.specs.Fitting.{definition_at, found, place_defined}
@@ -18,7 +18,7 @@ use Rattle.gi_soundness.specs.Rewriting.{IsOneOf}
 use Rattle.gi_soundness.specs.Rules.{defines_one, is_in, is_pure_match, origin_places, origins_in, places_used}
 use Rattle.gi_soundness.proofs.Binding.{Extends, IsBound, bound_on, in_first_or_rest}
 use Rattle.gi_soundness.proofs.Circles.{computed_on, is_definition, one_of_either}
-use Rattle.gi_soundness.proofs.Matching.{FitsOne, FoundFirst, found_first, found_extends, MatchSays, match_says, IsPurePlain, pure_found}
+use Rattle.gi_soundness.proofs.Matching.{FoundFirst, found_first, found_extends, match_says, pure_found}
 use Rattle.gi_soundness.proofs.Placed.{found_by_id, one_with, uses_in_all}
 use Rattle.gi_soundness.proofs.Typed.{found_there}
 

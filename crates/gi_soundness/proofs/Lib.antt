@@ -7,9 +7,11 @@ pub mod Computed
 pub mod Faultless
 pub mod Found
 pub mod Frames
+pub mod KeptKinds
 pub mod Listed
 pub mod Made
 pub mod Matching
+pub mod Meeting
 pub mod Origins
 pub mod Placed
 pub mod Reading

@@ -1,30 +1,22 @@
 -- What a rule makes that defines results of the root alone, and constants.
-use Rattle.std.proofs.Common.{◌≡◌, ℕ, zero, suc, ◌+◌, ◌≤◌, ◌<◌, Bool, true, false, cond, not, ◌&&◌, ◌||◌, ◌==◌, nat_le, List, [], ◌∷◌, ◌++◌, Option, Some, None, is_some, map, length, ◌⊎◌, inl, inr, ⊎_elim, refl, sym, ap, ap₂, ◌∙◌, subst, arith, true≢false, append_assoc, append-nil, nat_lt, ltb-true, ltb-false, leb-true}
-use Rattle.std.proofs.lemmas.Bool.{or_cases, or_left, or_right, or_parts, and_parts, and_from, eqb-true, eq-eqb, not_from_false, not-true, false_from_ne_true}
+use Rattle.std.proofs.Common.{◌≡◌, ℕ, suc, ◌+◌, ◌≤◌, ◌<◌, Bool, true, false, cond, not, ◌&&◌, ◌||◌, ◌==◌, nat_le, List, [], ◌∷◌, ◌++◌, is_some, map, length, ◌⊎◌, inl, inr, ⊎_elim, refl, sym, ap, ap₂, ◌∙◌, subst, arith, true≢false, append_assoc, append-nil, nat_lt, ltb-true, ltb-false, leb-true}
+use Rattle.std.proofs.lemmas.Bool.{or_cases, or_left, or_right, and_parts, and_from, eqb-true, eq-eqb, not-true, false_from_ne_true}
 use Rattle.std.proofs.lemmas.List.Folds.{list_any-append, list_all-append}
 use Rattle.std.specs.List.{list_any, list_all}
 use Rattle.std.specs.Option.{option_map_or}
-use Rattle.gi_mir.specs.declared.opcode.Opcode.TheVariants.{GenericConstant}
-use Rattle.gi_mir.specs.declared.operand.Operand.{Operand}
-use Rattle.gi_mir.specs.declared.operand.Operand.TheVariants as operand
-use Rattle.gi_mir.specs.declared.operand.Reg.{Reg}
 use Rattle.gi_mir.specs.Data.{InstrData, FunctionData, no_flags, reg_of}
 use Rattle.gi_mir.specs.Edit.{defines, is_def_of, is_use_of, uses}
-use Rattle.gi_meaning.specs.Runs.{is_phi}
 use Rattle.gi_pattern.specs.Binding.{register_at}
 use Rattle.gi_pattern.specs.Data.{MakeData}
 use Rattle.gi_pattern.specs.InPlace.{with_ids}
-use Rattle.gi_pattern.specs.Making.{all_made, bound_after, constant_made, constants_made, fresh_constant, fresh_count, fresh_if, kind_made, named, new_count, next_after, operand_made, operands_made, plain, put_at, register_or}
+use Rattle.gi_pattern.specs.Making.{all_made, bound_after, constants_made, fresh_constant, fresh_count, fresh_if, named, new_count, operand_made, operands_made, plain, put_at, register_or}
 use Rattle.gi_pattern.specs.declared.binding.Binding.{Binding}
 use Rattle.gi_pattern.specs.declared.rule.MakeSlot.{MakeSlot}
 use Rattle.gi_pattern.specs.declared.rule.MakeSlot.TheVariants as make
-use Rattle.gi_pattern.specs.declared.rule.TypeExpr.{TypeExpr}
-use Rattle.gi_pattern.specs.declared.rule.TypeExpr.TheVariants.{Of, Register, Fixed as FixedType}
 use Rattle.gi_valid.specs.Faults.{definitions, is_division, is_product, is_wider, may_call, times}
 use Rattle.gi_valid.specs.Typing.{Phase, results_in}
 use Rattle.gi_valid.proofs.Single.{often}
 use Rattle.gi_soundness.specs.Conditions.{is_plain_operand, is_plain}
-use Rattle.gi_soundness.specs.Rewriting.{IsOneOf}
 use Rattle.gi_soundness.specs.Rules.{all_places_made, computes, is_in, is_pure_make, is_pure_operand, places_made}
 use Rattle.gi_soundness.proofs.Binding.{IsBound, in_first, in_first_or_rest, in_rest}
 use Rattle.gi_soundness.proofs.Circles.{joining_is}
@@ -287,7 +279,7 @@ few_hits b r (p ∷ q ∷ ps) few = absurd (over (length ps) (leb-true (suc (suc
     over : (n : ℕ) → suc (suc n) ≤ 1 → ⊥
     over n h = omega (arith, h)
 
-constants_new : (x : ℕ) (f : FunctionData) (b : Binding) (line r : ℕ) (slots : List MakeSlot) (next : ℕ) → list_any (has_def r) (constants_made x f b line slots next) ≡ true → next ≤ r
+pub constants_new : (x : ℕ) (f : FunctionData) (b : Binding) (line r : ℕ) (slots : List MakeSlot) (next : ℕ) → list_any (has_def r) (constants_made x f b line slots next) ≡ true → next ≤ r
 constants_new x f b line r [] next h = cc
 constants_new x f b line r (make.Fresh value ty ∷ slots) next h =
     ⊎_elim (λ now. here (⊎_elim (λ same. eqb-true next r same) (λ none. absurd (true≢false (sym none))) (or_cases (next == r) false now)))

@@ -1,30 +1,26 @@
 -- What a rule that fits says of the instructions that it found.
-use Rattle.std.proofs.Common.{◌≡◌, ℕ, zero, suc, Bool, true, false, cond, not, ◌&&◌, ◌||◌, ◌==◌, List, [], ◌∷◌, ◌++◌, Option, Some, None, option_map, find, ◌⊎◌, inl, inr, ⊎_elim, refl, sym, ap, ap₂, ◌∙◌, subst, true≢false}
-use Rattle.std.proofs.lemmas.Bool.{or_cases, or_left, or_right, and_parts, and_from, eqb-true, eq-eqb, not_from_false, not-true}
+use Rattle.std.proofs.Common.{◌≡◌, ℕ, Bool, true, false, cond, not, ◌&&◌, ◌||◌, List, [], ◌∷◌, Option, Some, None, ◌⊎◌, inl, inr, ⊎_elim, refl, sym, ap, ap₂, ◌∙◌, subst}
+use Rattle.std.proofs.lemmas.Bool.{and_parts, not-true}
 use Rattle.std.specs.List.{list_any, list_all}
-use Rattle.std.specs.Option.{option_and_then, option_map_or, option_or}
+use Rattle.std.specs.Option.{option_and_then, option_or}
 use denote.Enum.Bare.{same_true}
 use Rattle.gi_mir.specs.contracts.opcode.Opcode.{the_type}
 use Rattle.gi_mir.specs.declared.opcode.Opcode.{Opcode}
 use Rattle.gi_mir.specs.declared.operand.Operand.{Operand}
 use Rattle.gi_mir.specs.declared.operand.Operand.TheVariants as operand
-use Rattle.gi_mir.specs.declared.operand.Reg.{Reg}
 use Rattle.gi_mir.specs.Data.{InstrData, FunctionData}
-use Rattle.gi_mir.specs.Edit.{all_instrs, defines, definition_of, instr_of, is_def_of, is_use_of, uses}
+use Rattle.gi_mir.specs.Edit.{is_def_of, is_use_of}
 use Rattle.gi_mir.specs.Formed.{is_def, is_physical, is_physical_def, is_implicit_def}
 use Rattle.gi_mir.specs.Row.{access_of, is_call_op, is_phi_op, is_terminator_op}
-use Rattle.gi_meaning.specs.Runs.{is_phi}
-use Rattle.gi_pattern.specs.Binding.{register_at, slots_bound}
+use Rattle.gi_pattern.specs.Binding.{slots_bound}
 use Rattle.gi_pattern.specs.Data.{MatchData}
-use Rattle.gi_pattern.specs.Fitting.{all_pass, bound_as_written, bound_exchanged, definition_at, exchanged, found, is_commutative, place_defined, same_op}
+use Rattle.gi_pattern.specs.Fitting.{all_pass, bound_as_written, bound_exchanged, definition_at, exchanged, found, is_commutative, same_op}
 use Rattle.gi_pattern.specs.declared.binding.Binding.{Binding}
-use Rattle.gi_pattern.specs.declared.rule.Slot.{Slot}
-use Rattle.gi_pattern.specs.declared.rule.Slot.TheVariants as slot
 use Rattle.gi_pattern.specs.declared.rule.Test.{Test}
-use Rattle.gi_valid.specs.Definitions.{is_load, is_copy, copies_physical, defines_any_physical, is_erasable, is_pure, definition}
+use Rattle.gi_valid.specs.Definitions.{is_load, is_copy, defines_any_physical, is_erasable, is_pure}
 use Rattle.gi_soundness.specs.Conditions.{is_plain_operand, is_plain}
 use Rattle.gi_soundness.specs.Rules.{is_looked_at, is_result, places_defined, places_used, is_in, computes, is_pure_match}
-use Rattle.gi_soundness.proofs.Binding.{Extends, extends_self, extends_on, IsBound, bound_on, SlotsSay, slots_say}
+use Rattle.gi_soundness.proofs.Binding.{Extends, extends_self, extends_on, IsBound, SlotsSay, slots_say}
 use Rattle.gi_soundness.proofs.Circles.{joining_is}
 
 -- ══ What was found ══

@@ -1,23 +1,21 @@
 -- What a rule makes of a function is a rewriting.
-use Rattle.std.proofs.Common.{◌≡◌, ℕ, zero, suc, ◌+◌, ◌≤◌, ◌<◌, Bool, true, false, cond, not, ◌||◌, ◌==◌, List, [], ◌∷◌, ◌++◌, Option, Some, None, option_map, map, flat_map, take, drop, get_or, set, length, slice_get, ◌⊎◌, inl, inr, ⊎_elim, refl, sym, ap, ap₂, ◌∙◌, subst, arith, true≢false}
-use Rattle.std.proofs.lemmas.Bool.{or_cases, or_parts, eqb-true, eq-eqb}
-use Rattle.std.proofs.lemmas.Grind.{flat_map-append}
+use Rattle.std.proofs.Common.{◌≡◌, ℕ, zero, suc, ◌+◌, ◌≤◌, Bool, true, false, cond, not, ◌==◌, List, [], ◌∷◌, ◌++◌, Option, Some, None, option_map, map, flat_map, take, drop, get_or, set, slice_get, inl, inr, ⊎_elim, refl, sym, ap, ap₂, ◌∙◌, subst, arith}
+use Rattle.std.proofs.lemmas.Bool.{or_cases, or_parts, eq-eqb}
 use Rattle.std.proofs.lemmas.List.Folds.{flat_map-map}
 use Rattle.std.proofs.lemmas.List.Sums.{sum_by-append}
 use Rattle.std.specs.List.{list_any, position_or_len}
 use Rattle.gi_mir.specs.Data.{InstrData, BlockData, FunctionData}
-use Rattle.gi_mir.specs.Edit.{IsLive, all_instrs, empty_block, entry_at, has_instr, home_block, home_of, instr_of, place_in_block, place_of}
+use Rattle.gi_mir.specs.Edit.{IsLive, all_instrs, empty_block, has_instr, home_block, home_of, instr_of, place_in_block, place_of}
 use Rattle.gi_mir.specs.Ids.{AreOwnIds, uses_among, uses_in, uses_of}
-use Rattle.gi_mir.specs.Places.{id_in}
 use Rattle.gi_mir.proofs.Located.{id_in-live}
-use Rattle.gi_pattern.specs.Applying.{applied, made_at, root_replaced, uses_replaced}
+use Rattle.gi_pattern.specs.Applying.{applied, made_at, uses_replaced}
 use Rattle.gi_pattern.specs.Data.{RuleData}
-use Rattle.gi_pattern.specs.InPlace.{block_renamed, block_with, blocks_with, entry_renamed, renamed, with_ids}
+use Rattle.gi_pattern.specs.InPlace.{block_renamed, block_with, entry_renamed, renamed}
 use Rattle.gi_pattern.specs.declared.binding.Binding.{Binding}
 use Rattle.gi_pattern.proofs.InPlace.{blocks-renamed, blocks-replaced}
 use Rattle.gi_pattern.proofs.Standing.{IsLive-uses_replaced}
 use Rattle.gi_soundness.specs.Applying.{rewriting_of}
-use Rattle.gi_soundness.specs.Rewriting.{Rewriting, standing_for, rewritten, block_rewritten, IsOneOf, IsRewritten}
+use Rattle.gi_soundness.specs.Rewriting.{Rewriting, rewritten, block_rewritten, IsOneOf, IsRewritten}
 
 -- ══ Counting ids ══
 
@@ -50,7 +48,7 @@ uses_renamed id rename [] = refl
 uses_renamed id rename (p ∷ is) =
     uses_first id (entry_renamed rename p) (map (entry_renamed rename) is) ∙ ap (λ n. cond (p.0 == id) 1 0 + n) (uses_renamed id rename is) ∙ sym (uses_first id p is)
 
-all_renamed : (rename : ℕ → ℕ) (blocks : List BlockData) → all_instrs (map (block_renamed rename) blocks) ≡ map (entry_renamed rename) (all_instrs blocks)
+pub all_renamed : (rename : ℕ → ℕ) (blocks : List BlockData) → all_instrs (map (block_renamed rename) blocks) ≡ map (entry_renamed rename) (all_instrs blocks)
 all_renamed rename [] = refl
 all_renamed rename (k ∷ blocks) = ap (λ l. map (entry_renamed rename) k.instrs ++ l) (all_renamed rename blocks) ∙ both k.instrs
   where

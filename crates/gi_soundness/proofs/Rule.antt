@@ -1,17 +1,18 @@
 -- A rule that meets the condition on its own list keeps a valid function valid.
-use Rattle.std.proofs.Common.{◌≡◌, ℕ, zero, suc, ◌+◌, ◌≤◌, ◌<◌, max, Bool, true, false, cond, not, ◌&&◌, ◌||◌, ◌==◌, nat_le, List, [], ◌∷◌, ◌++◌, Option, Some, None, is_some, map, length, ◌⊎◌, inl, inr, ⊎_elim, refl, sym, ap, ap₂, ◌∙◌, subst, arith, true≢false, nat_lt, ltb-true, ltb-false}
-use Rattle.std.proofs.lemmas.Bool.{or_cases, or_left, or_right, and_parts, and_from, eqb-true, eq-eqb, not_from_false, not-true, not-false, false_from_ne_true}
+use Rattle.std.proofs.Common.{◌≡◌, ℕ, zero, suc, ◌+◌, ◌≤◌, ◌<◌, max, Bool, true, false, cond, not, ◌&&◌, ◌||◌, ◌==◌, nat_le, List, [], ◌∷◌, Some, None, is_some, length, ◌⊎◌, inl, inr, ⊎_elim, refl, sym, ap, ap₂, ◌∙◌, subst, arith, true≢false, nat_lt, ltb-true, ltb-false}
+use Rattle.std.proofs.lemmas.Bool.{or_cases, and_parts, eqb-true, eq-eqb, not-true, not-false, false_from_ne_true}
 use Rattle.std.specs.List.{list_any, list_all}
-use Rattle.gi_mir.specs.Data.{InstrData, BlockData, FunctionData}
+use Rattle.gi_mir.specs.Data.{InstrData, FunctionData}
 use Rattle.gi_mir.specs.Edit.{IsLive, all_instrs, defines, instr_of, is_def_of, uses}
 use Rattle.gi_mir.specs.Ids.{AreOwnIds}
+use Rattle.gi_mir.specs.Registers.{kind_in_instrs, kind_in_operands, kind_of}
 use Rattle.gi_mir.specs.Uses.{with_reg_replaced}
-use Rattle.gi_pattern.specs.Applying.{applied, line_of, made_at, uses_replaced}
+use Rattle.gi_pattern.specs.Applying.{applied, line_of, uses_replaced}
 use Rattle.gi_pattern.specs.Binding.{empty_binding, register_at}
 use Rattle.gi_pattern.specs.Data.{MatchData, RuleData}
 use Rattle.gi_pattern.specs.Fitting.{binding_at, definition_at, found}
 use Rattle.gi_pattern.specs.InPlace.{renamed, with_ids}
-use Rattle.gi_pattern.specs.Making.{all_made, register_or}
+use Rattle.gi_pattern.specs.Making.{register_or}
 use Rattle.gi_pattern.specs.declared.binding.Binding.{Binding}
 use Rattle.gi_valid.specs.Available.{Extent}
 use Rattle.gi_valid.specs.Definitions.{is_pure, definition, uses_purely, IsComputedOver, IsComputedFrom}
@@ -19,14 +20,15 @@ use Rattle.gi_valid.specs.Faults.{definitions, may_call, times}
 use Rattle.gi_valid.specs.Typing.{Phase}
 use Rattle.gi_valid.specs.Valid.{IsValid}
 use Rattle.gi_soundness.specs.Applying.{rewriting_of}
-use Rattle.gi_soundness.specs.Conditions.{is_plain, is_replaced, IsNew, ArePlain, DefinesAnew, AccountsForResults, ReadsOrigins, KeepsTypes, MakesNoCall}
-use Rattle.gi_soundness.specs.Rewriting.{Rewriting, IsOneOf, IsRewritten}
+use Rattle.gi_soundness.specs.Conditions.{is_plain, is_replaced, IsNew, ArePlain, DefinesAnew, AccountsForResults, ReadsOrigins, MeetsRows, MakesNoCall}
+use Rattle.gi_soundness.specs.Rewriting.{Rewriting, IsOneOf}
 use Rattle.gi_soundness.specs.Rules.{HasHadAll, all_places_made, are_results, computes, is_in, is_looked_at, is_result, is_pure_make, is_pure_match, keeps_rooted, keeps_valid, keeps_with, origins_in, places_defined, replaced_places}
 use Rattle.gi_soundness.proofs.Binding.{Extends, IsBound, bound_on}
 use Rattle.gi_soundness.proofs.Circles.{HasPlace, IsKnown, is_here, none_in_circle, pure_is_no_phi, purely_at, site_of_one, use_at}
 use Rattle.gi_soundness.proofs.Computed.{any_one}
 use Rattle.gi_soundness.proofs.Found.{FromRoot, IsSource, sources_of}
-use Rattle.gi_soundness.proofs.Made.{AreAllBound, AreGood, CountsMade, IsOfPlace, all_bound, all_counted, all_define, all_of_ids, all_plain, all_read, any_of_ids, bound_register, count, few_hits, has_def, hits, made_is, made_new_or_placed, never_calls, no_hits, none_calls, read_at, times_counted}
+use Rattle.gi_soundness.proofs.KeptKinds.{kind_of_ids, made_kind, root_kind, same_kind}
+use Rattle.gi_soundness.proofs.Made.{AreGood, CountsMade, IsOfPlace, all_bound, all_counted, all_define, all_of_ids, all_plain, all_read, any_of_ids, bound_register, count, few_hits, has_def, hits, made_is, made_new_or_placed, never_calls, no_hits, none_calls, read_at, times_counted}
 use Rattle.gi_soundness.proofs.Matching.{FitsOne, FoundFirst, IsPurePlain, MatchSays, found_extends, found_first, match_says, pure_found}
 use Rattle.gi_soundness.proofs.Placed.{applied_is, found_by_id}
 use Rattle.gi_soundness.proofs.Valid.{great_of, known_of, stays_valid}
@@ -37,7 +39,7 @@ all_in test p (q ∷ ps) all inside =
     let each : (test q ≡ true) × (list_all test ps ≡ true) = and_parts (test q) (list_all test ps) all in
     ⊎_elim (λ same. subst (λ k. test k ≡ true) (sym (eqb-true p q same)) each.0) (λ later. all_in test p ps each.1 later) (or_cases (p == q) (is_in p ps) inside)
 
-one_passes : (test : ℕ × InstrData → Bool) (p : ℕ × InstrData) (is : List (ℕ × InstrData)) → list_all test is ≡ true → IsOneOf p is → test p ≡ true
+pub one_passes : (test : ℕ × InstrData → Bool) (p : ℕ × InstrData) (is : List (ℕ × InstrData)) → list_all test is ≡ true → IsOneOf p is → test p ≡ true
 one_passes test p [] all there = absurd there
 one_passes test p (q ∷ is) all there =
     let each : (test q ≡ true) × (list_all test is ≡ true) = and_parts (test q) (list_all test is) all in
@@ -208,6 +210,7 @@ pub record MeetsAll (x : ℕ) (phase : Phase) (w : Rewriting) (f g : FunctionDat
   pub results : AccountsForResults w f
   pub reads : ReadsOrigins w f
   pub calls : MakesNoCall x phase w g
+  pub kinds : (r : ℕ) → list_any (defines r) w.made ≡ true → defines r w.root ≡ true → kind_in_instrs r w.made ≡ kind_in_operands r w.root.1.operands
 
 pub meets_all : (x : ℕ) (phase : Phase) (f g : FunctionData) (great : ℕ → Extent) (rule : RuleData) (m : MatchData) (id : ℕ) (root : InstrData) (b : Binding) → IsFit f great rule m (id, root) b → MeetsAll x phase (rewriting_of x rule b id root f) f g
 meets_all x phase f g great rule m id root b c = record {
@@ -215,6 +218,7 @@ meets_all x phase f g great rule m id root b c = record {
   anew = record { once = once; own = own };
   results = record { results = results; covered = covered; origins = sources; apart = apart };
   reads = record { pure = c.pure.pure; read = λ earlier i later splits r used. read_at (FromRoot f (id, root)) [] made h.next_id earlier i later (all_read (FromRoot f (id, root)) x h b line origins c.sources rule.makes h.next_reg [] c.keeps.makes) (sym made_same ∙ splits) r used };
+  kinds = kinds;
   calls = record { made = λ p there. not-true (may_call x phase g p.1) (one_passes (λ (q : ℕ × InstrData). never_calls x phase g q.1) p w.made (ap (list_all (λ (q : ℕ × InstrData). never_calls x phase g q.1)) made_same ∙ all_of_ids (never_calls x phase g) h.next_id made ∙ none_calls x phase g h b line origins rule.makes h.next_reg c.keeps.makes) there) };
 }
   where
@@ -282,6 +286,16 @@ meets_all x phase f g great rule m id root b c = record {
           unused = false_from_ne_true (list_any (uses r) (all_instrs f.blocks)) (λ u. over new (c.had.used r u));
         }
 
+    kinds : (r : ℕ) → list_any (defines r) (rewriting_of x rule b id root f).made ≡ true → defines r (id, root) ≡ true → kind_in_instrs r (rewriting_of x rule b id root f).made ≡ kind_in_operands r root.operands
+    kinds r defined result =
+        let below : r < f.next_reg = c.had.defined r (any_one (defines r) (id, root) (all_instrs f.blocks) c.there result) in
+        let grows : f.next_reg ≤ (uses_replaced b rule.replaces f).next_reg = next_grows b rule.replaces f in
+        let there : list_any (has_def r) made ≡ true = sym (any_of_ids r (uses_replaced b rule.replaces f).next_id made) ∙ sym (ap (list_any (defines r)) made_same) ∙ defined in
+        ap (kind_in_instrs r) made_same ∙ kind_of_ids r (uses_replaced b rule.replaces f).next_id made
+        ∙ made_kind x (uses_replaced b rule.replaces f) b (line_of (uses_replaced b rule.replaces f) id) (origins_in rule.matches) r rule.makes (uses_replaced b rule.replaces f).next_reg c.keeps.makes (λ p inside. c.bound p (a_result p inside)) (omega (arith, below, grows))
+        ∙ ap (λ t. cond t (Some (kind_of (uses_replaced b rule.replaces f) r)) None) there
+        ∙ ap (λ k. Some k) (same_kind b rule.replaces f r) ∙ sym (root_kind f c.known.once (id, root) c.there r result)
+
     stands : (n : ℕ) → StandsFor f (id, root) b rule.replaces n
     stands n = stands_for f great c.known (id, root) c.there b rule.replaces (pairs_of f great rule m (id, root) b c rule.replaces c.keeps.replaced) n
 
@@ -329,7 +343,7 @@ meets_all x phase f g great rule m id root b c = record {
 -- ══ The rule ══
 
 pub rule_stays_valid : (x : ℕ) (phase : Phase) (rule : RuleData) (f : FunctionData) (id : ℕ) (root : InstrData) (b : Binding) → keeps_valid rule ≡ true → AreOwnIds f.blocks f.next_id → HasHadAll f → IsLive f id → instr_of f id ≡ Some root
-    → binding_at f rule id ≡ Some b → KeepsTypes x phase (rewriting_of x rule b id root f) f (applied x rule b id f) → IsValid x phase f → IsValid x phase (applied x rule b id f)
+    → binding_at f rule id ≡ Some b → MeetsRows x phase (rewriting_of x rule b id root f) f (applied x rule b id f) → IsValid x phase f → IsValid x phase (applied x rule b id f)
 rule_stays_valid x phase rule f id root b keeps own had live at fits types valid = by rule.matches refl keeps
   where
     by : (matches : List MatchData) → rule.matches ≡ matches → keeps_rooted rule matches ≡ true → IsValid x phase (applied x rule b id f)
@@ -339,4 +353,4 @@ rule_stays_valid x phase rule f id root b keeps own had live at fits types valid
         let c : IsFit f (great_of f) rule m (id, root) b =
         fit_of f (great_of f) (known_of x phase f valid) had own rule m ms so (keeps_parts rule m h) id root (found_by_id f id root live at) b bound in
         let all : MeetsAll x phase (rewriting_of x rule b id root f) f (applied x rule b id f) = meets_all x phase f (applied x rule b id f) (great_of f) rule m id root b c in
-        stays_valid x phase (rewriting_of x rule b id root f) f (applied x rule b id f) (applied_is x rule b id f root own live at) all.plain all.anew all.results all.reads types all.calls valid
+        stays_valid x phase (rewriting_of x rule b id root f) f (applied x rule b id f) (applied_is x rule b id f root own live at) all.plain all.anew all.results all.reads (record { own = all.kinds; replaced = types.replaced; made = types.made }) all.calls valid

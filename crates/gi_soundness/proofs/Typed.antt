@@ -34,7 +34,7 @@ first_assoc : (a b c : Option Kind) → first_there (first_there a b) c ≡ firs
 first_assoc None b c = refl
 first_assoc (Some k) b c = refl
 
-kind_append : (r : ℕ) (xs ys : List (ℕ × InstrData)) → kind_in_instrs r (xs ++ ys) ≡ first_there (kind_in_instrs r xs) (kind_in_instrs r ys)
+pub kind_append : (r : ℕ) (xs ys : List (ℕ × InstrData)) → kind_in_instrs r (xs ++ ys) ≡ first_there (kind_in_instrs r xs) (kind_in_instrs r ys)
 kind_append r [] ys = refl
 kind_append r (x ∷ xs) ys = ap (first_there (kind_in_operands r x.1.operands)) (kind_append r xs ys) ∙ sym (first_assoc (kind_in_operands r x.1.operands) (kind_in_instrs r xs) (kind_in_instrs r ys))
 
@@ -42,7 +42,7 @@ pub kind_in_all : (r : ℕ) (blocks : List BlockData) → kind_in_blocks r block
 kind_in_all r [] = refl
 kind_in_all r (k ∷ blocks) = ap (first_there (kind_in_instrs r k.instrs)) (kind_in_all r blocks) ∙ sym (kind_append r k.instrs (all_instrs blocks))
 
-kind_left : (r : ℕ) (rename : ℕ → ℕ) (os : List Operand) → kind_in_operands r (map (operand_renamed rename) os) ≡ kind_in_operands r os
+pub kind_left : (r : ℕ) (rename : ℕ → ℕ) (os : List Operand) → kind_in_operands r (map (operand_renamed rename) os) ≡ kind_in_operands r os
 kind_left r rename [] = refl
 kind_left r rename (operand.Use q ∷ os) = kind_left r rename os
 kind_left r rename (o ∷ os) = ap (first_there (kind_in_operand r o)) (kind_left r rename os)
@@ -70,7 +70,7 @@ kind_kept w f g is r same =
 
 -- ══ Registers that aren't made ══
 
-no_kind : (r : ℕ) (os : List Operand) → list_any (is_def_of r) os ≡ false → kind_in_operands r os ≡ None
+pub no_kind : (r : ℕ) (os : List Operand) → list_any (is_def_of r) os ≡ false → kind_in_operands r os ≡ None
 no_kind r [] h = refl
 no_kind r (operand.Def q kind ∷ os) h =
     let each : ((q.0 == r) ≡ false) × (list_any (is_def_of r) os ≡ false) = or_parts (q.0 == r) (list_any (is_def_of r) os) h in
@@ -157,24 +157,24 @@ result_alike x phase w f g a keeps p there other r h =
     let not_result : defines r w.root ≡ false = not_root w f g a p there other r h in
     kind_kept w f g a.is r (other_alike w r not_result (not_made w f g a r not_result (not_new_defined f p there r h)))
 
+pub type_alike : (phase : Phase) (f g : FunctionData) (q r : ℕ) → type_of_kind (kind_of g q) ≡ type_of_kind (kind_of f r) → type_in phase g q ≡ type_in phase f r
+type_alike Typed f g q r same = same
+type_alike Selecting f g q r same = same
+type_alike Untyped f g q r same = refl
+
 use_alike : (x : ℕ) (phase : Phase) (w : Rewriting) (f g : FunctionData) → IsAccounted w f g → KeepsTypes x phase w f g → (p : ℕ × InstrData) → IsOneOf p (all_instrs f.blocks) → (r : ℕ) → uses r p ≡ true
-    → type_of_kind (kind_of g (w.rename r)) ≡ type_of_kind (kind_of f r)
+    → type_in phase g (w.rename r) ≡ type_in phase f r
 use_alike x phase w f g a keeps p there r h = by (is_replaced w r) refl
   where
     by_result : (t : Bool) → defines r w.root ≡ t → is_replaced w r ≡ false → IsMadeAlike w r
     by_result true so kept = keeps.own r (a.results.covered r so kept) so
     by_result false so kept = other_alike w r so (not_made w f g a r so (not_new_used f p there r h))
 
-    by : (t : Bool) → is_replaced w r ≡ t → type_of_kind (kind_of g (w.rename r)) ≡ type_of_kind (kind_of f r)
-    by true so = ap type_of_kind (kind_kept w f g a.is (w.rename r) (stand_in_alike w f g a r so)) ∙ keeps.replaced r so
+    by : (t : Bool) → is_replaced w r ≡ t → type_in phase g (w.rename r) ≡ type_in phase f r
+    by true so = type_alike phase f g (w.rename r) (w.rename r) (ap type_of_kind (kind_kept w f g a.is (w.rename r) (stand_in_alike w f g a r so))) ∙ keeps.replaced r so
     by false so =
         let same : w.rename r ≡ r = eqb-true (w.rename r) r (not-false (w.rename r == r) so) in
-        ap (λ q. type_of_kind (kind_of g q)) same ∙ ap type_of_kind (kind_kept w f g a.is r (by_result (defines r w.root) refl so))
-
-type_alike : (phase : Phase) (f g : FunctionData) (q r : ℕ) → type_of_kind (kind_of g q) ≡ type_of_kind (kind_of f r) → type_in phase g q ≡ type_in phase f r
-type_alike Typed f g q r same = same
-type_alike Selecting f g q r same = same
-type_alike Untyped f g q r same = refl
+        ap (type_in phase g) same ∙ type_alike phase f g r r (ap type_of_kind (kind_kept w f g a.is r (by_result (defines r w.root) refl so)))
 
 pub result_type : (x : ℕ) (phase : Phase) (w : Rewriting) (f g : FunctionData) → IsAccounted w f g → KeepsTypes x phase w f g → (p : ℕ × InstrData) → IsOneOf p (all_instrs f.blocks) → (p.0 == w.root.0) ≡ false → (r : ℕ) → defines r p ≡ true
     → type_in phase g r ≡ type_in phase f r
@@ -274,7 +274,7 @@ types_still_meet x phase w f g a keeps none = nothing_new w f g a.is (type_misma
     kept b front p back site other old =
         let there : IsOneOf p (all_instrs f.blocks) = site_inside f b front p back site in
         ap (λ o. option_map (λ r. TypeMismatch (reg_of r)) o)
-        (mismatch_left x phase f g w.rename p (λ r h. result_type x phase w f g a keeps p there other r h) (λ r h. type_alike phase f g (w.rename r) r (use_alike x phase w f g a keeps p there r h))
+        (mismatch_left x phase f g w.rename p (λ r h. result_type x phase w f g a keeps p there other r h) (λ r h. use_alike x phase w f g a keeps p there r h)
         (nothing_mapped (λ r. TypeMismatch (reg_of r)) (mismatch x phase f p.1) old))
 
     made : (b : ℕ) (front back : List (ℕ × InstrData)) → IsSite f b front w.root back → type_mismatch x phase f (site_of b front w.root back) ≡ None

@@ -3,14 +3,14 @@ use Rattle.std.specs.Prelude.{◌≡◌, ◌⊎◌, ℕ, ◌≤◌, Bool, true, 
 use Rattle.std.specs.List.{list_all, list_any}
 use Rattle.gi_mir.specs.Data.{InstrData, FunctionData}
 use Rattle.gi_mir.specs.Edit.{all_instrs, defines, uses}
-use Rattle.gi_mir.specs.Registers.{kind_in_operands, kind_in_instrs, kind_of, type_of_kind}
+use Rattle.gi_mir.specs.Registers.{kind_in_operands, kind_in_instrs}
 use Rattle.gi_mir.specs.Row.{is_terminator_op}
 use Rattle.gi_mir.specs.declared.operand.Operand.{Operand}
 use Rattle.gi_mir.specs.declared.operand.Operand.TheVariants as operand
 use Rattle.gi_meaning.specs.Runs.{is_phi}
 use Rattle.gi_valid.specs.Faults.{definitions, times, may_call}
 use Rattle.gi_valid.specs.Definitions.{is_pure, IsComputedFrom}
-use Rattle.gi_valid.specs.Typing.{Phase, mismatch}
+use Rattle.gi_valid.specs.Typing.{Phase, type_in, mismatch}
 use Rattle.gi_soundness.specs.Rewriting.{Rewriting, IsOneOf}
 
 -- ══ Plain instructions ══
@@ -78,7 +78,12 @@ pub record ReadsOrigins (w : Rewriting) (f : FunctionData) : Type 0 where
 -- types that meet its rows.
 pub record KeepsTypes (x : ℕ) (phase : Phase) (w : Rewriting) (f g : FunctionData) : Type 0 where
   pub own : (r : ℕ) → list_any (defines r) w.made ≡ true → defines r w.root ≡ true → kind_in_instrs r w.made ≡ kind_in_operands r w.root.1.operands
-  pub replaced : (r : ℕ) → is_replaced w r ≡ true → type_of_kind (kind_of f (w.rename r)) ≡ type_of_kind (kind_of f r)
+  pub replaced : (r : ℕ) → is_replaced w r ≡ true → type_in phase f (w.rename r) ≡ type_in phase f r
+  pub made : (p : ℕ × InstrData) → IsOneOf p w.made → mismatch x phase g p.1 ≡ None
+
+-- the same of the types that a rule's own list doesn't settle
+pub record MeetsRows (x : ℕ) (phase : Phase) (w : Rewriting) (f g : FunctionData) : Type 0 where
+  pub replaced : (r : ℕ) → is_replaced w r ≡ true → type_in phase f (w.rename r) ≡ type_in phase f r
   pub made : (p : ℕ × InstrData) → IsOneOf p w.made → mismatch x phase g p.1 ≡ None
 
 -- none of what is made may come to be a call

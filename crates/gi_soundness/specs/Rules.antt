@@ -1,20 +1,25 @@
 -- What is asked of a rule by its own list, so that it keeps valid functions valid: tests that are worked out rule by rule.
-use Rattle.std.specs.Prelude.{◌≡◌, ◌<◌, ℕ, Bool, true, false, not, ◌&&◌, ◌||◌, ◌==◌, nat_le, List, [], ◌∷◌, ◌++◌, Option, Some, None, length, map, if◌then◌else◌}
+use Rattle.std.specs.Prelude.{◌≡◌, ◌<◌, ℕ, Bool, true, false, not, ◌&&◌, ◌||◌, ◌==◌, nat_le, List, [], ◌∷◌, ◌++◌, Some, is_none, length, map, if◌then◌else◌}
 use Rattle.std.specs.List.{list_all, list_any}
 use Rattle.std.specs.Option.{option_map_or}
 use Rattle.gi_mir.specs.Data.{FunctionData}
-use Rattle.gi_mir.specs.Edit.{all_instrs, defines, uses}
-use Rattle.gi_mir.specs.Row.{access_of, is_call_op, is_phi_op, is_terminator_op}
+use Rattle.gi_mir.specs.Edit.{IsLive, all_instrs, defines, uses}
+use Rattle.gi_mir.specs.Ids.{AreOwnIds}
+use Rattle.gi_mir.specs.Row.{access_of, is_call_op, is_phi_op, is_terminator_op, typing_of}
 use Rattle.gi_mir.specs.declared.opcode.Opcode.{Opcode}
-use Rattle.gi_valid.specs.Definitions.{is_load}
+use Rattle.gi_valid.specs.Definitions.{is_copy, is_load}
 use Rattle.gi_valid.specs.Faults.{is_division, is_product}
-use Rattle.gi_pattern.specs.Fitting.{place_defined}
+use Rattle.gi_valid.specs.Typing.{Phase}
+use Rattle.gi_valid.specs.Valid.{IsValid}
+use Rattle.gi_pattern.specs.Applying.{applied}
+use Rattle.gi_pattern.specs.Fitting.{binding_at, place_defined}
 use Rattle.gi_pattern.specs.Data.{MakeData, MatchData, RuleData}
+use Rattle.gi_pattern.specs.Making.{fresh_count}
+use Rattle.gi_pattern.specs.declared.binding.Binding.{Binding}
 use Rattle.gi_pattern.specs.declared.rule.MakeSlot.{MakeSlot}
 use Rattle.gi_pattern.specs.declared.rule.MakeSlot.TheVariants as make
 use Rattle.gi_pattern.specs.declared.rule.Slot.{Slot}
 use Rattle.gi_pattern.specs.declared.rule.Slot.TheVariants as slot
-use Rattle.gi_pattern.specs.declared.rule.TypeExpr.{TypeExpr}
 use Rattle.gi_pattern.specs.declared.rule.TypeExpr.TheVariants.{Of}
 
 -- a place is among some
@@ -118,9 +123,26 @@ keeps_rooted rule (root ∷ ms) = keeps_with rule root
 abbrev pub keeps_valid : RuleData → Bool
 keeps_valid rule = keeps_rooted rule rule.matches
 
+-- ══ Types ══
+
+-- an opcode whose row asks for no types
+abbrev pub is_untyped : Opcode → Bool
+is_untyped op = is_none (typing_of op) && not (is_copy op)
+
+-- such a rule makes instructions of the machine alone, without new constants, and replaces nothing
+abbrev pub asks_no_types : RuleData → Bool
+asks_no_types rule = list_all (λ m. is_untyped m.op && (fresh_count m.slots == 0)) rule.makes && nat_le (length rule.replaces) 0
+
 -- ══ Numbers ══
 
 -- the function has had each register that its instructions mention
 pub record HasHadAll (f : FunctionData) : Type 0 where
   pub defined : (r : ℕ) → list_any (defines r) (all_instrs f.blocks) ≡ true → r < f.next_reg
   pub used : (r : ℕ) → list_any (uses r) (all_instrs f.blocks) ≡ true → r < f.next_reg
+
+-- ══ What is promised ══
+
+-- wherever the rule fits in a valid function, the function after it is valid
+pub record KeepsFunctionsValid (rule : RuleData) : Type 0 where
+  pub valid : (x : ℕ) (phase : Phase) (f : FunctionData) (id : ℕ) (b : Binding) → AreOwnIds f.blocks f.next_id → HasHadAll f → IsLive f id → binding_at f rule id ≡ Some b → IsValid x phase f
+      → IsValid x phase (applied x rule b id f)

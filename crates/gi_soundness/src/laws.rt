@@ -13,9 +13,9 @@ ghost use Rattle.gi_valid.specs.Faults.{double_definitions, phi_entries, physica
 ghost use Rattle.gi_valid.specs.Typing.{Phase};
 ghost use Rattle.gi_valid.specs.Valid.{IsValid};
 ghost use Rattle.gi_soundness.specs.Applying.{rewriting_of};
-ghost use Rattle.gi_soundness.specs.Conditions.{AccountsForResults, ArePlain, DefinesAnew, KeepsTypes, MakesNoCall, ReadsOrigins};
+ghost use Rattle.gi_soundness.specs.Conditions.{AccountsForResults, ArePlain, DefinesAnew, KeepsTypes, MakesNoCall, MeetsRows, ReadsOrigins};
 ghost use Rattle.gi_soundness.specs.Rewriting.{IsRewritten, Rewriting};
-ghost use Rattle.gi_soundness.specs.Rules.{HasHadAll, keeps_valid};
+ghost use Rattle.gi_soundness.specs.Rules.{HasHadAll, KeepsFunctionsValid, keeps_valid};
 
 /// A rule that is applied at an instruction is a rewriting there.
 pub fn applied_rule_rewrites()
@@ -66,7 +66,7 @@ pub fn valid_function_stays_valid()
 /// the types of what it makes meet their rows.
 pub fn rule_keeps_valid()
     ensures { (x : ℕ) (phase : Phase) (rule : RuleData) (f : FunctionData) (id : ℕ) (root : InstrData) (b : Binding) → keeps_valid rule ≡ true → AreOwnIds f.blocks f.next_id → HasHadAll f → IsLive f id → instr_of f id ≡ Some root
-        → binding_at f rule id ≡ Some b → KeepsTypes x phase (rewriting_of x rule b id root f) f (applied x rule b id f) → IsValid x phase f → IsValid x phase (applied x rule b id f) }
+        → binding_at f rule id ≡ Some b → MeetsRows x phase (rewriting_of x rule b id root f) f (applied x rule b id f) → IsValid x phase f → IsValid x phase (applied x rule b id f) }
 {}
 
 /// The example rules meet the condition.
@@ -79,4 +79,10 @@ pub fn example_rules_keep_valid()
     ensures truncated_extension { keeps_valid truncated_extension ≡ true }
     ensures unmerged_pair { keeps_valid unmerged_pair ≡ true }
     ensures sum_with_short_constant { keeps_valid sum_with_short_constant ≡ true }
+{}
+
+/// Wherever one of these rules fits in a valid function, the function after it is valid.
+pub fn rules_keep_functions_valid()
+    ensures sum_with_short_constant { KeepsFunctionsValid sum_with_short_constant }
+    ensures truncated_extension { KeepsFunctionsValid truncated_extension }
 {}

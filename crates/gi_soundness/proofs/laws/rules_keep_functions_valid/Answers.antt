@@ -1,0 +1,8 @@
+use Rattle.gi_soundness.proofs.Meeting.{extension_keeps, short_constant_keeps}
+use Rattle.gi_soundness.proofs.laws.rules_keep_functions_valid.Goals as goal
+
+pub returns-clause-sum_with_short_constant : goal.returns-clause-sum_with_short_constant
+returns-clause-sum_with_short_constant c = short_constant_keeps
+
+pub returns-clause-truncated_extension : goal.returns-clause-truncated_extension
+returns-clause-truncated_extension c = extension_keeps
