@@ -16,6 +16,7 @@ pub mod Origins
 pub mod Placed
 pub mod Reading
 pub mod Rule
+pub mod Sames
 pub mod Single
 pub mod Staying
 pub mod Sites

@@ -86,7 +86,7 @@ pub record Keeps (rule : RuleData) (m : MatchData) : Type 0 where
   pub covered : list_all (λ p. is_in p (all_places_made rule.makes) || is_in p (replaced_places rule.replaces)) (places_defined m.slots) ≡ true
   pub replaced : list_all (λ pair. is_in pair.0 (places_defined m.slots) && is_in pair.1 (origins_in rule.matches)) rule.replaces ≡ true
 
-keeps_parts : (rule : RuleData) (m : MatchData) → keeps_with rule m ≡ true → Keeps rule m
+pub keeps_parts : (rule : RuleData) (m : MatchData) → keeps_with rule m ≡ true → Keeps rule m
 keeps_parts rule m h =
     let A : Bool = is_pure_match m in
     let B : Bool = list_all (is_pure_make (origins_in rule.matches)) rule.makes in

@@ -1,22 +1,24 @@
 -- A rewriting that meets what is asked keeps a valid function valid.
 use Rattle.std.proofs.Common.{◌≡◌, ℕ, List, [], ◌∷◌, ◌++◌, Option, Some, None, slice_get, refl, ap₂}
 use Rattle.std.specs.Option.{option_or}
-use Rattle.gi_mir.specs.Data.{InstrData, BlockData, FunctionData}
+use Rattle.gi_mir.specs.Data.{InstrData, BlockData, FunctionData, reg_of}
+use Rattle.gi_mir.specs.Edit.{all_instrs}
 use Rattle.gi_valid.specs.Available.{Extent}
 use Rattle.gi_valid.specs.Faults.{with_fault, Site, sites, told, double_definitions, not_available, type_mismatch, unknown_block, unknown_successors, phi_entries, physical_across, terminator, others_in, fault_in, faults}
-use Rattle.gi_valid.specs.Typing.{Phase}
+use Rattle.gi_valid.specs.Typing.{Phase, mismatch}
 use Rattle.gi_valid.specs.Valid.{IsValid, IsGreatest}
 use Rattle.gi_valid.specs.declared.invalid.Invalid.{Invalid}
+use Rattle.gi_valid.specs.declared.invalid.Invalid.TheVariants.{TypeMismatch}
 use Rattle.gi_valid.proofs.Existing.{greatest_sets}
 use Rattle.gi_valid.proofs.Greatest.{faultless_in_greatest}
 use Rattle.gi_valid.proofs.Single.{defined_once}
 use Rattle.gi_valid.proofs.Sited.{neither, nothing_in_front, site_of, at_site}
-use Rattle.gi_valid.proofs.Valid.{AreMissing, missing}
+use Rattle.gi_valid.proofs.Valid.{AreMissing, missing, nothing_mapped}
 use Rattle.gi_soundness.specs.Conditions.{DefinesAnew, AccountsForResults, ArePlain, ReadsOrigins, KeepsTypes, MakesNoCall}
-use Rattle.gi_soundness.specs.Rewriting.{Rewriting, IsRewritten}
+use Rattle.gi_soundness.specs.Rewriting.{Rewriting, IsOneOf, IsRewritten}
 use Rattle.gi_soundness.proofs.Accounted.{accounted, types_met, no_call_across}
 use Rattle.gi_soundness.proofs.Available.{extent_holds}
-use Rattle.gi_soundness.proofs.Circles.{IsKnown}
+use Rattle.gi_soundness.proofs.Circles.{HasPlace, IsKnown, site_of_one}
 use Rattle.gi_soundness.proofs.Faultless.{blocks_still_there, successors_still_there, phis_still_first, terminators_still_last}
 use Rattle.gi_soundness.proofs.Origins.{IsReady, extent_after}
 use Rattle.gi_soundness.proofs.Reading.{registers_available}
@@ -114,3 +116,10 @@ stays_valid x phase w f g is are anew results reads keeps calls valid =
         successors = successors_still_there w f g is q.successors;
       });
     }
+
+-- the types of each instruction of a valid function meet its row
+pub instr_met : (x : ℕ) (phase : Phase) (f : FunctionData) → IsValid x phase f → (p : ℕ × InstrData) → IsOneOf p (all_instrs f.blocks) → mismatch x phase f p.1 ≡ None
+instr_met x phase f valid p there =
+    let q : AreQuietAll x phase f (great_of f) = quiet_of x phase f (great_of f) (faultless_in_greatest x phase f valid (great_of f) (λ r. (greatest_sets f r).is)) in
+    let place : HasPlace f p = site_of_one f p there in
+    nothing_mapped (λ r. TypeMismatch (reg_of r)) (mismatch x phase f p.1) (at_site f (type_mismatch x phase f) q.mismatch place.block place.site.block place.site.found place.front p place.back place.site.splits)
