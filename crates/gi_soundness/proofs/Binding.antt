@@ -109,7 +109,7 @@ pub record SlotSays (s : Slot) (o : Operand) (b c : Binding) : Type 0 where
 only : (p q : ℕ) → ((p == q) || false) ≡ true → p ≡ q
 only p q h = ⊎_elim (λ same. eqb-true p q same) (λ none. absurd (true≢false (sym none))) (or_cases (p == q) false h)
 
-slot_says : (s : Slot) (o : Operand) (b c : Binding) → slot_bound s o b ≡ Some c → SlotSays s o b c
+pub slot_says : (s : Slot) (o : Operand) (b c : Binding) → slot_bound s o b ≡ Some c → SlotSays s o b c
 slot_says (slot.Def p) (operand.Def r kind) b c h =
     let both : Extends b c × IsBound c p r.0 = register_step (slice_get b.regs p) p r b c refl h in
     record {

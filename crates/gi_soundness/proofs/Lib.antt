@@ -17,6 +17,7 @@ pub mod Placed
 pub mod Reading
 pub mod Rule
 pub mod Sames
+pub mod Scaled
 pub mod Single
 pub mod Staying
 pub mod Sites
