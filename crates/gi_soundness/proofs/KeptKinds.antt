@@ -64,7 +64,7 @@ joined : (a b : Bool) (k : Kind) → first_there (kind_if a k) (kind_if b k) ≡
 joined true b k = refl
 joined false b k = refl
 
-kind_of_place : (x : ℕ) (h : FunctionData) (b : Binding) (p : ℕ) → is_some (register_at b p) ≡ true → kind_made x h b (Of p) ≡ kind_of h (register_or b p).0
+pub kind_of_place : (x : ℕ) (h : FunctionData) (b : Binding) (p : ℕ) → is_some (register_at b p) ≡ true → kind_made x h b (Of p) ≡ kind_of h (register_or b p).0
 kind_of_place x h b p some = by (register_at b p) some
   where
     by : (o : Option Reg) → is_some o ≡ true → option_map_or (λ (reg : Reg). kind_of h reg.0) o Class ≡ kind_of h (option_map_or (λ (reg : Reg). reg) o (reg_of 0)).0

@@ -14,6 +14,7 @@ pub mod Matching
 pub mod Meeting
 pub mod Origins
 pub mod Placed
+pub mod Powers
 pub mod Reading
 pub mod Rule
 pub mod Sames

@@ -62,7 +62,7 @@ next_grows b (pair ∷ pairs) f =
 -- ══ The root ══
 
 -- a register that the root's results are computed from is none of them
-source_apart : (f : FunctionData) (great : ℕ → Extent) → IsKnown f great → (root : ℕ × InstrData) → IsOneOf root (all_instrs f.blocks) → (n : ℕ) → FromRoot f root n → defines n root ≡ false
+pub source_apart : (f : FunctionData) (great : ℕ → Extent) → IsKnown f great → (root : ℕ × InstrData) → IsOneOf root (all_instrs f.blocks) → (n : ℕ) → FromRoot f root n → defines n root ≡ false
 source_apart f great k root there n source = false_from_ne_true (defines n root) (λ own. by own (source n own).others (source n own).over)
   where
     read : defines n root ≡ true → (z : ℕ) → uses_purely (definition f n) z ≡ true → IsComputedFrom f z n → ⊥
@@ -113,7 +113,7 @@ pub record IsFit (f : FunctionData) (great : ℕ → Extent) (rule : RuleData) (
   pub placed : (r : ℕ) → defines r root ≡ true → IsOfPlace b r (places_defined m.slots)
   pub sources : AreGood b (FromRoot f root) (origins_in rule.matches)
 
-some_of : (b : Binding) (p n : ℕ) → IsBound b p n → is_some (register_at b p) ≡ true
+pub some_of : (b : Binding) (p n : ℕ) → IsBound b p n → is_some (register_at b p) ≡ true
 some_of b p n one = ap is_some one.there
 
 pub fit_of : (f : FunctionData) (great : ℕ → Extent) → IsKnown f great → HasHadAll f → AreOwnIds f.blocks f.next_id → (rule : RuleData) (m : MatchData) (ms : List MatchData) → rule.matches ≡ m ∷ ms → Keeps rule m

@@ -76,7 +76,7 @@ scalar_first x tf r rest more none ty so = by (is_met x tf (two_alike class.Scal
     by false met none = cc
 
 -- a constant of such a type meets its row
-constant_met : (x : ℕ) (tg : ℕ → Option Llt) (r : ℕ) → ((ty : Llt) → tg r ≡ Some ty → is_scalar x ty ≡ true) → first_unmet x tg (no_sources class.Any) 1 [] (r ∷ []) ≡ None
+pub constant_met : (x : ℕ) (tg : ℕ → Option Llt) (r : ℕ) → ((ty : Llt) → tg r ≡ Some ty → is_scalar x ty ≡ true) → first_unmet x tg (no_sources class.Any) 1 [] (r ∷ []) ≡ None
 constant_met x tg r scalar = by (tg r) refl
   where
     by : (t : Option Llt) → tg r ≡ t → first_unmet x tg (no_sources class.Any) 1 [] (r ∷ []) ≡ None
@@ -92,7 +92,7 @@ no_join Typed i h = refl
 no_join Untyped i h = refl
 no_join Selecting i h = ap (λ k. is_copy k && list_any is_use i.operands) h
 
-constant_mismatch : (x : ℕ) (phase : Phase) (g : FunctionData) (line : ℕ) (r : Reg) (kind : Kind) (bits value : ℕ) → first_unmet x (type_in phase g) (no_sources class.Any) 1 [] (r.0 ∷ []) ≡ None
+pub constant_mismatch : (x : ℕ) (phase : Phase) (g : FunctionData) (line : ℕ) (r : Reg) (kind : Kind) (bits value : ℕ) → first_unmet x (type_in phase g) (no_sources class.Any) 1 [] (r.0 ∷ []) ≡ None
     → mismatch x phase g (plain op.GenericConstant (operand.Def r kind ∷ operand.Constant bits value ∷ []) line) ≡ None
 constant_mismatch x Typed g line r kind bits value h = h
 constant_mismatch x Untyped g line r kind bits value h = h

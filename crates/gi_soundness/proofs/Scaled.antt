@@ -1,19 +1,14 @@
 -- Rules that put another operation with a new constant in the place of one with a constant keep functions valid.
-use Rattle.std.proofs.Common.{◌≡◌, ℕ, zero, suc, ◌+◌, ◌≤◌, ◌<◌, Bool, true, false, cond, not, ◌&&◌, ◌||◌, ◌==◌, List, [], ◌∷◌, ◌++◌, Option, Some, None, is_some, length, map, ◌⊎◌, inl, inr, ⊎_elim, refl, sym, ap, ap₂, ◌∙◌, subst, arith, true≢false, unwrap_or}
-use Rattle.std.proofs.lemmas.Bool.{or_cases, or_left, or_right, and_parts, and_from, eqb-true, eq-eqb, false_from_ne_true}
-use Rattle.std.specs.List.{list_any, list_all}
+use Rattle.std.proofs.Common.{◌≡◌, ℕ, Bool, true, false, cond, ◌&&◌, ◌==◌, List, [], ◌∷◌, Option, Some, None, ⊎_elim, refl, sym, ap, ap₂, ◌∙◌, subst, true≢false, unwrap_or}
+use Rattle.std.proofs.lemmas.Bool.{or_left, and_parts, and_from, eqb-true, eq-eqb}
 use Rattle.std.specs.Option.{option_and_then}
 use Rattle.gi_llt.specs.declared.Llt.{Llt}
 use Rattle.gi_llt.specs.declared.Llt.TheVariants.{Scalar, Pointer}
-use Rattle.gi_mir.specs.Data.{InstrData, FunctionData, reg_of}
-use Rattle.gi_mir.specs.Edit.{IsLive, all_instrs, defines, instr_of}
-use Rattle.gi_mir.specs.Formed.{is_use}
-use Rattle.gi_mir.specs.Ids.{AreOwnIds}
-use Rattle.gi_mir.specs.Registers.{first_there, kind_in_operands, kind_in_instrs, kind_of, type_of_kind}
-use Rattle.gi_mir.specs.Row.{typing_of}
+use Rattle.gi_mir.specs.Data.{InstrData, FunctionData}
+use Rattle.gi_mir.specs.Edit.{all_instrs}
+use Rattle.gi_mir.specs.Registers.{first_there, kind_in_operands, kind_in_instrs, kind_of}
 use Rattle.gi_mir.specs.Types.{is_scalar, same_type}
-use Rattle.gi_mir.specs.Typings.{TypingData, two_alike, no_sources}
-use Rattle.gi_mir.specs.declared.opcode.Opcode.{Opcode}
+use Rattle.gi_mir.specs.Typings.{two_alike}
 use Rattle.gi_mir.specs.declared.operand.Kind.{Kind}
 use Rattle.gi_mir.specs.declared.operand.Kind.TheVariants.{Class}
 use Rattle.gi_mir.specs.declared.operand.Operand.{Operand}
@@ -22,14 +17,12 @@ use Rattle.gi_mir.specs.declared.operand.Reg.{Reg}
 use Rattle.gi_mir.specs.declared.typing.Class.TheVariants as class
 use Rattle.gi_pattern.specs.Binding.{slot_bound, slots_bound}
 use Rattle.gi_pattern.specs.declared.binding.Binding.{Binding}
-use Rattle.gi_pattern.specs.declared.rule.Slot.{Slot}
 use Rattle.gi_pattern.specs.declared.rule.Slot.TheVariants.{Def, Use}
 use Rattle.gi_pattern.specs.InPlace.{entry_renamed}
 use Rattle.gi_mir.specs.Accepted.{are_one}
 use Rattle.gi_valid.specs.Typing.{first_unmet, known}
 use Rattle.gi_soundness.specs.Rewriting.{Rewriting, IsOneOf, IsRewritten, rewritten, standing_for}
-use Rattle.gi_soundness.proofs.Binding.{Extends, IsBound, SlotSays, bound_on, slot_says}
-use Rattle.gi_soundness.proofs.Frames.{IsOwn, own_later}
+use Rattle.gi_soundness.proofs.Binding.{Extends, IsBound, bound_on, slot_says}
 use Rattle.gi_soundness.proofs.Listed.{instrs_after}
 use Rattle.gi_soundness.proofs.Typed.{kind_append, kind_in_all, kind_left}
 

@@ -84,6 +84,9 @@ pub fn example_rules_keep_valid()
 /// Wherever one of these rules fits in a valid function, the function after it is valid.
 pub fn rules_keep_functions_valid()
     ensures difference_of_same { KeepsFunctionsValid difference_of_same }
+    ensures product_by_power { KeepsFunctionsValid product_by_power }
+    ensures difference_with_constant { KeepsFunctionsValid difference_with_constant }
+    ensures remainder_by_power { KeepsFunctionsValid remainder_by_power }
     ensures sum_with_short_constant { KeepsFunctionsValid sum_with_short_constant }
     ensures truncated_extension { KeepsFunctionsValid truncated_extension }
 {}
