@@ -20,8 +20,8 @@ pub mod Rule
 pub mod Sames
 pub mod Scaled
 pub mod Single
-pub mod Staying
 pub mod Sites
+pub mod Staying
 pub mod Stepwise
 pub mod Typed
 pub mod Valid
