@@ -1,0 +1,19 @@
+//! Whether a function is valid, and the fault that is told of one that isn't.
+#![tactic(auto)]
+
+mod available;
+mod blocks;
+mod definitions;
+mod ends;
+mod lowest;
+mod mismatch;
+mod operands;
+mod physical;
+mod reached;
+mod registers;
+mod site;
+mod typing;
+mod uses;
+mod verifying;
+
+pub use verifying::{VerifyError, verify};
