@@ -121,7 +121,9 @@ pub fn check_valid(
     for function in functions {
         match verify(alloc, function, machine.target(), stage_after(start)) {
             Ok(()) => {}
-            Err(VerifyError::Invalid(fault)) => return Err(refused(alloc, fault)),
+            Err(VerifyError::Invalid { line, what }) => {
+                return Err(refused(alloc, Fault { line, what }));
+            }
             Err(VerifyError::Memory) => return Err(Refused::Memory),
         }
     }
