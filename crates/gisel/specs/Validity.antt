@@ -13,6 +13,8 @@ use Rattle.gi_valid.specs.Valid.{IsInvalid, IsValid}
 use Rattle.gi_valid.specs.declared.invalid.Fault.{Fault}
 use Rattle.gi_valid.specs.declared.invalid.Invalid.{Invalid}
 use Rattle.gi_valid.specs.declared.invalid.Invalid.TheVariants.{DoubleDefinition, NotAvailable, TypeMismatch, UnknownBlock, PhiEntries, PhysicalAcross, Terminator}
+use Rattle.gi_verify.specs.declared.verifying.VerifyError.{VerifyError}
+use Rattle.gi_verify.specs.declared.verifying.VerifyError.TheVariants as refusal
 use Rattle.gisel.specs.Machine.{width_of}
 use Rattle.gisel.specs.Messages.{at_line}
 use Rattle.gisel.specs.declared.machine.Machine.{Machine}
@@ -76,3 +78,8 @@ pub record SaysFaultOf (machine : Machine) (start : Pass) (functions : List Func
   pub fault : Fault
   pub found : HasFaultFor machine start functions fault
   pub says : message ≡ message_of_invalid fault
+
+-- what is said of what the verifier answers: of want of memory nothing
+abbrev pub SaysError : VerifyError → (message : List ℕ) → Type 0
+SaysError (refusal.Invalid line what) message = message ≡ message_of_invalid (record { line = line; what = what })
+SaysError refusal.Memory message = ⊥

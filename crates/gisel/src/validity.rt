@@ -2,7 +2,7 @@
 
 ghost use Rattle.std.specs.Prelude.{◌≡◌, IfErr, IfOk, OnOk, string_bytes};
 ghost use Rattle.gisel.specs.Messages.{Tells, at_line};
-ghost use Rattle.gisel.specs.Validity.{AreValidFor, SaysFaultOf, invalid_words, message_of_invalid, physical_word, register_word, stage_after, used_word};
+ghost use Rattle.gisel.specs.Validity.{AreValidFor, SaysError, SaysFaultOf, invalid_words, message_of_invalid, physical_word, register_word, stage_after, used_word};
 
 use crate::machine::Machine;
 use crate::messages::Refused;
@@ -98,13 +98,16 @@ fn message_of(alloc: Global, fault: Fault) -> Result<Vec<u8>, Memory>
     at_line(alloc, fault.line, words.as_str())
 }
 
-/// Why a function that isn't valid is refused.
-fn refused(alloc: Global, fault: Fault) -> Refused
-    ensures { Tells result (λ message. message ≡ message_of_invalid fault) }
+/// Why a function that the verifier refuses is refused.
+fn refused(alloc: Global, error: VerifyError) -> Refused
+    ensures { Tells result (SaysError error) }
 {
-    match message_of(alloc, fault) {
-        Ok(message) => Refused::Message(message),
-        Err(Memory) => Refused::Memory,
+    match error {
+        VerifyError::Invalid { line, what } => match message_of(alloc, Fault { line, what }) {
+            Ok(message) => Refused::Message(message),
+            Err(Memory) => Refused::Memory,
+        },
+        VerifyError::Memory => Refused::Memory,
     }
 }
 
@@ -121,10 +124,7 @@ pub fn check_valid(
     for function in functions {
         match verify(alloc, function, machine.target(), stage_after(start)) {
             Ok(()) => {}
-            Err(VerifyError::Invalid { line, what }) => {
-                return Err(refused(alloc, Fault { line, what }));
-            }
-            Err(VerifyError::Memory) => return Err(Refused::Memory),
+            Err(error) => return Err(refused(alloc, error)),
         }
     }
     Ok(())
