@@ -1,4 +1,3 @@
-pub mod DefinedKinds
 pub mod FormedLemmas
 pub mod IdsLemmas
 pub mod Keys

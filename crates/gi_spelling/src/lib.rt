@@ -3,6 +3,5 @@
 
 pub mod kept;
 pub mod laws;
-pub mod one;
 pub mod token;
 pub mod written;
