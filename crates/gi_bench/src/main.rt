@@ -4,11 +4,14 @@
 
 ghost use Rattle.std.specs.Prelude.{◌≡◌, ◌<◌, ◌≤◌, IfOk, vec_len};
 
-use gi_text::{LineError, tokens};
+use gi_mir::module::Module;
+use gi_mir_print::print;
+use gi_mir_read::read_mir;
+use gi_text::{LineError, TextError, tokens};
 use std::alloc::{AllocError, Global};
 use std::io;
 
-/// The greatest line that is cut.
+/// The greatest line that is cut, and about the greatest text that is read.
 const GREATEST: usize = 8_388_608;
 
 /// What a line repeats: twelve tokens in 32 bytes.
@@ -47,6 +50,57 @@ fn cut(alloc: Global, size: usize) -> Result<String, AllocError>
     }
 }
 
+/// What stands before the instructions of a text.
+const HEAD: &str =
+    "---\nname: f\nbody: |\n  bb.0:\n    liveins: $x10\n\n    %0:_(s32) = COPY $x10\n";
+
+/// A text of about so many bytes: a function with one block of sums, each of the two sums before it.
+fn text_of(alloc: Global, size: usize) -> Result<String, AllocError> {
+    let mut text = String::from_str(alloc, HEAD)?;
+    for last in 0..4_194_303_u32 {
+        if size <= text.len() {
+            break;
+        }
+        let number = last + 1;
+        let earlier = last / 2;
+        let line = format!(in alloc; "    %{number}:_(s32) = G_ADD %{last}, %{earlier}\n")?;
+        text.push_str(line.as_str())?;
+    }
+    Ok(text)
+}
+
+/// Reads a text of about so many bytes, prints it so many times, and tells how many bytes that gives.
+fn read(alloc: Global, size: usize, times: u32) -> Result<String, AllocError> {
+    let text = text_of(alloc, size)?;
+    let length = text.len();
+    if u32::MAX as usize <= length {
+        return format!(in alloc; "{length} bytes: too long");
+    }
+    match read_mir(alloc, text.as_bytes()) {
+        Ok(m) => {
+            let printed = print_often(alloc, &m, times)?;
+            format!(in alloc; "{length} bytes read, {printed} printed")
+        }
+        Err(TextError::Syntax { line } | TextError::Unknown { line, .. }) => {
+            format!(in alloc; "{length} bytes: wrong line {line}")
+        }
+        Err(TextError::Memory) => Err(AllocError),
+    }
+}
+
+/// Prints a module so many times, and tells how many bytes the last time gives.
+fn print_often(alloc: Global, m: &Module, times: u32) -> Result<usize, AllocError> {
+    let mut length = 0;
+    for _ in 0..times {
+        let mut text = Vec::new(alloc);
+        if print(m, &mut text).is_err() {
+            return Err(AllocError);
+        }
+        length = text.len();
+    }
+    Ok(length)
+}
+
 /// Does the work that a line asks for.
 fn work(alloc: Global, request: &str) -> Result<String, AllocError> {
     let Some((kind, size)) = request.split_once(' ') else {
@@ -55,10 +109,12 @@ fn work(alloc: Global, request: &str) -> Result<String, AllocError> {
     let Ok(size) = size.trim().parse::<usize>() else {
         return format!(in alloc; "no size in {request:?}");
     };
-    if kind != "tokens" {
-        return format!(in alloc; "no work in {request:?}");
+    match kind {
+        "tokens" => cut(alloc, size.min(GREATEST)),
+        "read" => read(alloc, size.min(GREATEST), 0),
+        "print" => read(alloc, size.min(GREATEST), 32),
+        _ => format!(in alloc; "no work in {request:?}"),
     }
-    cut(alloc, size.min(GREATEST))
 }
 
 fn main(rt: HostRuntime) -> io::Result<()> {

@@ -1,3 +1,4 @@
+pub mod DefinedKinds
 pub mod FormedLemmas
 pub mod IdsLemmas
 pub mod Keys

@@ -6,6 +6,7 @@ ghost use Rattle.gi_mir.specs.Edit.{block_at, head_of, ids_of, empty_function, r
 ghost use Rattle.gi_mir.specs.Formed.{is_formed};
 ghost use Rattle.gi_mir.specs.Ids.{AreOwnIds};
 ghost use Rattle.gi_mir.specs.Places.{id_in};
+ghost use Rattle.gi_mir.specs.Registers.{kind_in_operand, kind_in_operands, kind_of};
 ghost use Rattle.gi_mir.specs.Uses.{with_reg_replaced, IsPartlyReplaced};
 
 use crate::block::{Block, Body, InstrId, Numbered};
@@ -29,6 +30,28 @@ impl Operand {
             _ => 0,
         }
     }
+}
+
+/// The kind of a register, if this operand defines it.
+fn defined_kind(operand: Operand, reg: Reg) -> Option<Kind>
+    ensures { result ≡ kind_in_operand reg.0 operand }
+{
+    match operand {
+        Operand::Def(defined, kind) => { if defined.0 == reg.0 { Some(kind) } else { None } }
+        _ => None,
+    }
+}
+
+/// The kind of a register at its first definition among operands.
+fn kind_among(operands: &[Operand], reg: Reg) -> Option<Kind>
+    ensures { result ≡ kind_in_operands reg.0 operands.now }
+{
+    for operand in operands {
+        if let Some(kind) = defined_kind(*operand, reg) {
+            return Some(kind);
+        }
+    }
+    None
 }
 
 /// The greatest of `least` and of one more than each virtual register's number.
@@ -360,6 +383,16 @@ impl Function {
         ensures { option_map (λ id. id.0) result ≡ definition_of self.now reg.0 }
     {
         first(self.layout.mentions.of(definition_key(reg)))
+    }
+
+    /// The kind of a register: the one at its first definition in layout order, and `Class` where it has none.
+    pub fn kind_of(&self, reg: Reg) -> Kind
+        ensures { result ≡ kind_of self.now reg.0 }
+    {
+        match first(self.layout.mentions.of(definition_key(reg))) {
+            Some(id) => kind_among(self.instr(id).operands.as_slice(), reg).unwrap_or(Kind::Class),
+            None => Kind::Class,
+        }
     }
 
     /// The instructions that use this register, each once, in layout order.

@@ -139,6 +139,8 @@ fn builds_a_function(rt: HostRuntime) -> Result<(), Fail> {
     assert_eq!(rt; function.first_in(0), Some(first));
     assert_eq!(rt; function.last_in(0), Some(third));
     assert_eq!(rt; function.def_of(Reg(1)), Some(second));
+    assert_eq!(rt; function.kind_of(Reg(1)), Kind::Generic(Llt::Scalar(32)));
+    assert_eq!(rt; function.kind_of(Reg(5)), Kind::Class);
     assert!(rt; function.is_live(second));
     assert_eq!(rt; function.following(second), Some(third));
     assert_eq!(rt; function.preceding(second), Some(first));

@@ -20,6 +20,10 @@ pub on_ok_same : {T E : Type 0} (r : Result T E) (o a b y : List ℕ) → a ≡ 
 on_ok_same (Ok v) o a b y same h = h ∙ ap (λ bs. o ++ bs) same
 on_ok_same (Err e) o a b y same h = h
 
+pub on_ok_then : {T E : Type 0} (P Q : Type 0) (r : Result T E) → (P → Q) → OnOk r P → OnOk r Q
+on_ok_then P Q (Ok v) f h = f h
+on_ok_then P Q (Err e) f h = h
+
 pub drop_end : {X : Type 0} (xs : List X) (i : ℕ) → length xs ≤ i → drop i xs ≡ []
 drop_end xs i h = drop_of_length-le xs h
 

@@ -4,6 +4,9 @@ ghost use Rattle.std.specs.Prelude.{◌≡◌, ◌++◌, ◌∷◌, ◌<◌, [],
 ghost use Rattle.gi_llt.specs.Tokens.{piece_bytes};
 ghost use Rattle.gi_mir.specs.Edit.{block_at};
 ghost use Rattle.gi_mir.specs.Numbering.{numbered, numbered_module};
+ghost use Rattle.gi_mir_print.specs.Appended.{AppendsSpelling};
+ghost use Rattle.gi_spelling.specs.Spelled.{IsSpelled};
+ghost use Rattle.gi_spelling.specs.There.{NamesBlocksThatAreThere};
 ghost use Rattle.gi_spelling.specs.Printed.{instr_pieces, block_lines, blocks_lines, key_lines, object_line, object_lines, stack_lines, printed_lines, functions_lines, ir_lines, name_at, text_of, printed};
 ghost use Rattle.gi_mir_print.specs.Shown.{kind_at, shown_block, shown_blocks, begun_lines, shown_function};
 
@@ -182,6 +185,8 @@ fn push_any_ir(ir: &Option<Vec<String>>, out: &mut Vec<u8>) -> Result<(), Memory
 /// which they first appear.
 pub fn print(module: &Module, out: &mut Vec<u8>) -> Result<(), Memory>
     ensures text { OnOk result (out.new.items ≡ out.old.items ++ printed (numbered_module «module».now)) }
+    ensures spells { IsSpelled «module».now → NamesBlocksThatAreThere «module».now
+        → OnOk result (AppendsSpelling (numbered_module «module».now) out.old.items out.new.items) }
 {
     push_any_ir(&module.ir, out)?;
     push_functions(&module.names, module.functions.as_slice(), out)

@@ -1,67 +1,60 @@
 -- The example's texts spell its two modules.
-use Rattle.std.proofs.Common.{◌≡◌, [], ◌∷◌, true, false, refl}
+use Rattle.std.proofs.Common.{◌≡◌, [], ◌∷◌, true, false, refl, subst}
 use Rattle.std.specs.Fmt.{digits}
 use Rattle.gi_spelling.specs.AddExample.{block_of, function_of, generic_module, selected_module, stated_text, selected_text}
 use Rattle.gi_mir.specs.declared.opcode.Opcode.TheVariants.{GenericAdd, Add}
 use Rattle.gi_mir.specs.declared.operand.Kind.TheVariants.{Banked, Class}
 use Rattle.gi_llt.specs.declared.Llt.TheVariants.{Scalar}
+use Rattle.gi_mir.specs.Formed.{is_formed}
 use Rattle.gi_spelling.specs.Printed.{printed}
-use Rattle.gi_spelling.specs.Plain.{Spells}
+use Rattle.gi_spelling.specs.Printable.{IsPrintableModule}
+use Rattle.gi_spelling.specs.Spelling.{Spells}
 use Rattle.gi_spelling.specs.Stated.{CopyIn, AddUp, CopyOut, Return, IsStatedText}
+use Rattle.gi_spelling.proofs.OneModule.{spelled_one}
+use Rattle.gi_spelling.proofs.PrintedTexts.{printed_spells}
+use Rattle.gi_spelling.proofs.StatedTexts.{stated_text_spelled}
 
 pub prints_selected : printed selected_module ≡ selected_text
 unfolding digits
 prints_selected = refl
 
-pub spells_selected : Spells selected_text selected_module
-unfolding digits
-spells_selected = record {
-  no_ir = refl;
-  from_a_document = refl;
-  documents = (
+is_printable : IsPrintableModule selected_module
+unfolding is_formed
+is_printable = record {
+  ir = refl;
+  functions = (
     record {
-      from_a_key = refl;
-      entries = record {
-        keyed = refl;
-        is_named = refl;
-        named = refl;
-        legal = (refl, refl);
-        banked = (refl, refl);
-        chosen = (refl, refl);
-        no_registers = refl;
-        no_stack = refl;
-        no_objects = refl;
-        bodied = (refl, refl, (record { numbered = refl; succeeded = refl; live = (λ empty. cc, refl); instructed = (refl, (refl, (refl, (refl, (refl, tt))))) }, tt));
-      };
+      named = refl;
+      few_objects = refl;
+      objects = refl;
+      few_blocks = refl;
+      live_first = refl;
+      blocks = (
+        record {
+          successors = refl;
+          instrs = (
+            record { formed = refl; operands = refl; memory = refl },
+            (
+              record { formed = refl; operands = refl; memory = refl },
+              (
+                record { formed = refl; operands = refl; memory = refl },
+                (
+                  record { formed = refl; operands = refl; memory = refl },
+                  (record { formed = refl; operands = refl; memory = refl }, tt),
+                ),
+              ),
+            ),
+          );
+        },
+        tt,
+      );
     },
     tt,
   );
 }
 
-pub spells_stated : Spells stated_text generic_module
-unfolding digits
-spells_stated = record {
-  no_ir = refl;
-  from_a_document = refl;
-  documents = (
-    record {
-      from_a_key = refl;
-      entries = record {
-        keyed = refl;
-        is_named = refl;
-        named = refl;
-        legal = (refl, refl);
-        banked = (refl, refl);
-        chosen = refl;
-        no_registers = refl;
-        no_stack = refl;
-        no_objects = refl;
-        bodied = (refl, refl, (record { numbered = refl; succeeded = refl; live = (λ empty. cc, refl); instructed = (refl, (refl, (refl, (refl, (refl, tt))))) }, tt));
-      };
-    },
-    tt,
-  );
-}
+pub spells_selected : Spells selected_text selected_module
+spells_selected = subst (λ text. Spells text selected_module) prints_selected (printed_spells selected_module is_printable)
 
 pub is_stated : IsStatedText stated_text generic_module
 unfolding digits
@@ -88,10 +81,13 @@ is_stated = record {
   lines = refl;
 }
 
+pub spells_stated : Spells stated_text generic_module
+spells_stated = stated_text_spelled stated_text generic_module is_stated
+
 -- a text that says nothing of the key `selected` doesn't spell a function that is selected
 pub spells_no_selected : Spells stated_text selected_module → ⊥
-spells_no_selected spelled = let wrong : true ≡ false = spelled.documents.0.entries.chosen in cc
+spells_no_selected spelled = let wrong : true ≡ false = (spelled_one stated_text generic_module selected_module spells_stated spelled).functions.0.selected in cc
 
 -- nor does a text spell a module with another function after it
 pub spells_no_more : Spells selected_text (record selected_module { functions = function_of Class Add ∷ function_of Class Add ∷ [] }) → ⊥
-spells_no_more spelled = spelled.documents.1
+spells_no_more spelled = (spelled_one selected_text selected_module (record selected_module { functions = function_of Class Add ∷ function_of Class Add ∷ [] }) spells_selected spelled).functions.1

@@ -1,7 +1,7 @@
 -- The lines of a printed block are read as its head, its lists and its instructions.
 use Rattle.std.proofs.Common.{◌≡◌, ℕ, suc, Bool, true, false, List, [], ◌∷◌, ◌++◌, Some, refl, ap, ◌∙◌, subst}
 use Rattle.std.specs.Prelude.{◌||◌, ◌&&◌, not, bytes_eq, nat_eq, codes, decimal, ⊤}
-use Rattle.std.specs.List.{list_all, starts_with, AllZip}
+use Rattle.std.specs.List.{list_all, starts_with}
 use Rattle.std.proofs.lemmas.Bool.{and_parts, not-true, or_from, and_left, and_right}
 use Rattle.std.proofs.lemmas.List.{append-nil}
 use Rattle.gi_llt.specs.Tokens.{LexemeKind, Word, Register, Physical, Mark, Lexeme, lexeme, is_blank, Piece, Spaces, token, tokens_of, piece_bytes, piece_lexemes, is_ended, IsApart}
@@ -16,8 +16,9 @@ use Rattle.gi_mir.specs.declared.operand.Operand.TheVariants.{Def, PhysDef}
 use Rattle.gi_mir.specs.Data.{InstrData}
 use Rattle.gi_mir.specs.Row.{word_of, rows_of}
 use Rattle.gi_spelling.specs.Printed.{mark, word, listed, kind_pieces, definitions_of, sources_of, source_forms, first_row, source_pieces, definition_pieces, defined_pieces, flag_pieces, flags_pieces, sources_pieces, memory_pieces, instr_pieces, instr_line, instr_lines, block_pieces, physical_pieces, block_head_pieces, successors_pieces, liveins_pieces}
-use Rattle.gi_spelling.specs.Plain.{line_items, is_empty_line, is_dropped, is_word_kind, begins_block, is_block_head, begins_list, lists, is_list_line, SpellsInstr}
-use Rattle.gi_spelling.specs.Printable.{is_named_instr}
+use Rattle.gi_spelling.proofs.PlainLines.{line_items, is_word_kind, begins_block, is_block_head, begins_list, lists, is_list_line}
+use Rattle.gi_spelling.specs.Lines.{is_empty_line, is_dropped}
+use Rattle.gi_spelling.proofs.Nameable.{is_named_instr}
 use Rattle.gi_spelling.proofs.InstrPieces.{AllSafe, sources_apart, instr_apart, block_safe, physical_safe}
 
 -- the first token of an instruction is no block's head and no list's key
@@ -123,7 +124,7 @@ pub record IsInner (line : List ℕ) : Type 0 where
 line_items-pieces : (count : ℕ) (pieces : List Piece) → IsApart pieces → line_items (piece_bytes (Spaces count ∷ pieces)) ≡ Some (piece_lexemes pieces)
 line_items-pieces count pieces apart = tokens_of-pieces (Spaces count ∷ pieces) apart
 
-inner_line : (count : ℕ) (pieces : List Piece) (first : Lexeme) (rest : List Lexeme) → IsApart pieces → piece_lexemes pieces ≡ first ∷ rest
+pub inner_line : (count : ℕ) (pieces : List Piece) (first : Lexeme) (rest : List Lexeme) → IsApart pieces → piece_lexemes pieces ≡ first ∷ rest
     → IsInner (piece_bytes (Spaces (suc count) ∷ pieces))
 inner_line count pieces first rest apart whole =
     let read : tokens_of (piece_bytes (Spaces (suc count) ∷ pieces)) ≡ Some (first ∷ rest) = tokens_of-pieces (Spaces (suc count) ∷ pieces) apart ∙ ap Some whole in
@@ -145,13 +146,6 @@ instrs_inner kinds names (instr ∷ instrs) named =
 pub instr_items : (kinds : ℕ → Kind) (names : List (List ℕ)) (instr : ℕ × InstrData) → is_named_instr names instr ≡ true
     → line_items (instr_line kinds names instr.1) ≡ Some (piece_lexemes (instr_pieces kinds names instr.1))
 instr_items kinds names instr named = line_items-pieces 4 (instr_pieces kinds names instr.1) (instr_apart kinds names instr.1 named)
-
-pub instrs_spelled : (kinds : ℕ → Kind) (names : List (List ℕ)) (instrs : List (ℕ × InstrData)) → list_all (is_named_instr names) instrs ≡ true
-    → AllZip (SpellsInstr kinds names) (instr_lines kinds names instrs) instrs
-instrs_spelled kinds names [] named = tt
-instrs_spelled kinds names (instr ∷ instrs) named =
-    let parts = and_parts (is_named_instr names instr) (list_all (is_named_instr names) instrs) named in
-    (instr_items kinds names instr parts.0, instrs_spelled kinds names instrs parts.1)
 
 pub instr_no_block : (kinds : ℕ → Kind) (names : List (List ℕ)) (instr : ℕ × InstrData) → is_named_instr names instr ≡ true → is_block_head (instr_line kinds names instr.1) ≡ false
 instr_no_block kinds names instr named =

@@ -1,8 +1,7 @@
 -- The blocks that lines spell, where each line of an instruction spells its instruction.
-use Rattle.std.proofs.Common.{◌≡◌, ℕ, zero, suc, ◌<◌, ◌≤◌, Bool, true, false, List, [], ◌∷◌, ◌++◌, length, Option, Some, None, map, refl, sym, ap, ◌∙◌, subst, inl, inr, arith}
-use Rattle.std.specs.Prelude.{◌⊎◌, ◌&&◌, ◌||◌, codes, not, filter, nat_lt, nat_eq, is_some, ⊤, unwrap_or, if◌then◌else◌}
+use Rattle.std.proofs.Common.{◌≡◌, ℕ, zero, suc, ◌<◌, Bool, true, false, List, [], ◌∷◌, ◌++◌, length, Option, Some, map, refl, sym, ap, ◌∙◌, subst, inl, inr, arith}
+use Rattle.std.specs.Prelude.{◌||◌, codes, not, filter, nat_lt, nat_eq, is_some, ⊤}
 use Rattle.std.specs.List.{list_all, list_any, AllZip}
-use Rattle.std.specs.Cmp.Derive.{both_true}
 use Rattle.std.proofs.lemmas.Bool.{and_parts}
 use Rattle.std.proofs.lemmas.Bool.Decides.{nat_tests}
 use Rattle.gi_llt.specs.Tokens.{run_of, past_run}
@@ -16,14 +15,13 @@ use Rattle.gi_spelling.specs.declared.token.What.TheVariants as what
 use Rattle.gi_spelling.specs.declared.token.Item.{Item}
 use Rattle.gi_spelling.specs.declared.written.ListKind.TheVariants.{Successors, Liveins}
 use Rattle.gi_spelling.specs.Items.{what_in, kept_items}
-use Rattle.gi_spelling.specs.Lines.{Line, Section as LineSection, Sections as LineSections, sections_of as line_sections}
+use Rattle.gi_spelling.specs.Lines.{Line, Section as LineSection}
 use Rattle.gi_spelling.specs.Resolved.{Tables, block_place}
-use Rattle.gi_spelling.specs.Reading.{is_debug_line}
-use Rattle.gi_spelling.specs.Blocks.{is_debug_kept, is_told, head_by, head_in, head_number, is_there, is_block_head as is_head_line, is_head, list_by, list_kind_in, list_kind, listed_in, number_at, block_numbers, blocks_in}
-use Rattle.gi_spelling.specs.Spelling.{word_what, listed_whats, block_whats, physical_whats, SpellsInstr, is_list_line as states_list, is_kind, lists_of, States, StatesSuccessors, SpellsSuccessors, SpellsLiveins, SpellsBlock, SpellsBlocks, are_distinct}
-use Rattle.gi_spelling.specs.Printed.{instr_line, instr_lines, implied_successors, states_successors, liveins_lines}
-use Rattle.gi_spelling.specs.Printable.{is_named_instr, is_named_block}
-use Rattle.gi_spelling.specs.Plain.{Section, Sections, sections_of, is_block_head, begins_list, is_list_line}
+use Rattle.gi_spelling.specs.Blocks.{is_debug_kept, is_told, head_by, head_in, head_number, is_there, is_block_head as is_head_line, is_head, list_by, list_kind_in, list_kind, listed_in, block_numbers}
+use Rattle.gi_spelling.specs.Spelling.{word_what, listed_whats, block_whats, physical_whats, SpellsInstr, is_list_line as states_list, is_kind, StatesSuccessors, SpellsSuccessors, SpellsLiveins, SpellsBlock, SpellsBlocks, are_distinct}
+use Rattle.gi_spelling.specs.Printed.{instr_line, instr_lines, implied_successors, states_successors}
+use Rattle.gi_spelling.proofs.Nameable.{is_named_instr, is_named_block}
+use Rattle.gi_spelling.proofs.PlainLines.{is_block_head, begins_list, is_list_line}
 use Rattle.gi_spelling.proofs.WrittenParts.{no_equals}
 use Rattle.gi_spelling.proofs.WrittenLines.{all_listed}
 use Rattle.gi_spelling.proofs.SpelledLines.{line_begins, headless, listless, line_told, begins_other, other_told}
@@ -31,8 +29,8 @@ use Rattle.gi_spelling.proofs.PlacedLines.{IsLine, Reads}
 use Rattle.gi_spelling.proofs.KeptLines.{are_loud, KeepsAll, keeps_all}
 use Rattle.gi_spelling.proofs.PrintedTokens.{reads_head, reads_successors, reads_liveins}
 use Rattle.gi_spelling.proofs.BlockLines.{EachLine, each-append, instr_no_block, instr_no_list, instrs_stop, head_line, head_begins, head_items, successors_line, liveins_line, successors_listed, liveins_listed}
-use Rattle.gi_spelling.proofs.Blocks.{stated_lists, lists_listed, a_list, IsLiveAt, AllLiveAt, under_lines, block_section, block_sections, kept_blocks, sections_of-blocks}
-use Rattle.gi_spelling.proofs.Zips.{run_zip, past_zip, zip_weaker, SectionsAgree, AllAgree, sections_zip}
+use Rattle.gi_spelling.proofs.Blocks.{stated_lists, lists_listed, a_list, IsLiveAt, under_lines, block_section, block_sections, kept_blocks}
+use Rattle.gi_spelling.proofs.Zips.{run_zip, past_zip, zip_weaker, SectionsAgree}
 
 -- ══ Lines that tell what they are ══
 

@@ -1,22 +1,21 @@
 -- The lines of printed blocks spell these blocks.
-use Rattle.std.proofs.Common.{◌≡◌, ℕ, zero, suc, Bool, true, false, List, [], ◌∷◌, ◌++◌, sym, refl, ap, ◌∙◌, subst, inl, inr}
-use Rattle.std.specs.Prelude.{◌⊎◌, ◌==◌, not, filter, bytes_eq, if◌then◌else◌, codes, ⊤}
-use Rattle.std.specs.List.{list_all, AllZip}
+use Rattle.std.proofs.Common.{◌≡◌, ℕ, suc, Bool, true, false, List, [], ◌∷◌, ◌++◌, sym, refl, ap, ◌∙◌, subst, arith}
+use Rattle.std.specs.Prelude.{◌⊎◌, ◌==◌, not, bytes_eq, if◌then◌else◌, codes}
+use Rattle.std.specs.List.{list_all}
 use Rattle.std.specs.Cmp.Derive.{both_true}
 use Rattle.std.proofs.lemmas.Bool.{and_parts, or_left, or_right}
 use Rattle.std.proofs.lemmas.Bool.Decides.{nat_tests}
-use Rattle.std.proofs.Common.{arith}
 use Rattle.std.proofs.lemmas.List.Elements.{filter-append}
 use Rattle.std.proofs.lemmas.List.{append-nil}
-use Rattle.gi_llt.specs.Tokens.{is_blank, run_of, past_run}
-use Rattle.gi_llt.proofs.Pieces.{run_of-append, past_run-append}
+use Rattle.gi_llt.specs.Tokens.{is_blank}
 use Rattle.gi_llt.proofs.Apart.{is_no_feed}
 use Rattle.gi_mir.specs.declared.operand.Kind.{Kind}
 use Rattle.gi_mir.specs.Data.{BlockData}
 use Rattle.gi_spelling.specs.Printed.{instr_lines, implied_successors, states_successors, liveins_lines, set_off, block_lines, blocks_lines}
-use Rattle.gi_spelling.specs.Plain.{is_dropped, kept_lines, Section, Sections, with_head, with_line, sections_of, without_comment, with_byte, without_last_blanks, line_bytes, is_start, is_end, is_block_head, lists, is_list_line, SpellsSuccessors, SpellsLiveins, SpellsInstr, SpellsBlock, SpellsBlocks}
-use Rattle.gi_spelling.specs.Printable.{is_named_block}
-use Rattle.gi_spelling.proofs.BlockLines.{EachLine, each-append, each-weaker, begins_blank, IsInner, instrs_inner, instrs_spelled, instrs_no_block, instrs_stop, head_line, head_items, head_inner, head_begins, successors_line, successors_items, liveins_items, IsListLine, successors_listed, liveins_listed}
+use Rattle.gi_spelling.specs.Lines.{is_dropped, without_comment, with_byte, without_last_blanks, line_bytes, is_start, is_end}
+use Rattle.gi_spelling.proofs.PlainLines.{kept_lines, Section, Sections, with_head, with_line, sections_of, is_block_head, lists, is_list_line}
+use Rattle.gi_spelling.proofs.Nameable.{is_named_block}
+use Rattle.gi_spelling.proofs.BlockLines.{EachLine, each-append, each-weaker, begins_blank, IsInner, instrs_inner, instrs_no_block, head_line, head_inner, head_begins, successors_line, IsListLine, successors_listed, liveins_listed}
 
 -- the lists of a block, by whether its successors are stated
 abbrev pub stated_lists : (stated : Bool) (successors liveins : List ℕ) → List (List ℕ)
@@ -45,38 +44,9 @@ lists_listed true successors (number ∷ numbers) =
 lists_listed false successors [] = refl
 lists_listed false successors (number ∷ numbers) = both_true (a_list _ false (liveins_listed (number ∷ numbers))) refl
 
--- which of them is which
-lists_successors : (stated : Bool) (successors liveins : List ℕ)
-    → filter (lists (codes "successors")) (stated_lists stated successors liveins) ≡ (if stated then successors_line successors ∷ [] else [])
-lists_successors true successors [] = rw ((successors_listed successors).one) refl
-lists_successors true successors (number ∷ numbers) = rw ((successors_listed successors).one, (liveins_listed (number ∷ numbers)).one) refl
-lists_successors false successors [] = refl
-lists_successors false successors (number ∷ numbers) = rw ((liveins_listed (number ∷ numbers)).one) refl
-
-lists_liveins : (stated : Bool) (successors liveins : List ℕ)
-    → filter (lists (codes "liveins")) (stated_lists stated successors liveins) ≡ liveins_lines liveins
-lists_liveins true successors [] = rw ((successors_listed successors).other) refl
-lists_liveins true successors (number ∷ numbers) = rw ((successors_listed successors).other, (liveins_listed (number ∷ numbers)).other) refl
-lists_liveins false successors [] = refl
-lists_liveins false successors (number ∷ numbers) = rw ((liveins_listed (number ∷ numbers)).other) refl
-
-successors_spelled : (stated : Bool) (implied successors : List ℕ) → states_successors successors implied ≡ stated
-    → SpellsSuccessors (if stated then successors_line successors ∷ [] else []) implied successors
-successors_spelled true implied successors e = successors_items successors
-successors_spelled false [] [] e = refl
-successors_spelled false (place ∷ places) [] e = cc
-successors_spelled false implied (place ∷ places) e = cc
-
 -- only the first block has registers that are live at its start
 abbrev pub IsLiveAt : (place : ℕ) → List ℕ → Type 0
 IsLiveAt place liveins = (place ≡ 0) ⊎ (liveins ≡ [])
-
-liveins_spelled : (place : ℕ) (liveins : List ℕ) → IsLiveAt place liveins → SpellsLiveins place (liveins_lines liveins) liveins
-liveins_spelled zero [] live = refl
-liveins_spelled (suc place) [] live = refl
-liveins_spelled zero (number ∷ numbers) live = (λ empty. cc, liveins_items (number ∷ numbers))
-liveins_spelled (suc place) (number ∷ numbers) (inl first) = cc
-liveins_spelled (suc place) (number ∷ numbers) (inr empty) = cc
 
 -- a block by the lines under its head
 abbrev pub under_lines : (kinds : ℕ → Kind) (names : List (List ℕ)) (place count : ℕ) → BlockData → List (List ℕ)
@@ -86,45 +56,10 @@ under_lines kinds names place count block =
 abbrev pub block_section : (kinds : ℕ → Kind) (names : List (List ℕ)) (place count : ℕ) → BlockData → Section
 block_section kinds names place count block = record { head = head_line place; under = under_lines kinds names place count block }
 
-block_spelled : (kinds : ℕ → Kind) (names : List (List ℕ)) (place count : ℕ) (block : BlockData) → is_named_block names block ≡ true → IsLiveAt place block.liveins
-    → SpellsBlock kinds names place count (block_section kinds names place count block) block
-block_spelled kinds names place count block named live =
-    let implied = implied_successors place count block.instrs in
-    let stated = states_successors block.successors implied in
-    let heads = stated_lists stated block.successors block.liveins in
-    let run : run_of is_list_line (heads ++ instr_lines kinds names block.instrs) ≡ heads =
-    run_of-append is_list_line heads (instr_lines kinds names block.instrs) (lists_listed stated block.successors block.liveins) (instrs_stop kinds names block.instrs named) in
-    let past : past_run is_list_line (heads ++ instr_lines kinds names block.instrs) ≡ instr_lines kinds names block.instrs =
-    past_run-append is_list_line heads (instr_lines kinds names block.instrs) (lists_listed stated block.successors block.liveins) (instrs_stop kinds names block.instrs named) in
-    record {
-      numbered = head_items place;
-      succeeded =
-          let P : List (List ℕ) → Type 0 = λ stated_by. SpellsSuccessors stated_by implied block.successors in
-          subst P (sym (ap (filter (lists (codes "successors"))) run ∙ lists_successors stated block.successors block.liveins)) (successors_spelled stated implied block.successors refl);
-      live =
-          let P : List (List ℕ) → Type 0 = λ stated_by. SpellsLiveins place stated_by block.liveins in
-          subst P (sym (ap (filter (lists (codes "liveins"))) run ∙ lists_liveins stated block.successors block.liveins)) (liveins_spelled place block.liveins live);
-      instructed =
-          let P : List (List ℕ) → Type 0 = λ lines. AllZip (SpellsInstr kinds names) lines block.instrs in
-          subst P (sym past) (instrs_spelled kinds names block.instrs named);
-    }
-
 -- blocks from a place on, by their sections
 abbrev pub block_sections : (kinds : ℕ → Kind) (names : List (List ℕ)) (place count : ℕ) → List BlockData → List Section
 block_sections kinds names place count [] = []
 block_sections kinds names place count (block ∷ blocks) = block_section kinds names place count block ∷ block_sections kinds names (suc place) count blocks
-
--- each block after the first has none
-abbrev pub AllLiveAt : (place : ℕ) → List BlockData → Type 0
-AllLiveAt place [] = ⊤
-AllLiveAt place (block ∷ blocks) = IsLiveAt place block.liveins × AllLiveAt (suc place) blocks
-
-pub blocks_spelled : (kinds : ℕ → Kind) (names : List (List ℕ)) (place count : ℕ) (blocks : List BlockData) → list_all (is_named_block names) blocks ≡ true → AllLiveAt place blocks
-    → SpellsBlocks kinds names place count (block_sections kinds names place count blocks) blocks
-blocks_spelled kinds names place count [] named live = tt
-blocks_spelled kinds names place count (block ∷ blocks) named live =
-    let parts = and_parts (is_named_block names block) (list_all (is_named_block names) blocks) named in
-    (block_spelled kinds names place count block parts.0 live.0, blocks_spelled kinds names (suc place) count blocks parts.1 live.1)
 
 -- lines that are passed over leave the others
 pub kept_each : (lines : List (List ℕ)) → EachLine IsInner lines → kept_lines lines ≡ lines

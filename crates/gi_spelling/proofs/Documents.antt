@@ -1,5 +1,5 @@
--- The lines of a printed function, and of one with other gaps behind its colons, spell that function.
-use Rattle.std.proofs.Common.{◌≡◌, ℕ, zero, suc, Bool, true, false, List, [], ◌∷◌, ◌++◌, length, Option, Some, None, sym, refl, ap, ◌∙◌, subst, append_assoc, arith}
+-- The lines of the entries of a printed document, and of one with other gaps behind its colons, as they stand one by one.
+use Rattle.std.proofs.Common.{◌≡◌, ℕ, zero, suc, Bool, true, false, List, [], ◌∷◌, ◌++◌, Option, Some, None, sym, refl, ap, ◌∙◌, subst, arith}
 use Rattle.std.specs.Prelude.{◌==◌, not, replicate, if◌then◌else◌, codes}
 use Rattle.std.specs.List.{list_all}
 use Rattle.std.proofs.lemmas.Bool.{and_parts, false≢true}
@@ -8,13 +8,12 @@ use Rattle.std.proofs.lemmas.List.{append-nil}
 use Rattle.gi_llt.specs.Tokens.{Lexeme, is_blank, is_word_byte, past_run}
 use Rattle.gi_llt.proofs.Pieces.{with_token}
 use Rattle.gi_llt.proofs.Apart.{is_no_feed, spaces_no_feed, append_no_feed, words_no_feed}
-use Rattle.gi_mir.specs.Data.{FunctionData}
-use Rattle.gi_mir.specs.Registers.{kind_of}
-use Rattle.gi_spelling.specs.Printed.{name_at, blocks_lines, key_lines}
-use Rattle.gi_spelling.specs.Plain.{is_empty_line, is_dropped, kept_lines, Section, with_head, sections_of, without_comment, with_byte, without_last_blanks, line_bytes, value_bytes, is_end, up_to_end, is_at_column_one, is_name}
-use Rattle.gi_spelling.specs.Printable.{IsPrintable}
+use Rattle.gi_spelling.specs.Printed.{key_lines}
+use Rattle.gi_spelling.specs.Lines.{is_empty_line, is_dropped, without_comment, with_byte, without_last_blanks, line_bytes, value_bytes, is_end, begins_at_column_one}
+use Rattle.gi_spelling.proofs.PlainLines.{kept_lines, Section, with_head, sections_of}
+use Rattle.gi_spelling.specs.Documents.{is_name}
 use Rattle.gi_spelling.proofs.BlockLines.{EachLine, each-append, each-weaker, begins_blank, IsInner}
-use Rattle.gi_spelling.proofs.Blocks.{kept-append, kept_blocks, kept_blocks_lines, kept_blocks_inner, each_blocks, sections_of-append, IsRaw, begins, no_end, no_start}
+use Rattle.gi_spelling.proofs.Blocks.{sections_of-append, IsRaw, begins, no_end, no_start}
 
 -- a value with no blank around it, no comment and no line feed
 pub record IsSolid (value : List ℕ) : Type 0 where
@@ -109,15 +108,9 @@ end_lines closed = if closed then codes "..." ∷ [] else []
 abbrev pub body_line : Layout → List ℕ
 body_line layout = entry_line (codes "body") layout.body (codes "|")
 
--- what stands under `---`
-abbrev pub function_lines : Layout → (names : List (List ℕ)) → FunctionData → List (List ℕ)
-function_lines layout names f =
-    header_lines layout (name_at names f.name) f.legalized f.banked f.selected
-    ++ (body_line layout ∷ (blocks_lines (kind_of f) names 0 (length f.blocks) f.blocks ++ end_lines layout.closed))
-
 -- a line of an entry counts, stands at column 1, ends nothing and begins nothing
 pub record IsOuter (line : List ℕ) : Type 0 where
-  pub at_column_one : is_at_column_one line ≡ true
+  pub at_column_one : begins_at_column_one line ≡ true
   pub kept : is_dropped line ≡ false
   pub no_end : is_end line ≡ false
   pub raw : IsRaw line
@@ -197,7 +190,7 @@ header_outer layout name legal banked chosen solid =
     )
 
 -- such lines are kept, and each begins an entry with nothing under it
-kept_outer : (lines : List (List ℕ)) → EachLine IsOuter lines → kept_lines lines ≡ lines
+pub kept_outer : (lines : List (List ℕ)) → EachLine IsOuter lines → kept_lines lines ≡ lines
 kept_outer [] each = refl
 kept_outer (line ∷ lines) each = rw (each.0.kept) (ap (λ more. line ∷ more) (kept_outer lines each.1))
 
@@ -205,129 +198,34 @@ abbrev pub bare : List (List ℕ) → List Section
 bare [] = []
 bare (line ∷ lines) = record { head = line; under = [] } ∷ bare lines
 
-bare_sections : (xs ys : List (List ℕ)) (sections : List Section) → EachLine IsOuter xs → sections_of is_at_column_one ys ≡ record { before = []; sections = sections }
-    → sections_of is_at_column_one (xs ++ ys) ≡ record { before = []; sections = bare xs ++ sections }
+pub bare_sections : (xs ys : List (List ℕ)) (sections : List Section) → EachLine IsOuter xs → sections_of begins_at_column_one ys ≡ record { before = []; sections = sections }
+    → sections_of begins_at_column_one (xs ++ ys) ≡ record { before = []; sections = bare xs ++ sections }
 bare_sections [] ys sections each e = e
 bare_sections (line ∷ xs) ys sections each e = rw (each.0.at_column_one) (ap (with_head line) (bare_sections xs ys sections each.1 e))
 
-blank_at_no_column : (line : List ℕ) → IsInner line → is_at_column_one line ≡ false
+pub blank_at_no_column : (line : List ℕ) → IsInner line → begins_at_column_one line ≡ false
 blank_at_no_column line inner = go line inner.indented
   where
-    go : (line : List ℕ) → begins_blank line ≡ true → is_at_column_one line ≡ false
+    go : (line : List ℕ) → begins_blank line ≡ true → begins_at_column_one line ≡ false
     go [] blank = refl
     go (byte ∷ rest) blank = rw blank refl
 
-body_sections : (line : List ℕ) (lines : List (List ℕ)) → is_at_column_one line ≡ true → EachLine IsInner lines
-    → sections_of is_at_column_one (line ∷ lines) ≡ record { before = []; sections = record { head = line; under = lines } ∷ [] }
+pub body_sections : (line : List ℕ) (lines : List (List ℕ)) → begins_at_column_one line ≡ true → EachLine IsInner lines
+    → sections_of begins_at_column_one (line ∷ lines) ≡ record { before = []; sections = record { head = line; under = lines } ∷ [] }
 body_sections line lines first each =
-    let Goal : List (List ℕ) → Type 0 = λ under. sections_of is_at_column_one under ≡ record { before = lines; sections = [] } in
+    let Goal : List (List ℕ) → Type 0 = λ under. sections_of begins_at_column_one under ≡ record { before = lines; sections = [] } in
     let appended : Goal (lines ++ []) =
-    sections_of-append is_at_column_one lines [] (each-weaker IsInner (λ l. is_at_column_one l ≡ false) blank_at_no_column lines each)
+    sections_of-append begins_at_column_one lines [] (each-weaker IsInner (λ l. begins_at_column_one l ≡ false) blank_at_no_column lines each)
     ∙ ap (λ before. record { before = before; sections = [] }) (append-nil lines) in
     let under : Goal lines = subst Goal (append-nil lines) appended in
     rw first (ap (with_head line) under)
 
--- up to the end
-up_to_closed : (lines : List (List ℕ)) → up_to_end (lines ++ (codes "..." ∷ [])) ≡ lines
-up_to_closed [] = refl
-up_to_closed (line ∷ []) = refl
-up_to_closed (line ∷ next ∷ lines) = ap (λ more. line ∷ more) (up_to_closed (next ∷ lines))
-
-up_to_open : (lines : List (List ℕ)) → EachLine (λ line. is_end line ≡ false) lines → up_to_end lines ≡ lines
-up_to_open [] each = refl
-up_to_open (line ∷ []) each = rw (each.0) refl
-up_to_open (line ∷ next ∷ lines) each = ap (λ more. line ∷ more) (up_to_open (next ∷ lines) each.1)
-
-up_to_either : (closed : Bool) (lines : List (List ℕ)) → EachLine (λ line. is_end line ≡ false) lines → up_to_end (lines ++ end_lines closed) ≡ lines
-up_to_either true lines each = up_to_closed lines
-up_to_either false lines each = ap up_to_end (append-nil lines) ∙ up_to_open lines each
-
-kept_end : (closed : Bool) → kept_lines (end_lines closed) ≡ end_lines closed
-kept_end true = refl
-kept_end false = refl
-
--- the entries of a function
-abbrev pub function_sections : Layout → (names : List (List ℕ)) → FunctionData → List Section
-function_sections layout names f =
-    bare (header_lines layout (name_at names f.name) f.legalized f.banked f.selected)
-    ++ (record { head = body_line layout; under = kept_blocks (kind_of f) names 0 (length f.blocks) f.blocks } ∷ [])
-
-outer_no_end : (line : List ℕ) → IsOuter line → is_end line ≡ false
+pub outer_no_end : (line : List ℕ) → IsOuter line → is_end line ≡ false
 outer_no_end line outer = outer.no_end
 
-inner_no_end : (line : List ℕ) → IsInner line → is_end line ≡ false
+pub inner_no_end : (line : List ℕ) → IsInner line → is_end line ≡ false
 inner_no_end line inner = no_end line (begins_no_dot line inner.indented)
 
-pub kept_function : (layout : Layout) (names : List (List ℕ)) (f : FunctionData) → IsPrintable names f
-    → up_to_end (kept_lines (function_lines layout names f))
-    ≡ header_lines layout (name_at names f.name) f.legalized f.banked f.selected ++ (body_line layout ∷ kept_blocks (kind_of f) names 0 (length f.blocks) f.blocks)
-kept_function layout names f printable =
-    let header = header_lines layout (name_at names f.name) f.legalized f.banked f.selected in
-    let blocks = kept_blocks (kind_of f) names 0 (length f.blocks) f.blocks in
-    let header_each : EachLine IsOuter header = header_outer layout (name_at names f.name) f.legalized f.banked f.selected (name_solid (name_at names f.name) printable.is_named) in
-    let body_each : IsOuter (body_line layout) = body_outer layout.body (codes "|") bar_solid in
-    let rest : kept_lines (blocks_lines (kind_of f) names 0 (length f.blocks) f.blocks ++ end_lines layout.closed) ≡ blocks ++ end_lines layout.closed =
-    kept-append (blocks_lines (kind_of f) names 0 (length f.blocks) f.blocks) (end_lines layout.closed)
-    ∙ (ap (λ xs. xs ++ kept_lines (end_lines layout.closed)) (kept_blocks_lines (kind_of f) names 0 (length f.blocks) f.blocks printable.named_blocks)
-    ∙ ap (λ ys. blocks ++ ys) (kept_end layout.closed)) in
-    let body : kept_lines (body_line layout ∷ (blocks_lines (kind_of f) names 0 (length f.blocks) f.blocks ++ end_lines layout.closed)) ≡ body_line layout ∷ (blocks ++ end_lines layout.closed) =
-    rw (body_each.kept) (ap (λ more. body_line layout ∷ more) rest) in
-    let whole : kept_lines (function_lines layout names f) ≡ header ++ (body_line layout ∷ (blocks ++ end_lines layout.closed)) =
-    kept-append header (body_line layout ∷ (blocks_lines (kind_of f) names 0 (length f.blocks) f.blocks ++ end_lines layout.closed))
-    ∙ (ap (λ xs. xs ++ kept_lines (body_line layout ∷ (blocks_lines (kind_of f) names 0 (length f.blocks) f.blocks ++ end_lines layout.closed))) (kept_outer header header_each)
-    ∙ ap (λ ys. header ++ ys) body) in
-    let ends : EachLine (λ line. is_end line ≡ false) (header ++ (body_line layout ∷ blocks)) =
-    each-append (λ line. is_end line ≡ false) header (body_line layout ∷ blocks) (each-weaker IsOuter (λ line. is_end line ≡ false) outer_no_end header header_each)
-    (body_each.no_end, each-weaker IsInner (λ line. is_end line ≡ false) inner_no_end blocks (kept_blocks_inner (kind_of f) names 0 (length f.blocks) f.blocks printable.named_blocks)) in
-    ap up_to_end (whole ∙ sym (append_assoc header (body_line layout ∷ blocks) (end_lines layout.closed)))
-    ∙ up_to_either layout.closed (header ++ (body_line layout ∷ blocks)) ends
-
-pub sections_of-function : (layout : Layout) (names : List (List ℕ)) (f : FunctionData) → IsPrintable names f
-    → sections_of is_at_column_one (up_to_end (kept_lines (function_lines layout names f))) ≡ record { before = []; sections = function_sections layout names f }
-sections_of-function layout names f printable =
-    let header = header_lines layout (name_at names f.name) f.legalized f.banked f.selected in
-    let blocks = kept_blocks (kind_of f) names 0 (length f.blocks) f.blocks in
-    let header_each : EachLine IsOuter header = header_outer layout (name_at names f.name) f.legalized f.banked f.selected (name_solid (name_at names f.name) printable.is_named) in
-    let body_each : IsOuter (body_line layout) = body_outer layout.body (codes "|") bar_solid in
-    ap (sections_of is_at_column_one) (kept_function layout names f printable)
-    ∙ bare_sections header (body_line layout ∷ blocks) (record { head = body_line layout; under = blocks } ∷ []) header_each
-    (body_sections (body_line layout) blocks body_each.at_column_one (kept_blocks_inner (kind_of f) names 0 (length f.blocks) f.blocks printable.named_blocks))
-
--- the lines of a function without the line that may end it
-abbrev pub front_lines : Layout → (names : List (List ℕ)) → FunctionData → List (List ℕ)
-front_lines layout names f =
-    header_lines layout (name_at names f.name) f.legalized f.banked f.selected ++ (body_line layout ∷ blocks_lines (kind_of f) names 0 (length f.blocks) f.blocks)
-
-pub function_lines-front : (layout : Layout) (names : List (List ℕ)) (f : FunctionData) → function_lines layout names f ≡ front_lines layout names f ++ end_lines layout.closed
-function_lines-front layout names f =
-    sym (append_assoc (header_lines layout (name_at names f.name) f.legalized f.banked f.selected) (body_line layout ∷ blocks_lines (kind_of f) names 0 (length f.blocks) f.blocks) (end_lines layout.closed))
-
-each_unended : (lines : List (List ℕ)) → EachLine (λ line. is_end line ≡ false) lines → list_all (λ line. not (is_end line)) lines ≡ true
+pub each_unended : (lines : List (List ℕ)) → EachLine (λ line. is_end line ≡ false) lines → list_all (λ line. not (is_end line)) lines ≡ true
 each_unended [] each = refl
 each_unended (line ∷ lines) each = rw (each.0) (each_unended lines each.1)
-
-pub front_unended : (layout : Layout) (names : List (List ℕ)) (f : FunctionData) → IsPrintable names f → list_all (λ line. not (is_end line)) (front_lines layout names f) ≡ true
-front_unended layout names f printable =
-    let header = header_lines layout (name_at names f.name) f.legalized f.banked f.selected in
-    let blocks = blocks_lines (kind_of f) names 0 (length f.blocks) f.blocks in
-    let header_each : EachLine IsOuter header = header_outer layout (name_at names f.name) f.legalized f.banked f.selected (name_solid (name_at names f.name) printable.is_named) in
-    let body_each : IsOuter (body_line layout) = body_outer layout.body (codes "|") bar_solid in
-    each_unended (front_lines layout names f)
-    (each-append (λ line. is_end line ≡ false) header (body_line layout ∷ blocks) (each-weaker IsOuter (λ line. is_end line ≡ false) outer_no_end header header_each)
-    (body_each.no_end, each_blocks (λ line. is_end line ≡ false) inner_no_end refl (kind_of f) names 0 (length f.blocks) f.blocks printable.named_blocks))
-
-pub sections_of-front : (layout : Layout) (names : List (List ℕ)) (f : FunctionData) → IsPrintable names f
-    → sections_of is_at_column_one (kept_lines (front_lines layout names f)) ≡ record { before = []; sections = function_sections layout names f }
-sections_of-front layout names f printable =
-    let header = header_lines layout (name_at names f.name) f.legalized f.banked f.selected in
-    let blocks = kept_blocks (kind_of f) names 0 (length f.blocks) f.blocks in
-    let lines = blocks_lines (kind_of f) names 0 (length f.blocks) f.blocks in
-    let header_each : EachLine IsOuter header = header_outer layout (name_at names f.name) f.legalized f.banked f.selected (name_solid (name_at names f.name) printable.is_named) in
-    let body_each : IsOuter (body_line layout) = body_outer layout.body (codes "|") bar_solid in
-    let body : kept_lines (body_line layout ∷ lines) ≡ body_line layout ∷ blocks =
-    rw (body_each.kept) (ap (λ more. body_line layout ∷ more) (kept_blocks_lines (kind_of f) names 0 (length f.blocks) f.blocks printable.named_blocks)) in
-    let kept : kept_lines (front_lines layout names f) ≡ header ++ (body_line layout ∷ blocks) =
-    kept-append header (body_line layout ∷ lines) ∙ (ap (λ xs. xs ++ kept_lines (body_line layout ∷ lines)) (kept_outer header header_each) ∙ ap (λ ys. header ++ ys) body) in
-    ap (sections_of is_at_column_one) kept
-    ∙ bare_sections header (body_line layout ∷ blocks) (record { head = body_line layout; under = blocks } ∷ []) header_each
-    (body_sections (body_line layout) blocks body_each.at_column_one (kept_blocks_inner (kind_of f) names 0 (length f.blocks) f.blocks printable.named_blocks))

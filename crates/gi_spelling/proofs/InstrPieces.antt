@@ -28,8 +28,8 @@ use Rattle.gi_mir.specs.Registers.{type_of_kind}
 use Rattle.gi_mir.specs.Row.{word_of, rows_of}
 use Rattle.gi_mir.specs.Routines.{routine_names}
 use Rattle.gi_spelling.specs.Printed.{mark, word, listed, bracketed, type_piece, register_piece, physical_piece, block_piece, frame_piece, kind_pieces, shown_type, predicate_word, symbol_flag_pieces, name_at, constant_pieces, use_pieces, operand_pieces, definitions_of, sources_of, source_forms, first_row, is_typed_by, forms_after, source_pieces, definition_pieces, defined_pieces, flag_pieces, flags_pieces, sources_pieces, usual_align, align_pieces, memory_pieces, instr_pieces}
-use Rattle.gi_spelling.specs.Plain.{is_name}
-use Rattle.gi_spelling.specs.Printable.{is_named_operand}
+use Rattle.gi_spelling.specs.Documents.{is_name}
+use Rattle.gi_spelling.proofs.Nameable.{is_named_operand}
 
 -- what follows begins with no word byte
 abbrev pub is_closed : List Piece → Bool

@@ -1,14 +1,14 @@
 -- Tokens between commas, and tokens split at `=` and at `::`.
-use Rattle.std.proofs.Common.{◌≡◌, ℕ, Bool, true, false, List, [], ◌∷◌, ◌++◌, Option, Some, None, Result, Ok, Err, map, refl, sym, ap, ◌∙◌, subst, append_assoc}
-use Rattle.std.specs.Prelude.{◌&&◌, filter_map, flat_map, if◌then◌else◌}
+use Rattle.std.proofs.Common.{◌≡◌, ℕ, Bool, true, false, List, [], ◌∷◌, ◌++◌, Some, None, Ok, map, refl, sym, ap, ◌∙◌, append_assoc}
+use Rattle.std.specs.Prelude.{◌&&◌, flat_map, if◌then◌else◌}
 use Rattle.std.specs.List.{AllZip}
-use Rattle.std.proofs.lemmas.Bool.{and_parts, false≢true}
+use Rattle.std.proofs.lemmas.Bool.{and_parts}
 use Rattle.std.proofs.lemmas.List.Elements.{filter_map-append}
 use Rattle.gi_spelling.specs.declared.token.What.{What}
 use Rattle.gi_spelling.specs.declared.token.What.TheVariants as what
 use Rattle.gi_spelling.specs.declared.token.Item.{Item}
 use Rattle.gi_spelling.specs.Items.{what_in}
-use Rattle.gi_spelling.specs.Reading.{Read, then_read, is_comma_item, onto_first_part, parts_of, read_all, is_equals, is_colon, Split, onto_split, split_at_equals, split_at_colons, begins_with_colon, without_first}
+use Rattle.gi_spelling.specs.Reading.{Read, then_read, is_comma_item, onto_first_part, parts_of, read_all, is_equals, is_colon, onto_split, split_at_equals, split_at_colons, begins_with_colon, without_first}
 use Rattle.gi_spelling.specs.Spelling.{name_place, name_places, listed_whats}
 use Rattle.gi_spelling.proofs.TokenLists.{Tokens, then_ok, settled}
 

@@ -1,5 +1,5 @@
 -- Tokens of which none is passed over.
-use Rattle.std.proofs.Common.{◌≡◌, ℕ, Bool, true, false, List, [], ◌∷◌, Option, Some, None, map, refl, sym, ap, ◌∙◌, subst}
+use Rattle.std.proofs.Common.{◌≡◌, ℕ, Bool, true, false, List, [], ◌∷◌, Some, map, refl, ap, ◌∙◌}
 use Rattle.std.specs.Prelude.{◌&&◌, not, option_map}
 use Rattle.std.proofs.lemmas.Bool.{and_parts, not-true, and_right}
 use Rattle.gi_spelling.specs.declared.kept.Next.TheVariants.{Past}
@@ -8,9 +8,9 @@ use Rattle.gi_spelling.specs.declared.token.What.{What}
 use Rattle.gi_spelling.specs.declared.token.What.TheVariants as what
 use Rattle.gi_spelling.specs.declared.token.Item.{Item}
 use Rattle.gi_spelling.specs.Kept.{is_comma, is_note, is_probable, turn, turn_alone, turn_of_two, turn_of_three, turn_at, kept_turn, kept_past, kept}
-use Rattle.gi_spelling.specs.Items.{item_of, what_in, kept_items, end_of}
+use Rattle.gi_spelling.specs.Items.{item_of, what_in, kept_items}
 use Rattle.gi_spelling.specs.Lines.{Line}
-use Rattle.gi_spelling.proofs.PlacedLines.{IsLine, Reads, IsRead, read_line}
+use Rattle.gi_spelling.proofs.PlacedLines.{IsLine, Reads, read_line}
 
 -- a token that is passed over nowhere
 abbrev pub is_loud : What → Bool

@@ -1,19 +1,18 @@
 -- The lines of a text stand at their places, and their tokens there are those of their bytes.
-use Rattle.std.proofs.Common.{◌≡◌, ℕ, zero, suc, ◌+◌, ◌-◌, Bool, true, false, List, [], ◌∷◌, ◌++◌, length, take, drop, Option, Some, None, map, refl, sym, ap, ◌∙◌, subst, arith, append_assoc, append-nil, length-append, add-zero, inl, inr}
-use Rattle.std.specs.Prelude.{◌⊎◌, ◌&&◌, not, ◌==◌, Ok, Err, option_map, if◌then◌else◌}
+use Rattle.std.proofs.Common.{◌≡◌, ℕ, zero, suc, ◌+◌, ◌-◌, Bool, true, false, List, [], ◌∷◌, ◌++◌, length, drop, Option, Some, None, map, refl, sym, ap, ◌∙◌, subst, arith, append_assoc, length-append, add-zero, inl, inr}
+use Rattle.std.specs.Prelude.{◌⊎◌, not, ◌==◌, Ok, Err, option_map, if◌then◌else◌}
 use Rattle.std.specs.List.{list_all, AllZip}
 use Rattle.std.proofs.lemmas.Bool.{and_parts, not-true, eqb-true}
 use Rattle.std.proofs.Math.Seq.{take-append_seam}
-use Rattle.gi_llt.specs.Tokens.{LexemeKind, Lexeme, lexeme, is_word_byte, start_of, Found, FoundBlank, FoundComment, FoundToken, FoundNothing, found, tokens_from, tokens_past, tokens_of}
+use Rattle.gi_llt.specs.Tokens.{Lexeme, lexeme, is_word_byte, start_of, Found, FoundBlank, FoundComment, FoundToken, FoundNothing, found, tokens_from, tokens_past, tokens_of}
 use Rattle.gi_llt.proofs.Pieces.{is_stopped}
 use Rattle.gi_text.specs.declared.token.Token.{Token}
 use Rattle.gi_text.specs.Numbers.{is_too_great}
-use Rattle.gi_text.specs.Cutting.{Fault, TooGreat, Cut, behind, token_at, cut_from, cut_past, slice, cut_of, lexeme_in}
+use Rattle.gi_text.specs.Cutting.{TooGreat, Cut, behind, token_at, cut_from, cut_past, slice, cut_of, lexeme_in}
 use Rattle.gi_text.proofs.LawLemmas.{table_of}
 use Rattle.gi_spelling.specs.declared.token.What.{What}
-use Rattle.gi_spelling.specs.declared.token.Item.{Item}
 use Rattle.gi_spelling.specs.Words.{what_of, whats}
-use Rattle.gi_spelling.specs.Items.{item_of, items_cut, items_in, end_of, items_of_line, what_in}
+use Rattle.gi_spelling.specs.Items.{item_of, items_cut, items_in, end_of, what_in}
 use Rattle.gi_spelling.specs.Lines.{onto_first, lines_of, Line, numbered_from, lines_in}
 
 -- ══ Lines at their places ══
@@ -166,7 +165,7 @@ pub read_line : (text : List ℕ) (line : Line) (bytes : List ℕ) (ws : List Wh
 read_line text line bytes ws is reads = read_range text line.start (end_of line) bytes ws (line_slice text line bytes is) reads
 
 -- the end of a line
-drop_next : (n : ℕ) (xs ys : List ℕ) (x : ℕ) → drop n xs ≡ x ∷ ys → drop (suc n) xs ≡ ys
+pub drop_next : (n : ℕ) (xs ys : List ℕ) (x : ℕ) → drop n xs ≡ x ∷ ys → drop (suc n) xs ≡ ys
 drop_next zero [] ys x is = cc
 drop_next zero (z ∷ xs) ys x is = cc
 drop_next (suc n) [] ys x is = cc

@@ -1,19 +1,17 @@
 -- What the tokens of printed lines are.
-use Rattle.std.proofs.Common.{◌≡◌, ℕ, suc, ◌+◌, ◌^◌, ◌<◌, Bool, true, false, List, [], ◌∷◌, ◌++◌, Option, Some, None, map, refl, sym, ap, ◌∙◌, subst, arith}
-use Rattle.std.specs.Prelude.{◌&&◌, not, decimal, codes, min, nat_lt, if◌then◌else◌}
+use Rattle.std.proofs.Common.{◌≡◌, ℕ, ◌+◌, ◌^◌, ◌<◌, true, List, [], ◌∷◌, ◌++◌, Some, map, refl, ap, ◌∙◌, arith}
+use Rattle.std.specs.Prelude.{decimal, codes, nat_lt}
 use Rattle.std.specs.List.{list_all}
-use Rattle.std.specs.Cmp.Derive.{both_true}
 use Rattle.std.proofs.lemmas.Bool.{and_parts}
 use Rattle.std.proofs.lemmas.Bool.Decides.{nat_tests}
-use Rattle.std.proofs.lemmas.List.Folds.{list_all-append}
-use Rattle.gi_llt.specs.Tokens.{Lexeme, lexeme, Word, Register, Physical, is_digit, run_of, past_run, Piece, Spaces, piece_bytes, piece_lexemes, IsApart, tokens_of}
+use Rattle.gi_llt.specs.Tokens.{lexeme, Register, Physical, is_digit, past_run, Piece, Spaces, piece_bytes, piece_lexemes, IsApart}
 use Rattle.gi_llt.proofs.Pieces.{tokens_of-pieces}
 use Rattle.gi_llt.proofs.Apart.{is_digits, decimal_digits}
 use Rattle.gi_mir.specs.Row.{opcode_of}
 use Rattle.gi_spelling.specs.declared.token.Word.TheVariants as word
 use Rattle.gi_spelling.specs.declared.token.What.{What}
 use Rattle.gi_spelling.specs.declared.token.What.TheVariants as what
-use Rattle.gi_spelling.specs.Words.{what_of, whats, numeral, numeral_before_name, word_of}
+use Rattle.gi_spelling.specs.Words.{what_of, whats, numeral_before_name, word_of}
 use Rattle.gi_spelling.specs.Printed.{listed, block_pieces, physical_pieces, block_head_pieces, successors_pieces, liveins_pieces}
 use Rattle.gi_spelling.specs.Spelling.{word_what, listed_whats, block_whats, physical_whats}
 use Rattle.gi_spelling.proofs.Numerals.{numeral-decimal}
@@ -43,7 +41,7 @@ all_digits : (bytes : List ℕ) → is_digits bytes ≡ true → list_all is_dig
 all_digits [] some = refl
 all_digits (byte ∷ bytes) some = some
 
-numeral_alone : (bound n : ℕ) → n < 10 ^ 64 → n < bound + 1 → numeral_before_name bound (decimal n) ≡ Some n
+pub numeral_alone : (bound n : ℕ) → n < 10 ^ 64 → n < bound + 1 → numeral_before_name bound (decimal n) ≡ Some n
 numeral_alone bound n within small = rw (past_digits (decimal n) (all_digits (decimal n) (decimal_digits n))) (numeral-decimal bound n within small)
 
 pub head_is : (n : ℕ) → n < 4294901760 → word_of (codes "bb." ++ decimal n) ≡ word.BlockHead n

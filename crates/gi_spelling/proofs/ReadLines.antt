@@ -1,5 +1,5 @@
 -- What is read of a line is spelled so.
-use Rattle.std.proofs.Common.{◌≡◌, ℕ, Bool, true, false, List, [], ◌∷◌, ◌++◌, Option, Some, None, Result, Ok, Err, map, refl, sym, ap, ◌∙◌, subst, append_assoc, append-nil}
+use Rattle.std.proofs.Common.{◌≡◌, ℕ, Bool, true, false, List, [], ◌∷◌, ◌++◌, Option, Some, None, Ok, Err, map, refl, sym, ap, ◌∙◌, subst, append_assoc, append-nil}
 use Rattle.std.specs.Prelude.{filter_map, flat_map, if◌then◌else◌}
 use Rattle.std.specs.List.{AllZip}
 use Rattle.gi_llt.specs.declared.Llt.{Llt}
@@ -18,10 +18,10 @@ use Rattle.gi_spelling.specs.declared.written.Source.{Source}
 use Rattle.gi_spelling.specs.declared.written.Memory.{Memory}
 use Rattle.gi_spelling.specs.declared.written.Fault.TheVariants as fault
 use Rattle.gi_spelling.specs.Written.{WrittenData}
-use Rattle.gi_spelling.specs.Reading.{Read, then_read, closed, read_definition, read_operand, parts_of, read_all, read_operands, read_type, wrong_memory_word, access_by, align_word_by, size_by, read_align_number, read_align, memory_end_by, read_memory_end, memory_closed_by, read_memory_closed, read_memory_type, memory_opened_by, read_memory_opened, read_access, memory_by, read_memory, Split, split_at_equals, split_at_colons, flag_at, past_flag, is_no_unsigned_wrap, is_no_signed_wrap, is_exact, is_disjoint, is_non_negative, read_flags, opcode_by, is_constant_op, read_sources, read_memory_behind, read_tail, read_opcode, read_body, begins_definition, read_behind, read_defined_line, read_instr}
+use Rattle.gi_spelling.specs.Reading.{then_read, closed, read_definition, read_operand, parts_of, read_all, read_operands, read_type, access_by, align_word_by, size_by, read_align_number, read_align, memory_end_by, read_memory_end, memory_closed_by, read_memory_closed, read_memory_type, memory_opened_by, read_memory_opened, read_access, memory_by, read_memory, split_at_equals, split_at_colons, flag_at, past_flag, is_no_unsigned_wrap, is_no_signed_wrap, is_exact, is_disjoint, is_non_negative, read_flags, opcode_by, is_constant_op, read_sources, read_memory_behind, read_tail, read_opcode, read_body, begins_definition, read_behind, read_defined_line, read_instr}
 use Rattle.gi_spelling.specs.Spelling.{word_what, type_whats, definition_whats, source_whats, listed_whats, defined_whats, flag_whats, flags_whats, plain_size, align_whats, memory_whats, whats_of, place_of_source, places_of, AreWritten}
 use Rattle.gi_spelling.proofs.TokenLists.{Tokens, no_tokens, one_more, both_tokens, then_ok, closed_ok, ended_ok, settled}
-use Rattle.gi_spelling.proofs.ReadPieces.{type_ok, definition_ok, IsSource, operand_ok}
+use Rattle.gi_spelling.proofs.ReadPieces.{type_ok, definition_ok, operand_ok}
 use Rattle.gi_spelling.proofs.ItemParts.{some_parts, IsPart, parts_spelled, all_ok, equals_split, no_colons_split, colons_split}
 
 -- ══ Operands ══

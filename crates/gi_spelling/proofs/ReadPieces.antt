@@ -1,5 +1,5 @@
 -- What is read of the pieces of a line is spelled so: definitions and operands.
-use Rattle.std.proofs.Common.{◌≡◌, ℕ, Bool, true, false, List, [], ◌∷◌, ◌++◌, Option, Some, None, Result, Ok, Err, refl, sym, ap, ◌∙◌, subst}
+use Rattle.std.proofs.Common.{◌≡◌, ℕ, Bool, true, false, List, [], ◌∷◌, ◌++◌, None, Ok, refl, sym, ap, ◌∙◌, subst}
 use Rattle.std.specs.Prelude.{filter_map}
 use Rattle.gi_llt.specs.declared.Llt.{Llt}
 use Rattle.gi_mir.specs.declared.operand.Kind.{Kind}
@@ -19,7 +19,7 @@ use Rattle.gi_spelling.specs.declared.written.Definition.{Definition}
 use Rattle.gi_spelling.specs.declared.written.Definition.TheVariants as definition
 use Rattle.gi_spelling.specs.declared.written.Source.{Source}
 use Rattle.gi_spelling.specs.declared.written.Source.TheVariants as source
-use Rattle.gi_spelling.specs.Reading.{Read, then_read, at_end, closed, type_by, read_type, read_opened, opened_by, read_bracketed, class_by, kind_by, read_kind, defined_by, read_defined, definition_by, read_definition, physical_by, read_physical, constant_by, read_constant, predicate_by, read_predicate_opened, predicate_opened_by, read_predicate, symbol_by, read_symbol, flag_closed_by, read_flag_closed, symbol_flag_by, read_flag_opened, flag_opened_by, read_flagged, read_use, word_operand, operand_by, read_operand}
+use Rattle.gi_spelling.specs.Reading.{at_end, closed, type_by, read_type, read_opened, opened_by, read_bracketed, class_by, kind_by, read_kind, defined_by, read_defined, definition_by, read_definition, physical_by, read_physical, constant_by, read_constant, predicate_by, read_predicate_opened, predicate_opened_by, read_predicate, symbol_by, read_symbol, flag_closed_by, read_flag_closed, symbol_flag_by, read_flag_opened, flag_opened_by, read_flagged, read_use, word_operand, operand_by, read_operand}
 use Rattle.gi_spelling.specs.Spelling.{word_what, type_whats, kind_whats, definition_whats, symbol_flag_whats, source_whats, place_of_source}
 use Rattle.gi_spelling.proofs.TokenLists.{Tokens, no_tokens, one_more, one_name, both_tokens, names_nothing, then_ok, closed_ok, ended_ok, settled}
 

@@ -1,6 +1,6 @@
 -- A printed number is read as the number that it writes, and a printed constant as its bits.
-use Rattle.std.proofs.Common.{◌≡◌, ℕ, zero, suc, ◌+◌, ◌-◌, ◌*◌, ◌%◌, ◌^◌, ◌<◌, ◌≤◌, Bool, true, false, List, [], ◌∷◌, Option, Some, None, refl, sym, ap, ◌∙◌, subst, arith, lit<, pos, negsuc, neg_ℤ}
-use Rattle.std.specs.Prelude.{◌&&◌, not, ◌==◌, nat_lt, nat_le, min, decimal, ℤ, if◌then◌else◌}
+use Rattle.std.proofs.Common.{◌≡◌, ℕ, suc, ◌-◌, ◌*◌, ◌%◌, ◌^◌, ◌<◌, ◌≤◌, Bool, true, false, List, [], ◌∷◌, Some, refl, sym, ap, ◌∙◌, subst, arith, lit<, pos, negsuc}
+use Rattle.std.specs.Prelude.{◌&&◌, ◌==◌, nat_lt, nat_le, min, decimal}
 use Rattle.std.specs.Fmt.{signed_decimal}
 use Rattle.std.specs.List.{list_all}
 use Rattle.std.proofs.lemmas.Bool.{and_parts, and_right}
@@ -9,15 +9,13 @@ use Rattle.std.proofs.Math.Nat.{pow-suc, pow-le-pow_right, mod-eq_of_lt}
 use Rattle.gi_llt.specs.Bits.{signed}
 use Rattle.gi_llt.specs.Tokens.{is_digit, Number as OfNumber}
 use Rattle.gi_llt.proofs.Apart.{is_digits, decimal_digits}
-use Rattle.gi_text.specs.declared.token.Number.{Number as NumberData}
 use Rattle.gi_text.specs.Numbers.{value_after, size_spelled, is_negative, is_too_great}
-use Rattle.gi_mir.specs.declared.operand.Operand.{Operand}
 use Rattle.gi_mir.specs.declared.operand.Operand.TheVariants as operand
 use Rattle.gi_spelling.specs.Words.{number_written}
 use Rattle.gi_spelling.specs.Resolved.{is_in_width, constant_value, resolved_constant}
 use Rattle.gi_spelling.proofs.Numerals.{decimal_value}
 
-digit_no_minus : (byte : ℕ) → is_digit byte ≡ true → (byte == 45) ≡ false
+pub digit_no_minus : (byte : ℕ) → is_digit byte ≡ true → (byte == 45) ≡ false
 digit_no_minus byte digit = grind (arith, nat_tests)
 
 digit_no_letter : (byte : ℕ) → is_digit byte ≡ true → (byte == 120) ≡ false
@@ -68,7 +66,7 @@ in_width value power within = grind (arith, nat_tests)
 below_in_width : (size half : ℕ) → size ≤ half → nat_le size half ≡ true
 below_in_width size half within = grind (arith, nat_tests)
 
-plain_constant : (bits value : ℕ) → value < 2 ^ bits → resolved_constant bits (record { negative = false; size = value }) ≡ Some (operand.Constant bits value)
+pub plain_constant : (bits value : ℕ) → value < 2 ^ bits → resolved_constant bits (record { negative = false; size = value }) ≡ Some (operand.Constant bits value)
 plain_constant bits value within = rw (in_width value (2 ^ bits) within) refl
 
 negative_constant : (k n value : ℕ) → k < 128 → 2 ^ suc k ≡ 2 ^ k * 2 → 2 ^ k ≤ value → value < 2 ^ suc k → suc n ≡ 2 ^ suc k - value → 0 < 2 ^ k
@@ -86,7 +84,7 @@ negative_constant k n value small twice above within size some =
     let valued : constant_value (suc k) (record { negative = true; size = suc n }) ≡ value = rw (some_size, least, whole, back, kept) refl in
     rw (fine, valued) refl
 
-signed_low : (k value : ℕ) → value < 2 ^ k → signed (suc k) value ≡ pos value
+pub signed_low : (k value : ℕ) → value < 2 ^ k → signed (suc k) value ≡ pos value
 signed_low k value below =
     let less : suc k - 1 ≡ k = omega arith in
     let test : nat_lt value (2 ^ k) ≡ true = in_width value (2 ^ k) below in

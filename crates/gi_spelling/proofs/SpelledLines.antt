@@ -1,12 +1,10 @@
 -- A line that spells an instruction is no head of a block, states no list and says something.
-use Rattle.std.proofs.Common.{◌≡◌, ℕ, Bool, true, false, List, [], ◌∷◌, ◌++◌, Option, Some, None, map, refl, sym, ap, ◌∙◌, subst, append_assoc}
-use Rattle.std.specs.Prelude.{◌&&◌, not, unwrap_or}
+use Rattle.std.proofs.Common.{◌≡◌, ℕ, Bool, true, false, List, [], ◌∷◌, ◌++◌, Option, Some, None, map, refl, ap, ◌∙◌, append_assoc}
+use Rattle.std.specs.Prelude.{unwrap_or}
 use Rattle.std.specs.List.{list_all}
-use Rattle.std.specs.Cmp.Derive.{both_true}
 use Rattle.std.proofs.lemmas.Bool.{and_parts, not-true}
 use Rattle.gi_mir.specs.declared.opcode.Opcode.{Opcode}
 use Rattle.gi_mir.specs.declared.operand.Flags.{Flags}
-use Rattle.gi_mir.specs.declared.operand.Kind.TheVariants as kind
 use Rattle.gi_mir.specs.declared.operand.SymbolFlag.{SymbolFlag}
 use Rattle.gi_mir.specs.declared.operand.SymbolFlag.TheVariants as symbol_flag
 use Rattle.gi_spelling.specs.declared.token.Flag.{Flag}
@@ -22,7 +20,7 @@ use Rattle.gi_spelling.specs.declared.written.Source.TheVariants as source
 use Rattle.gi_spelling.specs.declared.written.Memory.{Memory}
 use Rattle.gi_spelling.specs.Items.{what_in}
 use Rattle.gi_spelling.specs.Written.{WrittenData}
-use Rattle.gi_spelling.specs.Reading.{split_at_equals, onto_split, is_equals, is_debug, read_flags, opcode_place, is_debug_line}
+use Rattle.gi_spelling.specs.Reading.{split_at_equals, is_equals, is_debug, read_flags, opcode_place, is_debug_line}
 use Rattle.gi_spelling.specs.Blocks.{head_by, head_in, list_by, list_kind_in}
 use Rattle.gi_spelling.specs.Spelling.{word_what, definition_whats, source_whats, symbol_flag_whats, listed_whats, defined_whats, flag_whats, flags_whats, align_whats, memory_whats, whats_of, AreWritten}
 use Rattle.gi_spelling.proofs.WrittenParts.{no_equals, equals_written}

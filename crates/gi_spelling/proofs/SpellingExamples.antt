@@ -1,15 +1,27 @@
 -- What a text may hold beside what is printed, and texts that spell nothing.
-use Rattle.std.proofs.Common.{◌≡◌, ℕ, List, [], ◌∷◌, ◌++◌, None, false, refl, ap}
+use Rattle.std.proofs.Common.{◌≡◌, ℕ, List, [], ◌∷◌, ◌++◌, Some, None, false, refl, arith}
 use Rattle.std.specs.Prelude.{codes}
-use Rattle.std.specs.Fmt.{digits}
+use Rattle.std.specs.List.{AllZip}
 use Rattle.gi_llt.specs.declared.Llt.TheVariants.{Scalar}
-use Rattle.gi_mir.specs.declared.opcode.Opcode.TheVariants as op
-use Rattle.gi_mir.specs.declared.operand.Kind.TheVariants.{Generic}
-use Rattle.gi_mir.specs.declared.operand.Operand.TheVariants.{Def, Use, Phys, Block, ImplicitUse}
-use Rattle.gi_mir.specs.Data.{FunctionData, ModuleData, reg_of}
-use Rattle.gi_spelling.specs.Printed.{name_at, text_of}
-use Rattle.gi_spelling.specs.Plain.{Section, Spells}
-use Rattle.gi_spelling.specs.AddExample.{instr, generic_module}
+use Rattle.gi_mir.specs.Data.{InstrData, FunctionData, ModuleData, reg_of}
+use Rattle.gi_mir.specs.Formed.{is_formed}
+use Rattle.gi_mir.specs.Row.{opcode_of}
+use Rattle.gi_mir.specs.declared.opcode.Opcode.TheVariants.{Copy, GenericAdd, GenericBranchConditional, PseudoReturn}
+use Rattle.gi_mir.specs.declared.operand.Kind.TheVariants.{Banked, Generic}
+use Rattle.gi_mir.specs.declared.operand.Operand.TheVariants.{Def, Use, Phys, PhysDef, Block, ImplicitUse}
+use Rattle.gi_spelling.specs.AddExample.{function_of, instr, module_of}
+use Rattle.gi_spelling.specs.Blocks.{wrong}
+use Rattle.gi_spelling.specs.Named.{IsNamedOperand, IsNamedEntry}
+use Rattle.gi_spelling.specs.Printed.{text_of}
+use Rattle.gi_spelling.specs.Read.{IsReadModule}
+use Rattle.gi_spelling.specs.Spelling.{Spells}
+use Rattle.gi_spelling.specs.declared.written.Fault.TheVariants as fault
+use Rattle.gi_spelling.proofs.ReadSpells.{read_spelled}
+use Rattle.gi_spelling.proofs.SpelledRight.{spelled_right}
+
+-- an entry that is read as it stands
+same_entry : {text : List ℕ} {names : List (List ℕ)} {entry : ℕ × InstrData} → AllZip (IsNamedOperand text names) (entry.1).operands (entry.1).operands → IsNamedEntry text names entry entry
+same_entry operands = record { id = refl; instr = record { op = refl; flags = refl; operands = operands; memory = refl; line = refl } }
 
 -- comments, blanks, empty lines, other keys, and keys in another order
 abbrev free_text : List ℕ
@@ -40,30 +52,59 @@ free_text = text_of (codes "# RUN: llc -mtriple=riscv32"
     ∷ codes "  ; nothing"
     ∷ [])
 
-pub spells_free : Spells free_text generic_module
-unfolding digits
-spells_free = record {
-  no_ir = refl;
-  from_a_document = refl;
-  documents = (
+-- the function, each instruction with its line
+abbrev at : ℕ → ℕ × InstrData → ℕ × InstrData
+at line entry = (entry.0, record entry.1 { line = line })
+
+abbrev free_module : ModuleData
+free_module = module_of (record (function_of (Banked (Scalar 32)) GenericAdd) {
+  blocks = record {
+    successors = [];
+    liveins = 10 ∷ 11 ∷ [];
+    instrs = at 10 (0, instr Copy (Def (reg_of 0) (Banked (Scalar 32)) ∷ Phys 10 ∷ []))
+        ∷ at 11 (1, instr Copy (Def (reg_of 1) (Banked (Scalar 32)) ∷ Phys 11 ∷ []))
+        ∷ at 13 (2, instr GenericAdd (Def (reg_of 2) (Banked (Scalar 32)) ∷ Use (reg_of 0) ∷ Use (reg_of 1) ∷ []))
+        ∷ at 14 (3, instr Copy (PhysDef 10 ∷ Use (reg_of 2) ∷ []))
+        ∷ at 15 (4, instr PseudoReturn (ImplicitUse 10 ∷ []))
+        ∷ [];
+  } ∷ [];
+})
+
+reads_free : IsReadModule free_text free_module
+unfolding is_formed opcode_of
+reads_free = record {
+  right = refl;
+  ir = refl;
+  functions = (
     record {
-      from_a_key = refl;
-      entries = record {
-        keyed = refl;
-        is_named = refl;
-        named = refl;
-        legal = (refl, refl);
-        banked = (refl, refl);
-        chosen = (refl, refl);
-        no_registers = refl;
-        no_stack = refl;
-        no_objects = refl;
-        bodied = (refl, refl, (record { numbered = refl; succeeded = refl; live = (λ empty. cc, refl); instructed = (refl, (refl, (refl, (refl, (refl, tt))))) }, tt));
+      within = omega arith;
+      name = refl;
+      same = record {
+        legalized = refl;
+        banked = refl;
+        selected = refl;
+        stack = refl;
+        blocks = (
+          record {
+            successors = refl;
+            liveins = refl;
+            instrs = (
+              same_entry (refl, (refl, tt)),
+              (same_entry (refl, (refl, tt)), (same_entry (refl, (refl, (refl, tt))), (same_entry (refl, (refl, tt)), (same_entry (refl, tt), tt)))),
+            );
+          },
+          tt,
+        );
+        next_reg = refl;
+        next_id = refl;
       };
     },
     tt,
   );
 }
+
+pub spells_free : Spells free_text free_module
+spells_free = read_spelled free_text free_module reads_free
 
 -- without a line for them, the successors are the targets of the branches, and then the next block
 abbrev two_ways : FunctionData
@@ -77,10 +118,10 @@ two_ways = record {
       record {
         successors = 2 ∷ 1 ∷ [];
         liveins = 10 ∷ [];
-        instrs = (0, instr op.Copy (Def (reg_of 0) (Generic (Scalar 32)) ∷ Phys 10 ∷ [])) ∷ (1, instr op.GenericBranchConditional (Use (reg_of 0) ∷ Block 2 ∷ [])) ∷ [];
+        instrs = at 6 (0, instr Copy (Def (reg_of 0) (Generic (Scalar 32)) ∷ Phys 10 ∷ [])) ∷ at 7 (1, instr GenericBranchConditional (Use (reg_of 0) ∷ Block 2 ∷ [])) ∷ [];
       }
       ∷ record { successors = 2 ∷ []; liveins = []; instrs = [] }
-      ∷ record { successors = []; liveins = []; instrs = (2, instr op.PseudoReturn (ImplicitUse 10 ∷ [])) ∷ [] }
+      ∷ record { successors = []; liveins = []; instrs = at 10 (2, instr PseudoReturn (ImplicitUse 10 ∷ [])) ∷ [] }
       ∷ [];
   next_reg = 1;
   next_id = 3;
@@ -99,64 +140,66 @@ two_ways_text = text_of (codes "---"
     ∷ codes "    PseudoRET implicit $x10"
     ∷ [])
 
-pub spells_two_ways : Spells two_ways_text (record { ir = None; names = codes "f" ∷ []; functions = two_ways ∷ [] })
-unfolding digits
-spells_two_ways = record {
-  no_ir = refl;
-  from_a_document = refl;
-  documents = (
+abbrev two_ways_module : ModuleData
+two_ways_module = record { ir = None; names = codes "f" ∷ []; functions = two_ways ∷ [] }
+
+reads_two_ways : IsReadModule two_ways_text two_ways_module
+unfolding is_formed opcode_of
+reads_two_ways = record {
+  right = refl;
+  ir = refl;
+  functions = (
     record {
-      from_a_key = refl;
-      entries = record {
-        keyed = refl;
-        is_named = refl;
-        named = refl;
-        legal = refl;
+      within = omega arith;
+      name = refl;
+      same = record {
+        legalized = refl;
         banked = refl;
-        chosen = refl;
-        no_registers = refl;
-        no_stack = refl;
-        no_objects = refl;
-        bodied = (
-          refl,
-          refl,
-          (
-            record { numbered = refl; succeeded = refl; live = (λ empty. cc, refl); instructed = (refl, (refl, tt)) },
-            (
-              record { numbered = refl; succeeded = refl; live = refl; instructed = tt },
-              (record { numbered = refl; succeeded = refl; live = refl; instructed = (refl, tt) }, tt),
-            ),
-          ),
+        selected = refl;
+        stack = refl;
+        blocks = (
+          record { successors = refl; liveins = refl; instrs = (same_entry (refl, (refl, tt)), (same_entry (refl, (refl, tt)), tt)) },
+          (record { successors = refl; liveins = refl; instrs = tt }, (record { successors = refl; liveins = refl; instrs = (same_entry (refl, tt), tt) }, tt)),
         );
+        next_reg = refl;
+        next_id = refl;
       };
     },
     tt,
   );
 }
 
+pub spells_two_ways : Spells two_ways_text two_ways_module
+spells_two_ways = read_spelled two_ways_text two_ways_module reads_two_ways
+
 -- an empty text spells a module without functions, and no other
-pub spells_empty : Spells [] (record { ir = None; names = []; functions = [] })
-spells_empty = record { no_ir = refl; from_a_document = refl; documents = tt }
+abbrev empty_module : ModuleData
+empty_module = record { ir = None; names = []; functions = [] }
+
+pub spells_empty : Spells [] empty_module
+spells_empty = read_spelled [] empty_module (record { right = refl; ir = refl; functions = tt })
 
 -- a second name, a line under a name, and a line behind the end spell nothing
 abbrev text_with : List (List ℕ) → List (List ℕ) → List ℕ
 text_with keys last = text_of ((codes "---" ∷ keys) ++ (codes "body: |" ∷ last))
 
-abbrev entry : List ℕ → List (List ℕ) → List Section
-entry value lines = record { head = value; under = lines } ∷ []
+abbrev second_name : List ℕ
+second_name = text_with (codes "name: f" ∷ codes "name: f" ∷ []) []
 
-abbrev first_under : List Section → List (List ℕ)
-first_under [] = []
-first_under (section ∷ sections) = section.under
+pub spells_no_second_name : (m : ModuleData) → Spells second_name m → ⊥
+unfolding opcode_of
+spells_no_second_name m spelled = let found : Some (wrong 3 fault.Syntax) ≡ None = spelled_right second_name m spelled in cc
 
-no_under : (value name line : List ℕ) → entry value (line ∷ []) ≡ entry name [] → ⊥
-no_under value name line wrong = let none : (line ∷ []) ≡ [] = ap first_under wrong in cc
+abbrev line_under_name : List ℕ
+line_under_name = text_with (codes "name: f" ∷ codes "  g" ∷ []) []
 
-pub spells_no_second_name : (m : ModuleData) → Spells (text_with (codes "name: f" ∷ codes "name: f" ∷ []) []) (record m { functions = two_ways ∷ [] }) → ⊥
-spells_no_second_name m spelled = let wrong = spelled.documents.0.entries.named in cc
+pub spells_no_line_under_name : (m : ModuleData) → Spells line_under_name m → ⊥
+unfolding opcode_of
+spells_no_line_under_name m spelled = let found : Some (wrong 3 fault.Syntax) ≡ None = spelled_right line_under_name m spelled in cc
 
-pub spells_no_line_under_name : (m : ModuleData) → Spells (text_with (codes "name: f" ∷ codes "  g" ∷ []) []) (record m { functions = two_ways ∷ [] }) → ⊥
-spells_no_line_under_name m spelled = no_under (codes "f") (name_at m.names 0) (codes "  g") spelled.documents.0.entries.named
+abbrev more_after_end : List ℕ
+more_after_end = text_with (codes "name: f" ∷ []) (codes "..." ∷ codes "  bb.0:" ∷ [])
 
-pub spells_no_more_after_end : (m : ModuleData) → Spells (text_with (codes "name: f" ∷ []) (codes "..." ∷ codes "  bb.0:" ∷ [])) (record m { functions = two_ways ∷ [] }) → ⊥
-spells_no_more_after_end m spelled = let wrong = spelled.documents.0.entries.keyed in cc
+pub spells_no_more_after_end : (m : ModuleData) → Spells more_after_end m → ⊥
+unfolding opcode_of
+spells_no_more_after_end m spelled = let found : Some (wrong 5 fault.Syntax) ≡ None = spelled_right more_after_end m spelled in cc

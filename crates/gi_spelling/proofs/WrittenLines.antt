@@ -1,6 +1,6 @@
 -- A line that is spelled is read.
-use Rattle.std.proofs.Common.{◌≡◌, ℕ, Bool, true, false, List, [], ◌∷◌, ◌++◌, Option, Some, None, Result, Ok, Err, map, refl, sym, ap, ◌∙◌, subst, append_assoc, append-nil}
-use Rattle.std.specs.Prelude.{◌&&◌, not, filter_map, flat_map, if◌then◌else◌}
+use Rattle.std.proofs.Common.{◌≡◌, ℕ, Bool, true, false, List, [], ◌∷◌, ◌++◌, Option, Some, None, Ok, map, refl, sym, ap, ◌∙◌, subst, append_assoc, append-nil}
+use Rattle.std.specs.Prelude.{filter_map, flat_map}
 use Rattle.std.specs.List.{list_all}
 use Rattle.std.proofs.lemmas.Bool.{and_parts}
 use Rattle.std.specs.Cmp.Derive.{both_true}
@@ -22,12 +22,12 @@ use Rattle.gi_spelling.specs.declared.written.Source.TheVariants as source
 use Rattle.gi_spelling.specs.declared.written.Memory.{Memory}
 use Rattle.gi_spelling.specs.Items.{what_in}
 use Rattle.gi_spelling.specs.Written.{WrittenData}
-use Rattle.gi_spelling.specs.Reading.{Read, then_read, read_definition, read_operand, parts_of, read_all, read_operands, Split, split_at_equals, split_at_colons, flag_at, past_flag, is_no_unsigned_wrap, is_no_signed_wrap, is_exact, is_disjoint, is_non_negative, read_flags, opcode_by, is_constant_op, read_sources, read_memory_behind, read_tail, read_opcode, read_body, defines, begins_definition, read_behind, read_defined_line, read_instr}
-use Rattle.gi_spelling.specs.Spelling.{word_what, definition_whats, source_whats, symbol_flag_whats, listed_whats, defined_whats, flag_whats, flags_whats, align_whats, memory_whats, whats_of, name_place, name_places, place_of_source, places_of, AreWritten}
+use Rattle.gi_spelling.specs.Reading.{read_definition, read_operand, parts_of, read_all, read_operands, flag_at, past_flag, is_no_unsigned_wrap, is_no_signed_wrap, is_exact, is_disjoint, is_non_negative, read_flags, is_constant_op, read_sources, read_tail, read_opcode, read_body, defines, begins_definition, read_instr}
+use Rattle.gi_spelling.specs.Spelling.{word_what, definition_whats, source_whats, symbol_flag_whats, listed_whats, defined_whats, flag_whats, flags_whats, align_whats, memory_whats, name_place, name_places, place_of_source, places_of, AreWritten}
 use Rattle.gi_spelling.proofs.TokenLists.{names_nothing, no_place}
 use Rattle.gi_spelling.proofs.ItemParts.{parts_whats, parts-places}
 use Rattle.gi_spelling.proofs.WrittenPieces.{definition_read, global_read, is_global, other_read, inner_whats, memory_read}
-use Rattle.gi_spelling.proofs.WrittenParts.{no_comma, parts_written, quiet_places, no_equals, SplitsAt, equals_written, no_colon, no_colons_written, colons_written}
+use Rattle.gi_spelling.proofs.WrittenParts.{no_comma, parts_written, quiet_places, no_equals, equals_written, no_colon, no_colons_written, colons_written}
 
 -- ══ Definitions ══
 

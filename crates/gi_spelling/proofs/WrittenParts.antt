@@ -1,13 +1,13 @@
 -- Tokens that are spelled with commas, `=` and `::` split there.
-use Rattle.std.proofs.Common.{◌≡◌, ℕ, Bool, true, false, List, [], ◌∷◌, ◌++◌, Option, Some, None, Result, Ok, Err, map, refl, sym, ap, ◌∙◌, subst}
-use Rattle.std.specs.Prelude.{◌&&◌, not, flat_map, if◌then◌else◌}
+use Rattle.std.proofs.Common.{◌≡◌, ℕ, Bool, true, false, List, [], ◌∷◌, ◌++◌, Option, Some, None, map, refl, ap, ◌∙◌}
+use Rattle.std.specs.Prelude.{not, if◌then◌else◌}
 use Rattle.std.specs.List.{list_all}
 use Rattle.std.proofs.lemmas.Bool.{and_parts, not-true}
 use Rattle.gi_spelling.specs.declared.token.What.{What}
 use Rattle.gi_spelling.specs.declared.token.What.TheVariants as what
 use Rattle.gi_spelling.specs.declared.token.Item.{Item}
 use Rattle.gi_spelling.specs.Items.{what_in}
-use Rattle.gi_spelling.specs.Reading.{is_comma_item, onto_first_part, parts_of, is_equals, is_colon, Split, onto_split, split_at_equals, split_at_colons, begins_with_colon, without_first}
+use Rattle.gi_spelling.specs.Reading.{is_comma_item, onto_first_part, parts_of, is_equals, is_colon, Split, onto_split, split_at_equals, split_at_colons}
 use Rattle.gi_spelling.specs.Spelling.{name_place, name_places, listed_whats}
 use Rattle.gi_spelling.proofs.TokenLists.{names_nothing, no_place}
 use Rattle.gi_spelling.proofs.ItemParts.{parts_whats}

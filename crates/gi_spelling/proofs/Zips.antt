@@ -1,10 +1,10 @@
 -- Lines that agree with bytes one by one, through filters, runs and sections.
-use Rattle.std.proofs.Common.{◌≡◌, ℕ, Bool, true, false, List, [], ◌∷◌, ◌++◌, length, refl, sym, ap, ◌∙◌, subst}
-use Rattle.std.specs.Prelude.{filter, if◌then◌else◌, ⊤}
+use Rattle.std.proofs.Common.{◌≡◌, ℕ, Bool, true, false, List, [], ◌∷◌}
+use Rattle.std.specs.Prelude.{filter, if◌then◌else◌}
 use Rattle.std.specs.List.{AllZip}
 use Rattle.gi_llt.specs.Tokens.{run_of, past_run}
 use Rattle.gi_spelling.specs.Lines.{Line, Section as LineSection, Sections as LineSections, with_head as head_line, with_line as next_line, sections_of as line_sections}
-use Rattle.gi_spelling.specs.Plain.{Section, Sections, with_head, with_line, sections_of}
+use Rattle.gi_spelling.proofs.PlainLines.{Section, Sections, with_head, with_line, sections_of}
 
 module _ {A B : Type 0} (R : A → B → Type 0) (p : A → Bool) (q : B → Bool) (same : (a : A) (b : B) → R a b → p a ≡ q b) where
   pub filter_zip : (xs : List A) (ys : List B) → AllZip R xs ys → AllZip R (filter p xs) (filter q ys)

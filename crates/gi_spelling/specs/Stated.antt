@@ -13,7 +13,7 @@ use Rattle.gi_mir.specs.declared.operand.Kind.TheVariants.{Banked}
 use Rattle.gi_mir.specs.declared.operand.Operand.TheVariants.{Def, Use, Phys, PhysDef, ImplicitUse, Constant}
 use Rattle.gi_mir.specs.Data.{InstrData, BlockData, FunctionData, ModuleData, no_flags, reg_of}
 use Rattle.gi_spelling.specs.Printed.{name_at}
-use Rattle.gi_spelling.specs.Plain.{lines_of}
+use Rattle.gi_spelling.specs.Lines.{lines_of}
 
 -- one of the five instructions
 pub data StatedInstr : Type 0 where

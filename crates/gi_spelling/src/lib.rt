@@ -3,5 +3,6 @@
 
 pub mod kept;
 pub mod laws;
+pub mod one;
 pub mod token;
 pub mod written;

@@ -1,17 +1,24 @@
 -- A text that is printed of what is selected from a read one keeps the promise.
-use Rattle.std.proofs.Common.{◌≡◌, ℕ, true, ◌&&◌, List, [], ◌∷◌, map, refl, sym, ap, ap₂, ◌∙◌, subst}
-use Rattle.std.specs.List.{AllZip, list_all}
+use Rattle.std.proofs.Common.{◌≡◌, ℕ, suc, true, ◌&&◌, List, [], ◌∷◌, length, map, refl, sym, ap, ap₂, ◌∙◌, subst}
+use Rattle.std.specs.Prelude.{nat_le, nat_lt, ◌^◌}
+use Rattle.std.specs.List.{AllByRecursion, AllZip, list_all}
+use Rattle.std.specs.Cmp.Derive.{both_true}
 use Rattle.gi_mir.specs.Data.{InstrData, BlockData, FunctionData, ModuleData}
 use Rattle.gi_mir.specs.declared.operand.Operand.{Operand}
 use Rattle.gi_mir.specs.declared.operand.Operand.TheVariants as operand
 use Rattle.gi_mir.specs.Numbering.{order_of, number_in, numbered, numbered_module}
-use Rattle.gi_mir.specs.Renaming.{renamed_operand, renamed_pair, renamed_block}
-use Rattle.gi_spelling.specs.Printable.{is_named_operand, is_named_instr, is_named_block, has_no_liveins, later_blocks, IsPrintable, AllPrintable, IsPrintableModule}
+use Rattle.gi_mir.specs.Renaming.{renamed_operand, renamed_pair}
+use Rattle.gi_spelling.specs.Documents.{is_name}
+use Rattle.gi_spelling.specs.Printable.{Counts, counts_of, IsPrintableInstr, IsPrintableBlock, is_writable_object, is_live_first, IsPrintableFunction, are_ir_lines, IsPrintableModule}
 use Rattle.gi_spelling.specs.Printed.{name_at, printed}
-use Rattle.gi_spelling.specs.Plain.{is_name, Spells}
+use Rattle.gi_spelling.specs.Spelling.{Spells}
 use Rattle.gi_spelling.specs.Stated.{StatedInstr, IsStated, IsStatedText}
+use Rattle.gi_spelling.specs.Words.{greatest_block}
 use Rattle.gi_mir.proofs.NumberingLaws.{number_in_apart}
-use Rattle.gi_spelling.proofs.Texts.{stated_printable, printed_spells, stated_spells}
+use Rattle.gi_spelling.proofs.NumberedPrintable.{numbered_printable}
+use Rattle.gi_spelling.proofs.PrintedTexts.{printed_spells}
+use Rattle.gi_spelling.proofs.Texts.{stated_name}
+use Rattle.gi_spelling.proofs.StatedTexts.{liveins_below, stated_text_spelled}
 use Rattle.gi_meaning.proofs.Renaming.{runs_renamed}
 use Rattle.gi_refine.specs.Refinement.{IsRefinement}
 use Rattle.gi_refine.proofs.Refining.{refines_through}
@@ -22,9 +29,10 @@ use Rattle.gisel.specs.Selectable.{IsSelectable, AllSelectable}
 use Rattle.gisel.specs.Promise.{Refines, Compiles}
 use Rattle.gisel.proofs.ClassedRuns.{classed_pairs, classed_refines}
 use Rattle.gisel.proofs.NormalForms.{one_normal_form}
-use Rattle.gisel.proofs.SelectShapes.{shaped}
+use Rattle.gisel.proofs.SelectShapes.{shaped, classed_all, is_nameless_operand, is_nameless, in_order}
 use Rattle.gisel.proofs.SelectSteps.{Came}
 use Rattle.gisel.proofs.SelectLoops.{NormalOf, normal_of}
+use Rattle.gisel.proofs.SelectedPrintable.{among_short, none_defined, selected_fine}
 
 -- ══ What is selected ══
 
@@ -84,37 +92,56 @@ selected_block f h g made =
 
 -- ══ What is printed can be spelled ══
 
-named_operand : (number : ℕ → ℕ) (names : List (List ℕ)) (o : Operand) → is_named_operand names (renamed_operand number (classed_operand o)) ≡ is_named_operand names o
-named_operand number names (operand.Def r k) = refl
-named_operand number names (operand.Use r) = refl
-named_operand number names o = refl
+nameless_operand : (number : ℕ → ℕ) (o : Operand) → is_nameless_operand (renamed_operand number (classed_operand o)) ≡ is_nameless_operand o
+nameless_operand number (operand.Def r k) = refl
+nameless_operand number (operand.Use r) = refl
+nameless_operand number o = refl
 
-named_operands : (number : ℕ → ℕ) (names : List (List ℕ)) (os : List Operand)
-    → list_all (is_named_operand names) (map (renamed_operand number) (map classed_operand os)) ≡ list_all (is_named_operand names) os
-named_operands number names [] = refl
-named_operands number names (o ∷ os) = ap₂ (λ a b. a && b) (named_operand number names o) (named_operands number names os)
+nameless_operands : (number : ℕ → ℕ) (os : List Operand) → list_all is_nameless_operand (map (renamed_operand number) (map classed_operand os)) ≡ list_all is_nameless_operand os
+nameless_operands number [] = refl
+nameless_operands number (o ∷ os) = ap₂ (λ a b. a && b) (nameless_operand number o) (nameless_operands number os)
 
-pub named_instrs : (number : ℕ → ℕ) (names : List (List ℕ)) (is js : List (ℕ × InstrData)) → AllZip IsSameInstr (classed_pairs is) js
-    → list_all (is_named_instr names) (map (renamed_pair number) js) ≡ list_all (is_named_instr names) is
-named_instrs number names [] [] h = refl
-named_instrs number names [] (j ∷ js) h = absurd h
-named_instrs number names (i ∷ is) [] h = absurd h
-named_instrs number names (i ∷ is) (j ∷ js) h =
-    ap₂ (λ a b. a && b) (ap (λ (d : InstrData). list_all (is_named_operand names) (map (renamed_operand number) d.operands)) h.0 ∙ named_operands number names i.1.operands)
-    (named_instrs number names is js h.1)
+pub nameless_instrs : (number : ℕ → ℕ) (is js : List (ℕ × InstrData)) → AllZip IsSameInstr (classed_pairs is) js → list_all is_nameless (map (renamed_pair number) js) ≡ list_all is_nameless is
+nameless_instrs number [] [] h = refl
+nameless_instrs number [] (j ∷ js) h = absurd h
+nameless_instrs number (i ∷ is) [] h = absurd h
+nameless_instrs number (i ∷ is) (j ∷ js) h =
+    ap₂ (λ a b. a && b) (ap (λ (d : InstrData). list_all is_nameless_operand (map (renamed_operand number) d.operands)) h.0 ∙ nameless_operands number i.1.operands)
+    (nameless_instrs number is js h.1)
 
-numbered_printable : (names : List (List ℕ)) (f g : FunctionData) → IsReadFunction names f → IsSelected f g → IsPrintable names (numbered g)
-numbered_printable names f g h made =
+-- the same but for ids
+fine_same : (names : List (List ℕ)) (counts : Counts) (is js : List (ℕ × InstrData)) → AllZip IsSameInstr (classed_pairs is) js
+    → AllByRecursion (λ i. IsPrintableInstr names counts (0, i)) (classed_all is) → AllByRecursion (IsPrintableInstr names counts) js
+fine_same names counts [] [] same fine = tt
+fine_same names counts [] (j ∷ js) same fine = absurd same
+fine_same names counts (i ∷ is) [] same fine = absurd same
+fine_same names counts (i ∷ is) (j ∷ js) same fine =
+    let here : IsPrintableInstr names counts (0, j.1) = subst (λ (k : InstrData). IsPrintableInstr names counts (0, k)) (sym same.0) fine.0 in
+    (record { formed = here.formed; operands = here.operands; memory = here.memory }, fine_same names counts is js same.1 fine.1)
+
+one_writable : (names : List (List ℕ)) (g : FunctionData) (block : BlockData) → g.blocks ≡ block ∷ [] → g.stack ≡ [] → is_name (name_at names g.name) ≡ true
+    → list_all (λ n. nat_lt n 32) block.liveins ≡ true → block.successors ≡ [] → AllByRecursion (IsPrintableInstr names (counts_of g)) block.instrs → IsPrintableFunction names g
+one_writable names g block blocks stack named live successors instrs = record {
+  named = named;
+  few_objects = subst (λ objects. nat_le (length objects) (2 ^ 128) ≡ true) (sym stack) refl;
+  objects = subst (λ objects. list_all is_writable_object objects ≡ true) (sym stack) refl;
+  few_blocks = subst (λ bs. nat_le (length bs) (suc greatest_block) ≡ true) (sym blocks) refl;
+  live_first = subst (λ bs. is_live_first bs ≡ true) (sym blocks) (both_true live refl);
+  blocks = subst (AllByRecursion (IsPrintableBlock names (counts_of g))) (sym blocks)
+      (record { successors = subst (λ places. list_all (λ place. nat_lt place (length g.blocks)) places ≡ true) (sym successors) refl; instrs = instrs }, tt);
+}
+
+selected_printable : (names : List (List ℕ)) (f g : FunctionData) → IsReadFunction names f → IsSelected f g → IsPrintableFunction names g
+selected_printable names f g h made =
     let one : SelectedBlock f (read_selectable names f h) g = selected_block f (read_selectable names f h) g made in
-    let number : ℕ → ℕ = number_in (order_of g) in
-    let printable : IsPrintable names f = stated_printable names f h.instrs h.block h.stated in
-    record {
-      is_named = ap (λ n. is_name (name_at names n)) one.name ∙ printable.is_named;
-      no_objects = one.stack;
-      named_blocks = ap (λ bs. list_all (is_named_block names) (map (renamed_block number) bs)) one.blocks
-          ∙ ap (λ b. b && true) (named_instrs number names one.came.back one.block.instrs one.instrs ∙ one.came.named names);
-      live_first = ap (λ bs. list_all has_no_liveins (later_blocks (map (renamed_block number) bs))) one.blocks;
-    }
+    let read = h.block.instrs in
+    let fine = selected_fine names (counts_of g) (short_among read) (among_short read) h.instrs read [] h.block.liveins h.stated.instructed (in_order [] h.block.liveins h.instrs h.stated.ordered) none_defined in
+    let classed = subst (AllByRecursion (λ i. IsPrintableInstr names (counts_of g) (0, i))) (sym one.came.same) fine in
+    one_writable names g one.block one.blocks one.stack
+    (ap (λ n. is_name (name_at names n)) one.name ∙ stated_name (name_at names f.name) h.stated.named)
+    (subst (λ numbers. list_all (λ n. nat_lt n 32) numbers ≡ true) (sym one.liveins) (liveins_below h.block.liveins h.stated.live))
+    (one.successors ∙ h.stated.no_successors)
+    (fine_same names (counts_of g) one.came.back one.block.instrs one.instrs classed)
 
 -- ══ The promise ══
 
@@ -156,16 +183,16 @@ compiled text written m s h made wrote =
     let read : IsReadFunction m.names f = read_function text m h in
     let one = only_function f s.functions (subst (λ fs. AllZip IsSelected fs s.functions) h.functions made.functions) in
     let g : FunctionData = one.0 in
-    let printable : IsPrintableModule (numbered_module s) = record {
-      no_ir = made.ir ∙ h.no_ir;
-      functions = subst (λ names. AllPrintable names (map numbered s.functions)) (sym made.names)
-          (subst (λ gs. AllPrintable m.names (map numbered gs)) (sym one.1) (numbered_printable m.names f g read one.2, tt));
+    let Printable : List FunctionData → Type 0 = AllByRecursion (IsPrintableFunction s.names) in
+    let printable : IsPrintableModule s = record {
+      ir = subst (λ ir. are_ir_lines ir ≡ true) (sym (made.ir ∙ h.no_ir)) refl;
+      functions = subst Printable (sym one.1) (subst (λ names. IsPrintableFunction names g) (sym made.names) (selected_printable m.names f g read one.2), tt);
     } in
     record {
       old = m;
       new = numbered_module s;
-      spells_old = stated_spells text m h;
-      spells_new = subst (λ bytes. Spells bytes (numbered_module s)) (sym wrote) (printed_spells (numbered_module s) printable);
+      spells_old = stated_text_spelled text m h;
+      spells_new = subst (λ bytes. Spells bytes (numbered_module s)) (sym wrote) (printed_spells (numbered_module s) (numbered_printable s printable));
       refines = subst (λ names. AllZip (Refines 32 m.names names) m.functions (map numbered s.functions)) (sym made.names)
           (subst (λ fs. AllZip (Refines 32 m.names m.names) fs (map numbered s.functions)) (sym h.functions)
           (subst (λ gs. AllZip (Refines 32 m.names m.names) (f ∷ []) (map numbered gs)) (sym one.1) (numbered_refines m.names f g read one.2, tt)));

@@ -1,7 +1,7 @@
 -- The line that is refused before the instructions: what was read can be completed, and no other line can follow.
 use Rattle.std.proofs.Common.{◌≡◌, ℕ, ◌+◌, true, false, List, [], ◌∷◌, ◌++◌, Result, Err, Ok, drop, get_or, length, refl, sym, ap, ◌∙◌, subst, arith}
 use Rattle.std.specs.Prelude.{codes, IfErr, IsErrAnd}
-use Rattle.gi_spelling.specs.Plain.{lines_of}
+use Rattle.gi_spelling.specs.Lines.{lines_of}
 use Rattle.gi_spelling.specs.Stated.{Return, Gaps, key_line, stated_lines, is_stated_name}
 use Rattle.gisel.specs.declared.refusal.Refusal.{Refusal}
 use Rattle.gisel.specs.declared.refusal.Refusal.TheVariants as refusal

@@ -6,7 +6,7 @@ use Rattle.std.proofs.lemmas.Bool.Decides.{nat_tests}
 use Rattle.std.proofs.lemmas.Str.Ascii.{IsAscii-nil, IsAscii-cons}
 use Rattle.std.specs.Prelude.{◌==◌, ◌&&◌, codes, decimal, IsAscii}
 use Rattle.std.specs.List.{list_all}
-use Rattle.gi_spelling.specs.Plain.{lines_of}
+use Rattle.gi_spelling.specs.Lines.{lines_of}
 use Rattle.gi_spelling.specs.Stated.{key_line, is_argument, are_arguments, physical_list, is_name_byte, is_stated_name}
 use Rattle.gisel.specs.Digits.{begins_with_digit, IsNumberAfter}
 use Rattle.gisel.specs.Header.{IsKeyed, IsHead, more_liveins, liveins_line}

@@ -5,7 +5,7 @@ use Rattle.std.proofs.lemmas.Iterator.Adapters.{position_from-zero}
 use Rattle.std.proofs.Math.Seq.{drop-length}
 use Rattle.std.specs.Prelude.{◌==◌, replicate}
 use Rattle.std.specs.List.{position_from, position}
-use Rattle.gi_spelling.specs.Plain.{lines_of, onto_first}
+use Rattle.gi_spelling.specs.Lines.{lines_of, onto_first}
 use Rattle.gisel.specs.Lines.{IsBehindSpaces}
 
 abbrev pub is_feed : ℕ → Bool

@@ -6,7 +6,7 @@ use Rattle.std.specs.List.{list_all}
 use Rattle.gi_mir.specs.Data.{BlockData, FunctionData, ModuleData}
 use Rattle.gi_spelling.specs.Printed.{name_at}
 use Rattle.gi_spelling.specs.Stated.{StatedInstr, CopyIn, MakeConstant, AddUp, CopyOut, Return, is_among, is_return, is_stated_after, defined_after, live_after, are_stated, are_arguments, is_argument, is_new, is_stated_name, Gaps, key_line, physical_list, instrs_lines, stated_lines}
-use Rattle.gi_spelling.specs.Plain.{lines_of}
+use Rattle.gi_spelling.specs.Lines.{lines_of}
 use Rattle.gisel.specs.declared.statement.Statement.{Statement}
 use Rattle.gisel.specs.Body.{IsBody}
 use Rattle.gisel.specs.Reading.{IsRead}

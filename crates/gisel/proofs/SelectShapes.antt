@@ -2,7 +2,7 @@
 -- stands in order.
 use Rattle.std.proofs.Common.{◌≡◌, ℕ, suc, ◌+◌, Bool, true, false, not, ◌||◌, ◌&&◌, List, [], ◌∷◌, ◌++◌, length, take, drop, map, fold, Some, None, option_map, slice_get, refl, ap, ap₂, ◌∙◌, if◌then◌else◌}
 use Rattle.std.specs.Prelude.{⊤}
-use Rattle.std.specs.List.{list_any}
+use Rattle.std.specs.List.{list_all, list_any}
 use Rattle.std.specs.Option.{option_or}
 use Rattle.std.proofs.lemmas.Bool.{and_parts}
 use Rattle.std.proofs.lemmas.List.{append-nil}
@@ -129,6 +129,16 @@ none_made id [] back none rest = rest
 none_made id (i ∷ is) back none rest =
     let parts = or_false (is_generic_op i.op) (list_any (λ j. is_generic_op j.op) is) none in
     ap₂ (λ a b. a || b) parts.0 (none_made (suc id) is back parts.1 rest)
+
+-- ══ Symbols ══
+
+abbrev pub is_nameless_operand : Operand → Bool
+is_nameless_operand (operand.Global flag name) = false
+is_nameless_operand o = true
+
+-- an instruction without a symbol that the module names
+abbrev pub is_nameless : ℕ × InstrData → Bool
+is_nameless i = list_all is_nameless_operand i.1.operands
 
 -- ══ What stands before ══
 

@@ -9,7 +9,6 @@ use Rattle.gi_mir.specs.Edit.{defines, is_def_of}
 use Rattle.gi_mir.specs.declared.operand.Operand.{Operand}
 use Rattle.gi_mir.specs.declared.operand.Operand.TheVariants as operand
 use Rattle.gi_spelling.specs.Stated.{StatedInstr, CopyIn, MakeConstant, AddUp, CopyOut, Return, stated_instr, IsStatedInstr, is_among, is_stated_after, defined_after, live_after}
-use Rattle.gi_spelling.specs.Printable.{is_named_instr}
 use Rattle.gi_meaning.specs.Runs.{phis_of}
 use Rattle.gi_refine.specs.Refinement.{IsRefinement}
 use Rattle.gi_refine.specs.Replacing.{touches, any_touches}
@@ -20,7 +19,7 @@ use Rattle.gisel.specs.Rows.{is_generic, is_use_of, reads, is_used, short_in, se
 use Rattle.gisel.specs.Selecting.{selected_where, selected_list, used_in, before, short_among}
 use Rattle.gisel.specs.Selection.{classed_instr}
 use Rattle.gisel.proofs.SelectFits.{IsShort, short_value, constant_instr, constant_list, constant_fits, constant_selected, sum_instr, sum_list, sum_fits, sum_selected, sum_classed, sum_not_generic}
-use Rattle.gisel.proofs.SelectShapes.{or_false, shaped, site_at, next_reg_after, next_shaped, used_shaped, short_shaped, classed_all, used_classed, classed_made, none_made, InOrder}
+use Rattle.gisel.proofs.SelectShapes.{or_false, shaped, site_at, next_reg_after, next_shaped, used_shaped, short_shaped, classed_all, used_classed, classed_made, none_made, is_nameless, InOrder}
 use Rattle.gisel.proofs.SelectFronts.{All32, all_32, IsFront, short_before, copy_absent, sum_parts, constant_parts, reads_defined, stated_32, front_next}
 use Rattle.gisel.proofs.SelectRuns.{Fits, fits_refine, nothing_hidden, dead_constant_follows, dead_sum_follows, constant_follows, sum_follows}
 
@@ -60,7 +59,7 @@ pub record Came (constant : ℕ → Option ℤ) (f : FunctionData) (b : BlockDat
   pub no_phis : phis_of back ≡ []
   pub of_32 : All32 back
   pub fresh : (r : ℕ) → is_among defined r ≡ true → list_any (defines r) back ≡ false
-  pub named : (names : List (List ℕ)) → list_all (is_named_instr names) back ≡ true
+  pub nameless : list_all is_nameless back ≡ true
 
 -- the last instruction of the front counted to what follows
 goes_between : (f : FunctionData) (b : BlockData) (front : List (ℕ × InstrData)) (i : ℕ × InstrData) (is js : List (ℕ × InstrData)) (reg id reg' id' : ℕ)
@@ -72,12 +71,12 @@ goes_between f b front i is js reg id reg' id' goes =
 
 -- ══ An instruction that stays ══
 
-stated_named : (names : List (List ℕ)) (s : StatedInstr) (id line : ℕ) → is_named_instr names (id, stated_instr s line) ≡ true
-stated_named names (CopyIn d p) id line = refl
-stated_named names (MakeConstant d v) id line = refl
-stated_named names (AddUp d a b) id line = refl
-stated_named names (CopyOut p q) id line = refl
-stated_named names Return id line = refl
+stated_nameless : (s : StatedInstr) (id line : ℕ) → is_nameless (id, stated_instr s line) ≡ true
+stated_nameless (CopyIn d p) id line = refl
+stated_nameless (MakeConstant d v) id line = refl
+stated_nameless (AddUp d a b) id line = refl
+stated_nameless (CopyOut p q) id line = refl
+stated_nameless Return id line = refl
 
 or_true : (a b : Bool) → b ≡ true → (a || b) ≡ true
 or_true true b h = refl
@@ -111,7 +110,7 @@ kept_step constant f b defined front s id line is reg next stays came =
       no_phis = no_phi_first s id line came.back;
       of_32 = all_32 (i ∷ []) came.back (stated_32 s id line) came.of_32;
       fresh = λ r h. ap₂ (λ x y. x || y) (stays.new r h) (came.fresh r (among_next defined s r h));
-      named = λ names. ap₂ (λ x y. x && y) (stated_named names s id line) (came.named names);
+      nameless = ap₂ (λ x y. x && y) (stated_nameless s id line) came.nameless;
     }
   where
     no_phi_first : (t : StatedInstr) (n l : ℕ) (rest : List (ℕ × InstrData)) → phis_of ((n, stated_instr t l) ∷ rest) ≡ []
@@ -160,7 +159,7 @@ record Makes (constant : ℕ → Option ℤ) (f : FunctionData) (b : BlockData) 
   no_phis : phis_of (with_ids id made ++ back) ≡ []
   of_32 : All32 (with_ids id made)
   new : (r : ℕ) → is_among defined r ≡ true → list_any (defines r) (with_ids id made) ≡ false
-  named : (names : List (List ℕ)) → list_all (is_named_instr names) (with_ids id made) ≡ true
+  nameless : list_all is_nameless (with_ids id made) ≡ true
   owes : (names : List (List ℕ)) → Fits names front (i ∷ []) (with_ids id made) back hidden
 
 made_step : (constant : ℕ → Option ℤ) (f : FunctionData) (b : BlockData) (defined : List ℕ) (front : List (ℕ × InstrData)) (s : StatedInstr) (id line : ℕ) (is : List (ℕ × InstrData)) (reg next : ℕ)
@@ -188,7 +187,7 @@ made_step constant f b defined front s id line is reg next front_is came makes =
       no_phis = makes.no_phis;
       of_32 = all_32 new came.back makes.of_32 came.of_32;
       fresh = λ r h. list_any-append (defines r) new came.back ∙ ap₂ (λ x y. x || y) (makes.new r h) (came.fresh r (among_next defined s r h));
-      named = λ names. list_all-append (is_named_instr names) new came.back ∙ ap₂ (λ x y. x && y) (makes.named names) (came.named names);
+      nameless = list_all-append is_nameless new came.back ∙ ap₂ (λ x y. x && y) makes.nameless came.nameless;
     }
 
 -- ══ What is used behind ══
@@ -233,7 +232,7 @@ constant_makes constant f b defined live front d v id line is reg next front_is 
       no_phis = refl;
       of_32 = ((refl, tt), tt);
       new = λ r h. ap (λ x. (x || false) || false) (new_apart defined d r parts.0 h);
-      named = λ names. refl;
+      nameless = refl;
       owes = λ names. record {
         old_32 = all_32 front (i ∷ came.back) front_is.of_32 (all_32 (i ∷ []) came.back ((refl, tt), tt) came.of_32);
         new_32 = all_32 front (with_ids came.next_id (constant_list d short.number line) ++ came.back) front_is.of_32
@@ -259,7 +258,7 @@ constant_makes constant f b defined live front d v id line is reg next front_is 
       no_phis = came.no_phis;
       of_32 = tt;
       new = λ r h. refl;
-      named = λ names. refl;
+      nameless = refl;
       owes = λ names. record {
         old_32 = all_32 front (i ∷ came.back) front_is.of_32 (all_32 (i ∷ []) came.back ((refl, tt), tt) came.of_32);
         new_32 = all_32 front came.back front_is.of_32 came.of_32;
@@ -283,10 +282,10 @@ sum_no_phis id d a b line first (Some number) back = refl
 sum_no_phis id d a b line (Some number) None back = refl
 sum_no_phis id d a b line None None back = refl
 
-sum_named : (names : List (List ℕ)) (id d a b line : ℕ) (first second : Option ℤ) → list_all (is_named_instr names) (with_ids id (sum_list d a b first second line)) ≡ true
-sum_named names id d a b line first (Some number) = refl
-sum_named names id d a b line (Some number) None = refl
-sum_named names id d a b line None None = refl
+sum_nameless : (id d a b line : ℕ) (first second : Option ℤ) → list_all is_nameless (with_ids id (sum_list d a b first second line)) ≡ true
+sum_nameless id d a b line first (Some number) = refl
+sum_nameless id d a b line (Some number) None = refl
+sum_nameless id d a b line None None = refl
 
 sum_defines : (id d a b line r : ℕ) (first second : Option ℤ) → (d == r) ≡ false → list_any (defines r) (with_ids id (sum_list d a b first second line)) ≡ false
 sum_defines id d a b line r first (Some number) h = ap (λ x. (x || false) || false) h
@@ -318,7 +317,7 @@ sum_makes constant f b defined live front d a c id line is reg next front_is sta
       no_phis = sum_no_phis came.next_id d a c line first second came.back;
       of_32 = sum_32 came.next_id d a c line first second;
       new = λ r h. sum_defines came.next_id d a c line r first second (new_apart defined d r parts.0 h);
-      named = λ names. sum_named names came.next_id d a c line first second;
+      nameless = sum_nameless came.next_id d a c line first second;
       owes = λ names. record {
         old_32 = all_32 front (i ∷ came.back) front_is.of_32 (all_32 (i ∷ []) came.back ((refl, tt), tt) came.of_32);
         new_32 = all_32 front (with_ids came.next_id made ++ came.back) front_is.of_32 (all_32 (with_ids came.next_id made) came.back (sum_32 came.next_id d a c line first second) came.of_32);
@@ -344,7 +343,7 @@ sum_makes constant f b defined live front d a c id line is reg next front_is sta
       no_phis = came.no_phis;
       of_32 = tt;
       new = λ r h. refl;
-      named = λ names. refl;
+      nameless = refl;
       owes = λ names. record {
         old_32 = all_32 front (i ∷ came.back) front_is.of_32 (all_32 (i ∷ []) came.back ((refl, tt), tt) came.of_32);
         new_32 = all_32 front came.back front_is.of_32 came.of_32;
@@ -388,7 +387,7 @@ came_from whole f b [] [] front defined live reg next same order front_is all = 
   no_phis = refl;
   of_32 = tt;
   fresh = λ r h. refl;
-  named = λ names. refl;
+  nameless = refl;
 }
 came_from whole f b [] (i ∷ is) front defined live reg next same order front_is all = absurd same
 came_from whole f b (s ∷ ss) [] front defined live reg next same order front_is all = absurd same

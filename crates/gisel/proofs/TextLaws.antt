@@ -14,12 +14,11 @@ use Rattle.gi_mir.specs.declared.row.Form.{Form}
 use Rattle.gi_mir.specs.Numbering.{registers_in_instr, with_register, order_of, number_in, numbered}
 use Rattle.gi_mir.specs.Registers.{first_there, kind_in_operands, kind_in_instrs, kind_of}
 use Rattle.gi_mir.specs.Renaming.{renamed_pair}
-use Rattle.gi_spelling.specs.Printable.{is_named_operand, is_named_instr}
 use Rattle.gi_spelling.specs.Printed.{name_at, operand_pieces, is_definition, sources_of, is_typed_by, forms_after, source_pieces, sources_pieces, defined_pieces, definition_pieces, definitions_of, flags_pieces, word, memory_pieces, source_forms, first_row, instr_line, instr_lines, with_place, block_head_pieces, set_off, successors_lines, liveins_lines, with_targets, with_branches, falls_through, implied_successors, block_lines, printed_lines, functions_lines, ir_lines, text_of}
 use Rattle.gi_mir.specs.Row.{word_of, rows_of, is_branch_op}
 use Rattle.gi_llt.specs.Tokens.{Spaces, piece_bytes}
 use Rattle.gi_spelling.specs.Stated.{StatedInstr, CopyIn, MakeConstant, AddUp, CopyOut, Return, stated_instr, IsStatedInstr, IsStated}
-use Rattle.gi_spelling.specs.Plain.{lines_of}
+use Rattle.gi_spelling.specs.Lines.{lines_of}
 use Rattle.gisel.specs.Rows.{is_use_of, short_where}
 use Rattle.gisel.specs.Selecting.{root_of, result_of, selected_sum, selected_root, selected_if_used, selected_where, selected_list, used_in, before, short_among}
 use Rattle.gisel.specs.Selectable.{IsSelectable}
@@ -28,8 +27,8 @@ use Rattle.gisel.specs.Text.{IsText}
 use Rattle.gisel.specs.declared.select.Root.{Root}
 use Rattle.gisel.specs.declared.select.Root.TheVariants as root
 use Rattle.gisel.proofs.ClassedRuns.{classed_pairs}
-use Rattle.gisel.proofs.CompileLaws.{read_selectable, SelectedBlock, selected_block, named_instrs, only_function}
-use Rattle.gisel.proofs.SelectShapes.{classed_all}
+use Rattle.gisel.proofs.CompileLaws.{read_selectable, SelectedBlock, selected_block, nameless_instrs, only_function}
+use Rattle.gisel.proofs.SelectShapes.{classed_all, is_nameless_operand, is_nameless}
 use Rattle.gisel.proofs.TextLemmas.{one_text, stated_lines_of}
 
 -- ══ Without ids and lines ══
@@ -132,36 +131,36 @@ selected_pairs ss is back js stated same copied =
 
 -- ══ What is printed doesn't look at them ══
 
-operand_alike : (kinds : ℕ → Kind) (names names' : List (List ℕ)) (typed : Bool) (o : Operand) → is_named_operand [] o ≡ true → operand_pieces kinds names typed o ≡ operand_pieces kinds names' typed o
+operand_alike : (kinds : ℕ → Kind) (names names' : List (List ℕ)) (typed : Bool) (o : Operand) → is_nameless_operand o ≡ true → operand_pieces kinds names typed o ≡ operand_pieces kinds names' typed o
 operand_alike kinds names names' typed (operand.Global flag n) h = cc
 operand_alike kinds names names' typed o h = refl
 
-sources_alike : (kinds : ℕ → Kind) (names names' : List (List ℕ)) (forms : List Form) (os : List Operand) → list_all (is_named_operand []) os ≡ true
+sources_alike : (kinds : ℕ → Kind) (names names' : List (List ℕ)) (forms : List Form) (os : List Operand) → list_all is_nameless_operand os ≡ true
     → source_pieces kinds names forms os ≡ source_pieces kinds names' forms os
 sources_alike kinds names names' forms [] h = refl
 sources_alike kinds names names' forms (o ∷ os) h =
-    let parts = and_parts (is_named_operand [] o) (list_all (is_named_operand []) os) h in
+    let parts = and_parts (is_nameless_operand o) (list_all is_nameless_operand os) h in
     ap₂ (λ p ps. p ∷ ps) (operand_alike kinds names names' (is_typed_by forms) o parts.0) (sources_alike kinds names names' (forms_after forms) os parts.1)
 
-named_by : (o : Operand) (os : List Operand) (t : Bool) → list_all (is_named_operand []) (o ∷ os) ≡ true → list_all (is_named_operand []) (sources_of os) ≡ true
-    → list_all (is_named_operand []) (cond t (sources_of os) (o ∷ os)) ≡ true
-named_by o os true h rest = rest
-named_by o os false h rest = h
+nameless_by : (o : Operand) (os : List Operand) (t : Bool) → list_all is_nameless_operand (o ∷ os) ≡ true → list_all is_nameless_operand (sources_of os) ≡ true
+    → list_all is_nameless_operand (cond t (sources_of os) (o ∷ os)) ≡ true
+nameless_by o os true h rest = rest
+nameless_by o os false h rest = h
 
-named_sources : (os : List Operand) → list_all (is_named_operand []) os ≡ true → list_all (is_named_operand []) (sources_of os) ≡ true
-named_sources [] h = refl
-named_sources (o ∷ os) h =
-    named_by o os (is_definition o) h (named_sources os (and_parts (is_named_operand [] o) (list_all (is_named_operand []) os) h).1)
+nameless_sources : (os : List Operand) → list_all is_nameless_operand os ≡ true → list_all is_nameless_operand (sources_of os) ≡ true
+nameless_sources [] h = refl
+nameless_sources (o ∷ os) h =
+    nameless_by o os (is_definition o) h (nameless_sources os (and_parts (is_nameless_operand o) (list_all is_nameless_operand os) h).1)
 
-line_alike : (kinds : ℕ → Kind) (names names' : List (List ℕ)) (i : ℕ × InstrData) → is_named_instr [] i ≡ true → instr_line kinds names i.1 ≡ instr_line kinds names' (bare i.1)
+line_alike : (kinds : ℕ → Kind) (names names' : List (List ℕ)) (i : ℕ × InstrData) → is_nameless i ≡ true → instr_line kinds names i.1 ≡ instr_line kinds names' (bare i.1)
 line_alike kinds names names' i h =
     ap (λ sources. piece_bytes (Spaces 4 ∷ (defined_pieces (definition_pieces (definitions_of i.1.operands)) ++ (flags_pieces i.1.flags ++ (word (word_of i.1.op) ∷ (sources_pieces sources ++ memory_pieces i.1.mem))))))
-    (sources_alike kinds names names' (source_forms (first_row (rows_of i.1.op))) (sources_of i.1.operands) (named_sources i.1.operands h))
+    (sources_alike kinds names names' (source_forms (first_row (rows_of i.1.op))) (sources_of i.1.operands) (nameless_sources i.1.operands h))
 
-lines_alike : (kinds : ℕ → Kind) (names names' : List (List ℕ)) (is : List (ℕ × InstrData)) → list_all (is_named_instr []) is ≡ true → instr_lines kinds names is ≡ instr_lines kinds names' (map bare_pair is)
+lines_alike : (kinds : ℕ → Kind) (names names' : List (List ℕ)) (is : List (ℕ × InstrData)) → list_all is_nameless is ≡ true → instr_lines kinds names is ≡ instr_lines kinds names' (map bare_pair is)
 lines_alike kinds names names' [] h = refl
 lines_alike kinds names names' (i ∷ is) h =
-    let parts = and_parts (is_named_instr [] i) (list_all (is_named_instr []) is) h in
+    let parts = and_parts (is_nameless i) (list_all is_nameless is) h in
     ap₂ (λ l ls. l ∷ ls) (line_alike kinds names names' i parts.0) (lines_alike kinds names names' is parts.1)
 
 branches_bare : (places : List ℕ) (is : List (ℕ × InstrData)) → with_branches places (map bare_pair is) ≡ with_branches places is
@@ -176,7 +175,7 @@ falls_bare (i ∷ j ∷ is) = falls_bare (j ∷ is)
 implied_bare : (place count : ℕ) (is : List (ℕ × InstrData)) → implied_successors place count is ≡ implied_successors place count (map bare_pair is)
 implied_bare place count is = ap₂ (λ (falls : Bool) (branches : List ℕ). if falls && not (suc place == count) then with_place branches (suc place) else branches) (sym (falls_bare is)) (sym (branches_bare [] is))
 
-block_alike : (kinds : ℕ → Kind) (names names' : List (List ℕ)) (place count : ℕ) (b : BlockData) → list_all (is_named_instr []) b.instrs ≡ true
+block_alike : (kinds : ℕ → Kind) (names names' : List (List ℕ)) (place count : ℕ) (b : BlockData) → list_all is_nameless b.instrs ≡ true
     → block_lines kinds names place count b ≡ block_lines kinds names' place count (record b { instrs = map bare_pair b.instrs })
 block_alike kinds names names' place count b h =
     ap₂ (λ (implied : List ℕ) (lines : List (List ℕ)). piece_bytes (Spaces 2 ∷ block_head_pieces place) ∷ (set_off (successors_lines b.successors implied ++ liveins_lines b.liveins) ++ lines))
@@ -222,7 +221,7 @@ kind_alike : (name name' : ℕ) (liveins : List ℕ) (is : List (ℕ × InstrDat
     → kind_of (one_block name liveins is reg id) ≡ kind_of (one_block name' liveins (map bare_pair is) reg' id')
 kind_alike name name' liveins is reg id reg' id' = fun_ext (λ r. ap (λ k. unwrap_or (first_there k None) Class) (kinds_bare is r))
 
-printed_alike : (names : List (List ℕ)) (name : ℕ) (liveins : List ℕ) (is : List (ℕ × InstrData)) (reg id : ℕ) → list_all (is_named_instr []) is ≡ true
+printed_alike : (names : List (List ℕ)) (name : ℕ) (liveins : List ℕ) (is : List (ℕ × InstrData)) (reg id : ℕ) → list_all is_nameless is ≡ true
     → printed_lines names (one_block name liveins is reg id) ≡ printed_lines (name_at names name ∷ []) (one_block 0 liveins (map bare_pair is) 0 0)
 printed_alike names name liveins is reg id h =
     let f : FunctionData = one_block name liveins is reg id in
@@ -245,7 +244,7 @@ renamed_bare number [] = refl
 renamed_bare number (i ∷ is) = ap (λ ds. bare_pair (renamed_pair number i) ∷ ds) (renamed_bare number is)
 
 -- what is printed of a numbered function is what is printed of it without ids, lines and the names of others
-pub numbered_alike : (names : List (List ℕ)) (name : ℕ) (liveins : List ℕ) (is : List (ℕ × InstrData)) (reg id : ℕ) → ((number : ℕ → ℕ) → list_all (is_named_instr []) (map (renamed_pair number) is) ≡ true)
+pub numbered_alike : (names : List (List ℕ)) (name : ℕ) (liveins : List ℕ) (is : List (ℕ × InstrData)) (reg id : ℕ) → ((number : ℕ → ℕ) → list_all is_nameless (map (renamed_pair number) is) ≡ true)
     → printed_lines names (numbered (one_block name liveins is reg id)) ≡ printed_lines (name_at names name ∷ []) (numbered (one_block 0 liveins (map bare_pair is) 0 0))
 numbered_alike names name liveins is reg id h =
     let f : FunctionData = one_block name liveins is reg id in
@@ -279,7 +278,7 @@ written_lines names f instrs block stated g made =
     let shape : g ≡ one_block g.name block.liveins one.block.instrs g.next_reg g.next_id =
     as_one_block g one.block block.liveins one.blocks (one.successors ∙ stated.no_successors) one.liveins (one.legalized ∙ stated.legal) (one.banked ∙ stated.banked) one.chosen one.stack in
     ap (λ k. printed_lines names (numbered k)) shape
-    ∙ numbered_alike names g.name block.liveins one.block.instrs g.next_reg g.next_id (λ number. named_instrs number [] one.came.back one.block.instrs one.instrs ∙ one.came.named [])
+    ∙ numbered_alike names g.name block.liveins one.block.instrs g.next_reg g.next_id (λ number. nameless_instrs number one.came.back one.block.instrs one.instrs ∙ one.came.nameless)
     ∙ ap₂ (λ n xs. printed_lines (name_at names n ∷ []) (numbered (one_block 0 block.liveins xs 0 0))) one.name pairs
 
 -- the written text by what the read one states

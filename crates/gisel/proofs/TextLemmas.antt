@@ -6,7 +6,7 @@ use Rattle.std.proofs.lemmas.List.{append_assoc, append-nil, take-append-drop}
 use Rattle.std.specs.Prelude.{codes, nat_lt, not, ◌&&◌, ⊤}
 use Rattle.gi_mir.specs.Data.{ModuleData}
 use Rattle.gi_spelling.specs.Printed.{name_at}
-use Rattle.gi_spelling.specs.Plain.{lines_of}
+use Rattle.gi_spelling.specs.Lines.{lines_of}
 use Rattle.gi_spelling.specs.Stated.{StatedInstr, Gaps, physical_list, stated_lines, stated_line, instrs_lines, IsStatedText, is_stated_name, are_arguments, are_stated, is_return, is_stated_after, defined_after, live_after}
 use Rattle.gisel.specs.Body.{IsBodyFrom, AllSmall}
 use Rattle.gisel.specs.Header.{IsHead, liveins_line}

@@ -1,19 +1,74 @@
 -- What the program answers to an input: the text that it writes, or why it refuses the input.
-use Rattle.std.specs.Prelude.{◌≡◌, ◌⊎◌, ℕ, ◌≤◌, ◌<◌, List, ◌++◌, length, codes, decimal, None}
+use Rattle.std.specs.Prelude.{◌≡◌, ◌⊎◌, ℕ, ◌≤◌, ◌<◌, ◌==◌, Bool, true, false, List, ◌++◌, length, codes, Option, Some, None, Result, Ok, Err, if◌then◌else◌}
 use Rattle.gi_io.specs.Writing.{AppendsPrefix}
-use Rattle.gisel.specs.Refused.{IsRefusedAt}
+use Rattle.gi_mir.specs.Data.{ModuleData}
+use Rattle.gi_mir.specs.Numbering.{numbered_module}
+use Rattle.gi_observe.specs.declared.pass.Pass.{Pass}
+use Rattle.gi_observe.specs.declared.pass.Pass.TheVariants.{IrTranslator, RegBankSelect, Select}
+use Rattle.gi_observe.specs.Passes.{word_of}
+use Rattle.gi_spelling.specs.Documents.{wrong_in}
+use Rattle.gi_spelling.specs.Lines.{lines_of}
+use Rattle.gi_spelling.specs.Printed.{printed}
+use Rattle.gi_spelling.specs.Read.{IsReadModule}
+use Rattle.gi_spelling.specs.declared.written.Wrong.{Wrong}
+use Rattle.gisel.specs.Checks.{check_of}
+use Rattle.gisel.specs.declared.machine.Machine.{Machine}
+use Rattle.gisel.specs.declared.machine.Machine.TheVariants.{Riscv32}
+use Rattle.gisel.specs.Messages.{message_of_wrong, not_built}
+use Rattle.gisel.specs.Options.{OptionsData, options_of}
+use Rattle.gisel.specs.Refused.{IsStatedLines}
 use Rattle.gisel.specs.Text.{IsText}
-use Rattle.gisel.specs.Words.{wrong_word}
+use Rattle.gisel.specs.Unrun.{unbuilt}
 
 -- how many bytes of input are read at most
 abbrev pub limit : ℕ
 limit = 8388608
 
+-- the name of the input that the words ask for; standard input has none
+abbrev pub input_in : Result OptionsData (List ℕ) → Option (List ℕ)
+input_in (Ok options) = options.input
+input_in (Err word) = None
+
+abbrev pub input_of : (words : List (List ℕ)) → Option (List ℕ)
+input_of words = input_in (options_of words)
+
+-- the passes that are built: selection on RV32
+abbrev pub selects : (start stop : Pass) → Machine → Bool
+selects RegBankSelect Select Riscv32 = true
+selects start stop machine = false
+
+-- ══ The text that is written ══
+
+-- the input is read as this module, which passes the checks, for this machine
+pub record IsChecked (options : OptionsData) (read : List ℕ) (start : Pass) (machine : Machine) (source : ModuleData) : Type 0 where
+  pub started : options.start ≡ Some start
+  pub reads : IsReadModule read source
+  pub right : check_of options.target start read source ≡ Ok machine
+
+-- the text of what is selected
+pub record IsSelectedText (start stop : Pass) (machine : Machine) (read written : List ℕ) : Type 0 where
+  pub built : selects start stop machine ≡ true
+  pub text : IsText read written
+
+-- the text of the module as it was read, with its registers numbered by first appearance
+pub record IsPrintedText (start stop : Pass) (source : ModuleData) (written : List ℕ) : Type 0 where
+  pub built : unbuilt start stop source.functions ≡ None
+  pub text : written ≡ printed (numbered_module source)
+
+-- the text for these options and this input
+pub record IsAnswer (options : OptionsData) (read written : List ℕ) : Type 0 where
+  pub within : length read ≤ limit
+  pub start : Pass
+  pub machine : Machine
+  pub source : ModuleData
+  pub passes : IsChecked options read start machine source
+  pub text : IsSelectedText start options.stop machine read written ⊎ IsPrintedText start options.stop source written
+
 -- the text for these words and this input
 pub record IsOutput (words : List (List ℕ)) (read written : List ℕ) : Type 0 where
-  pub taken : wrong_word words ≡ None
-  pub within : length read ≤ limit
-  pub text : IsText read written
+  pub options : OptionsData
+  pub taken : options_of words ≡ Ok options
+  pub answer : IsAnswer options read written
 
 -- what is held is what was held and then the whole text, or a prefix of it
 pub record AppendsOutput (words : List (List ℕ)) (read before after : List ℕ) : Type 0 where
@@ -26,19 +81,56 @@ pub record AppendsPartOfOutput (words : List (List ℕ)) (read before after : Li
   pub output : IsOutput words read written
   pub part : AppendsPrefix before after written
 
--- an input of too many bytes is refused, and one of which a line is refused
+-- ══ Why an input is refused ══
+
+-- it has too many bytes
 pub record IsTooLong (read message : List ℕ) : Type 0 where
   pub long : limit < length read
   pub says : message ≡ codes "gisel: input: limit 8388608"
 
-pub record IsNotBuilt (read message : List ℕ) : Type 0 where
-  pub line : ℕ
-  pub within : length read ≤ limit
-  pub refused : IsRefusedAt read line
-  pub says : message ≡ codes "gisel: line " ++ (decimal line ++ codes ": not built")
+-- it is no Machine IR, and would have to be translated
+pub record IsUntranslated (options : OptionsData) (message : List ℕ) : Type 0 where
+  pub untold : options.start ≡ None
+  pub says : message ≡ not_built (word_of IrTranslator)
 
-abbrev pub IsRefusal : (read message : List ℕ) → Type 0
-IsRefusal read message = IsTooLong read message ⊎ IsNotBuilt read message
+-- a line of it spells nothing
+pub record IsWrongLine (read message : List ℕ) : Type 0 where
+  pub fault : Wrong
+  pub found : wrong_in read ≡ Some fault
+  pub says : message ≡ message_of_wrong read fault
 
-abbrev pub RefusesWith : (read : List ℕ) (says : List ℕ → Type 0) → Type 0
-RefusesWith read says = (message : List ℕ) × IsRefusal read message × says message
+pub record IsWrongText (options : OptionsData) (read message : List ℕ) : Type 0 where
+  pub start : Pass
+  pub started : options.start ≡ Some start
+  pub line : IsWrongLine read message
+
+-- its target is unknown, a function hasn't the keys that the start asks for, or a size isn't handled
+pub record IsWrongModule (options : OptionsData) (read message : List ℕ) : Type 0 where
+  pub start : Pass
+  pub started : options.start ≡ Some start
+  pub source : ModuleData
+  pub reads : IsReadModule read source
+  pub says : check_of options.target start read source ≡ Err message
+
+-- a pass that is to be run isn't built, or not for such a text
+pub record IsNotBuilt (options : OptionsData) (read message : List ℕ) : Type 0 where
+  pub start : Pass
+  pub machine : Machine
+  pub source : ModuleData
+  pub passes : IsChecked options read start machine source
+  pub other : selects start options.stop machine ≡ true → IsStatedLines (lines_of read) → ⊥
+  pub says : unbuilt start options.stop source.functions ≡ Some message
+
+abbrev pub IsRefusedText : (options : OptionsData) (read message : List ℕ) → Type 0
+IsRefusedText options read message =
+    IsUntranslated options message ⊎ (IsWrongText options read message ⊎ (IsWrongModule options read message ⊎ IsNotBuilt options read message))
+
+abbrev pub IsRefusal : (options : OptionsData) (read message : List ℕ) → Type 0
+IsRefusal options read message = IsTooLong read message ⊎ ((length read ≤ limit) × IsRefusedText options read message)
+
+pub record RefusesWith (words : List (List ℕ)) (read : List ℕ) (says : List ℕ → Type 0) : Type 0 where
+  pub options : OptionsData
+  pub taken : options_of words ≡ Ok options
+  pub message : List ℕ
+  pub refusal : IsRefusal options read message
+  pub said : says message

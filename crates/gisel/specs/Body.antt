@@ -1,7 +1,7 @@
 -- The instructions' lines up to the end of the text.
 use Rattle.std.specs.Prelude.{◌≡◌, ℕ, Bool, true, List, [], ◌∷◌, ◌++◌, if◌then◌else◌, codes, nat_le}
 use Rattle.std.specs.List.{list_all}
-use Rattle.gi_spelling.specs.Plain.{lines_of}
+use Rattle.gi_spelling.specs.Lines.{lines_of}
 use Rattle.gi_spelling.specs.Stated.{StatedInstr, are_stated, instrs_lines}
 
 -- nothing, or the line `...` alone

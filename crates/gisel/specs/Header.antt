@@ -1,6 +1,6 @@
 -- The lines before the instructions.
 use Rattle.std.specs.Prelude.{◌≡◌, ℕ, List, [], ◌∷◌, ◌++◌, codes, decimal}
-use Rattle.gi_spelling.specs.Plain.{lines_of}
+use Rattle.gi_spelling.specs.Lines.{lines_of}
 use Rattle.gi_spelling.specs.Stated.{Gaps, key_line}
 
 -- the line `key: value`

@@ -2,11 +2,16 @@ pub mod AddRuns
 pub mod Answers
 pub mod Body
 pub mod Built
+pub mod Checks
 pub mod Digits
 pub mod Header
+pub mod Keys
 pub mod Lines
+pub mod Machine
+pub mod Messages
 pub mod Next
 pub mod NormalForm
+pub mod Options
 pub mod Promise
 pub mod Reading
 pub mod Refused
@@ -18,4 +23,4 @@ pub mod Standing
 pub mod Statement
 pub mod Stop
 pub mod Text
-pub mod Words
+pub mod Unrun

@@ -1,7 +1,7 @@
 -- Which line of a text is refused: the first that no text that is taken has there, or the last one, where the text
 -- ends too early.
 use Rattle.std.specs.Prelude.{◌≡◌, ℕ, suc, ◌+◌, ◌-◌, ◌<◌, max, Bool, true, ⊤, ◌⊎◌, List, [], ◌++◌, take, length}
-use Rattle.gi_spelling.specs.Plain.{lines_of}
+use Rattle.gi_spelling.specs.Lines.{lines_of}
 use Rattle.gi_spelling.specs.Stated.{StatedInstr, Gaps, are_arguments, are_stated, is_stated_name, stated_lines}
 use Rattle.gisel.specs.declared.refusal.Refusal.{Refusal}
 use Rattle.gisel.specs.declared.refusal.Refusal.TheVariants as refusal

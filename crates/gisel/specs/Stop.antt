@@ -1,8 +1,8 @@
 -- The status of each reason to stop before a text is written, and what the program says of it.
-use Rattle.std.specs.Prelude.{◌≡◌, ◌⊎◌, ◌<◌, ◌≤◌, length, ℕ, List, [], ◌∷◌, ◌++◌, codes, decimal, Option, Some, None}
+use Rattle.std.specs.Prelude.{◌≡◌, ◌⊎◌, ◌<◌, ◌≤◌, length, ℕ, List, [], ◌∷◌, ◌++◌, codes, IsTrue, Result, Ok, Err, is_ok}
 use Rattle.gi_io.specs.Faults.{Rose}
-use Rattle.gisel.specs.Answers.{limit}
-use Rattle.gisel.specs.Refused.{IsRefusedAt}
+use Rattle.gisel.specs.Answers.{limit, IsRefusedText}
+use Rattle.gisel.specs.Options.{OptionsData}
 use Rattle.gisel.specs.declared.stop.Stop.{Stop}
 use Rattle.gisel.specs.declared.stop.Stop.TheVariants as stop
 
@@ -10,14 +10,14 @@ abbrev pub status_of : Stop → ℕ
 status_of (stop.Usage word) = 2
 status_of stop.ReadFault = 4
 status_of stop.TooLong = 1
-status_of (stop.NotBuilt line) = 1
+status_of (stop.Refused message) = 1
 status_of stop.Memory = 3
 
 abbrev pub message_of : Stop → List ℕ
 message_of (stop.Usage word) = codes "gisel: usage: " ++ word.now
 message_of stop.ReadFault = codes "gisel: read fault"
 message_of stop.TooLong = codes "gisel: input: limit 8388608"
-message_of (stop.NotBuilt line) = codes "gisel: line " ++ (decimal line ++ codes ": not built")
+message_of (stop.Refused message) = message.items
 message_of stop.Memory = codes "gisel: memory"
 
 -- where no fault rose, what was held and then the message with a line feed
@@ -25,12 +25,17 @@ abbrev pub Says : (message : List ℕ) (old_faults new_faults : ℕ) (before aft
 Says message old_faults new_faults before after = (after ≡ before ++ (message ++ 10 ∷ [])) ⊎ Rose old_faults new_faults
 
 -- a usage is of the word at fault, and any other reason is of words that are right
-abbrev pub UsageOf : (wrong : Option (List ℕ)) → Stop → Type 0
-UsageOf wrong (stop.Usage word) = wrong ≡ Some word.now
-UsageOf wrong other = wrong ≡ None
+abbrev pub UsageOf : Result OptionsData (List ℕ) → Stop → Type 0
+UsageOf found (stop.Usage word) = found ≡ Err word.now
+UsageOf found other = IsTrue (is_ok found)
 
--- what is known of the input where the program stops for this reason
-abbrev pub IsCause : (read : List ℕ) → Stop → Type 0
-IsCause read stop.TooLong = limit < length read
-IsCause read (stop.NotBuilt line) = (length read ≤ limit) × IsRefusedAt read line
-IsCause read other = Unit {0}
+-- what is known of the options and the input where the program stops for this reason
+abbrev pub IsCause : (options : OptionsData) (read : List ℕ) → Stop → Type 0
+IsCause options read stop.TooLong = limit < length read
+IsCause options read (stop.Refused message) = (length read ≤ limit) × IsRefusedText options read message.items
+IsCause options read other = Unit {0}
+
+-- the words are at fault, and the word is such a one
+abbrev pub UsageSaid : Result OptionsData (List ℕ) → (List ℕ → Type 0) → Type 0
+UsageSaid (Ok options) says = ⊥
+UsageSaid (Err word) says = says word

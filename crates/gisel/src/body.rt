@@ -1,7 +1,7 @@
 //! The lines of the instructions, and what may follow them.
 
 ghost use Rattle.std.specs.Prelude.{◌≡◌, ℕ, ◌+◌, ◌<◌, ◌≤◌, ◌^◌, Bool, true, false, List, [], ◌∷◌, ◌++◌, length, map, IfOk, IfErr, OnOk};
-ghost use Rattle.gi_spelling.specs.Plain.{lines_of};
+ghost use Rattle.gi_spelling.specs.Lines.{lines_of};
 ghost use Rattle.gi_spelling.specs.Stated.{is_stated_after, is_return, stated_line};
 ghost use Rattle.gisel.specs.Body.{IsBody, IsBodyFrom, IsEnd, AllSmall};
 ghost use Rattle.gisel.specs.Next.{IsWrongNext, IsInstrLine};

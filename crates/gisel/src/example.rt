@@ -1,7 +1,7 @@
 //! What is shown of an example: a function that adds its two arguments, read, selected and printed.
 
 ghost use Rattle.gi_spelling.specs.AddExample.{generic_module, selected_module, stated_text, selected_text};
-ghost use Rattle.gi_spelling.specs.Plain.{Spells};
+ghost use Rattle.gi_spelling.specs.Spelling.{Spells};
 ghost use Rattle.gisel.specs.AddRuns.{before, after, ReturnsOne};
 
 /// The two texts of the example spell its two functions, and in every world that starts with the words

@@ -3,7 +3,7 @@
 ghost use Rattle.std.specs.Prelude.{◌≡◌, ℕ, ◌+◌, ◌<◌, ◌≤◌, true, false, ⊤, List, ◌∷◌, ◌++◌, length, codes, decimal, IfOk, IfErr, IfSome, MatchOption};
 ghost use Rattle.std.specs.List.{list_all};
 ghost use Rattle.gi_spelling.specs.Stated.{is_argument, is_name_byte, is_stated_name, are_arguments, key_line};
-ghost use Rattle.gi_spelling.specs.Plain.{lines_of};
+ghost use Rattle.gi_spelling.specs.Lines.{lines_of};
 ghost use Rattle.gisel.specs.Digits.{IsNumberAfter};
 ghost use Rattle.gisel.specs.Header.{IsKeyLine, IsKeyed, IsHead, liveins_line};
 ghost use Rattle.gisel.specs.Lines.{begins_with_space};

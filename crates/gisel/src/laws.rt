@@ -1,8 +1,15 @@
 //! What holds of the texts that are taken and of those that are refused, and of what is selected and written.
 
-ghost use Rattle.std.specs.Prelude.{◌≡◌, ℕ, List};
-ghost use Rattle.gi_mir.specs.Data.{FunctionData};
-ghost use Rattle.gi_spelling.specs.Plain.{lines_of};
+ghost use Rattle.std.specs.Prelude.{◌≡◌, ℕ, List, None};
+ghost use Rattle.gi_mir.specs.Data.{FunctionData, ModuleData};
+ghost use Rattle.gi_mir.specs.Numbering.{numbered_module};
+ghost use Rattle.gi_spelling.specs.Documents.{wrong_in};
+ghost use Rattle.gi_spelling.specs.Printed.{printed};
+ghost use Rattle.gi_spelling.specs.Read.{IsReadModule};
+ghost use Rattle.gi_spelling.specs.Same.{IsSameModule};
+ghost use Rattle.gi_spelling.specs.Spelled.{IsSpelled};
+ghost use Rattle.gi_spelling.specs.There.{NamesBlocksThatAreThere};
+ghost use Rattle.gi_spelling.specs.Lines.{lines_of};
 ghost use Rattle.gi_refine.specs.Refinement.{IsRefinement};
 ghost use Rattle.gisel.specs.NormalForm.{IsNormalForm};
 ghost use Rattle.gisel.specs.Refused.{IsStatedLines, IsRefusedAt};
@@ -25,6 +32,15 @@ pub fn refused_line_is_one()
 /// A text is written in one way: whatever module it states, and whatever the ids are of what is selected.
 pub fn written_text_is_one()
     ensures { (text written other : List ℕ) → IsText text written → IsText text other → written ≡ other }
+{}
+
+/// What is read of the text that is printed of a module, one that some text spells and that names no block that isn't
+/// there, is that module with its registers numbered, but for what a text doesn't show; no line of the text is refused, and
+/// what was read is printed with the same bytes.
+pub fn printed_text_is_read_back()
+    ensures taken { (m : ModuleData) → IsSpelled m → NamesBlocksThatAreThere m → wrong_in (printed (numbered_module m)) ≡ None }
+    ensures same { (m n : ModuleData) → IsSpelled m → NamesBlocksThatAreThere m → IsReadModule (printed (numbered_module m)) n → IsSameModule (numbered_module m) n }
+    ensures again { (m n : ModuleData) → IsSpelled m → NamesBlocksThatAreThere m → IsReadModule (printed (numbered_module m)) n → printed (numbered_module n) ≡ printed (numbered_module m) }
 {}
 
 /// A function that selection takes has a normal form.

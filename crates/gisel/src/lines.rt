@@ -1,7 +1,7 @@
 //! The lines of a text, and what stands at the front of a line.
 
 ghost use Rattle.std.specs.Prelude.{◌≡◌, ◌==◌, ◌+◌, ◌-◌, ◌*◌, ◌^◌, ◌<◌, ◌≤◌, ℕ, false, List, [], ◌∷◌, ◌++◌, length, position, decimal, IfSome, MatchOption};
-ghost use Rattle.gi_spelling.specs.Plain.{lines_of};
+ghost use Rattle.gi_spelling.specs.Lines.{lines_of};
 ghost use Rattle.gisel.specs.Digits.{begins_with_digit, value_onto, held, IsNumberAfter};
 ghost use Rattle.gisel.specs.Lines.{IsBehindSpaces, begins_with_space};
 

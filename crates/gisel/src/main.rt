@@ -1,25 +1,32 @@
 //! GlobalISel for RISC-V: reads Machine IR, runs passes over it and prints it.
 #![tactic(auto)]
 
+mod answer;
 mod body;
 mod build;
+mod checks;
 mod compile;
 mod example;
 mod header;
+mod keys;
 mod laws;
 mod line;
 mod lines;
+mod machine;
+mod messages;
 mod normal_form;
+mod options;
 mod read;
 mod refusal;
+mod same;
 mod select;
 mod standing;
 mod statement;
 mod stop;
 mod top;
-mod words;
+mod unrun;
 
-use gi_io::{StdInput, StdOutput};
+use gi_io::{StdInput, StdOutput, write_all};
 pub use laws::{refused_line_is_one, stated_text_is_one};
 use std::process::ExitCode;
 use std::{env, io};
@@ -34,6 +41,20 @@ fn command_words(rt: &HostRuntime) -> io::Result<Vec<String>> {
     Ok(words)
 }
 
+/// What is told of the program where that is all that the words ask for.
+fn told(words: &[String]) -> Option<&'static str> {
+    match words {
+        [word] => match word.as_str() {
+            "--help" => Some(
+                "usage: gisel [-mtriple=T] [-mattr=+m] [-global-isel] [-start-after=P] [-stop-after=P] [-o FILE] [FILE]\n",
+            ),
+            "--version" => Some("gisel 0.1\n"),
+            _ => None,
+        },
+        _ => None,
+    }
+}
+
 fn main(rt: HostRuntime) -> ExitCode {
     let Ok(words) = command_words(&rt) else {
         return ExitCode::from(3);
@@ -41,6 +62,12 @@ fn main(rt: HostRuntime) -> ExitCode {
     let mut input = StdInput::new(&rt);
     let mut out = StdOutput::new(&rt, &rt);
     let mut err = StdOutput::new(&rt, rt.stderr());
+    if let Some(text) = told(words.as_slice()) {
+        return match write_all(&mut out, text.as_bytes()) {
+            Ok(()) => ExitCode::SUCCESS,
+            Err(_) => ExitCode::from(5),
+        };
+    }
     ExitCode::from(gisel(rt.alloc(), words.as_slice(), &mut input, &mut out, &mut err))
 }
 

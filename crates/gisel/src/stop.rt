@@ -4,17 +4,18 @@ ghost use Rattle.std.specs.Prelude.{◌≡◌, ◌≢◌, ◌⊎◌, ◌++◌, �
 ghost use Rattle.gi_io.specs.Faults.{Rose};
 ghost use Rattle.gisel.specs.Stop.{message_of, status_of, Says};
 
-use crate::refusal::Refusal;
 use gi_io::{Output, write_all};
-use std::alloc::{AllocError, Global};
+use gi_llt::Memory;
+use std::alloc::Global;
 
 /// Why the program stops before it writes a text.
-#[derive(Clone, Copy, Debug)]
+#[derive(Drop)]
 pub enum Stop<'a> {
     Usage(&'a str),
     ReadFault,
     TooLong,
-    NotBuilt { line: u32 },
+    /// what is said of the input
+    Refused(Vec<u8>),
     Memory,
 }
 
@@ -27,22 +28,36 @@ impl Stop<'_> {
             Stop::Usage(_) => 2,
             Stop::ReadFault => 4,
             Stop::TooLong => 1,
-            Stop::NotBuilt { .. } => 1,
+            Stop::Refused(_) => 1,
             Stop::Memory => 3,
         }
     }
 
     /// What the program says, without the line feed.
-    fn message(&self, alloc: Global) -> Result<String, AllocError>
-        ensures { IfOk result (λ message. string_bytes message ≡ message_of self.now) }
+    fn message(&self, alloc: Global) -> Result<Vec<u8>, Memory>
+        ensures { IfOk result (λ message. message.items ≡ message_of self.now) }
     {
-        match self {
+        let text = match self {
             Stop::Usage(word) => format!(in alloc; "gisel: usage: {word}"),
             Stop::ReadFault => String::from_str(alloc, "gisel: read fault"),
             Stop::TooLong => String::from_str(alloc, "gisel: input: limit 8388608"),
-            Stop::NotBuilt { line } => format!(in alloc; "gisel: line {line}: not built"),
+            Stop::Refused(message) => return copied(alloc, message.as_slice()),
             Stop::Memory => String::from_str(alloc, "gisel: memory"),
+        };
+        match text {
+            Ok(text) => Ok(text.into_bytes()),
+            Err(_) => Err(Memory),
         }
+    }
+}
+
+/// The same bytes.
+fn copied(alloc: Global, bytes: &[u8]) -> Result<Vec<u8>, Memory>
+    ensures { IfOk result (λ copy. copy.items ≡ bytes.now) }
+{
+    match bytes.to_vec(alloc) {
+        Ok(copy) => Ok(copy),
+        Err(_) => Err(Memory),
     }
 }
 
@@ -50,10 +65,10 @@ impl Stop<'_> {
 pub const LIMIT: usize = 8_388_608;
 
 /// Writes a message and a line feed. A fault changes nothing else.
-pub fn say<E: Output>(err: &mut E, message: &str)
+pub fn say<E: Output>(err: &mut E, message: &[u8])
     ensures { IsTrue (E.tells err.old) → Says message.now (E.faults err.old) (E.faults err.new) (E.held err.old) (E.held err.new) }
 {
-    if err.create(None).is_ok() && write_all(err, message.as_bytes()).is_ok() {
+    if err.create(None).is_ok() && write_all(err, message).is_ok() {
         let _ = write_all(err, b"\n");
     }
 }
@@ -66,11 +81,11 @@ pub fn end_with<E: Output>(alloc: Global, err: &mut E, why: &Stop<'_>) -> u8
 {
     match why.message(alloc) {
         Ok(message) => {
-            say(err, message.as_str());
+            say(err, message.as_slice());
             why.status()
         }
         Err(_) => {
-            say(err, "gisel: memory");
+            say(err, b"gisel: memory");
             3
         }
     }

@@ -104,18 +104,37 @@ fn stops_at_faults(rt: HostRuntime) -> Result<(), Fail> {
 }
 
 #[test]
-fn refuses_words_and_lines(rt: HostRuntime) -> Result<(), Fail> {
+fn refuses_words_and_texts(rt: HostRuntime) -> Result<(), Fail> {
     let alloc = rt.alloc();
     let difference = "    %0:gprb(s32) = G_SUB %0, %0\n    PseudoRET implicit $x10\n";
     for (words, instructions, status, err) in [
         (
-            &WORDS[..1],
+            &["-mtriple=riscv16"][..],
             SUM,
             2u8,
-            "gisel: usage: -start-after=regbankselect\n",
+            "gisel: usage: -mtriple=riscv16\n",
         ),
-        (&WORDS[..], difference, 1, "gisel: line 9: not built\n"),
-        (&WORDS[..], "", 1, "gisel: line 8: not built\n"),
+        (&WORDS[..1], SUM, 1, "gisel: not built irtranslator\n"),
+        (
+            &["-start-after=legalizer"],
+            SUM,
+            1,
+            "gisel: function f: property regBankSelected\n",
+        ),
+        (&WORDS[1..], SUM, 1, "gisel: line 9: width 32\n"),
+        (
+            &WORDS[..],
+            difference,
+            1,
+            "gisel: not built instruction-select\n",
+        ),
+        (
+            &WORDS[..],
+            "    %0:gprb(s32) = G_NONE %0\n",
+            1,
+            "gisel: line 9: unknown G_NONE\n",
+        ),
+        (&WORDS[..], "    )\n", 1, "gisel: line 9: syntax\n"),
     ] {
         let answered = run(alloc, words, text_of(alloc, instructions)?, &[], &[])?;
         assert_eq!(rt; answered.status, status);
@@ -130,12 +149,162 @@ fn refuses_an_input_that_is_too_long(rt: HostRuntime) -> Result<(), Fail> {
     let alloc = rt.alloc();
     for (length, err) in [
         (8_388_609usize, "gisel: input: limit 8388608\n"),
-        (8_388_608, "gisel: line 1: not built\n"),
+        (8_388_608, "gisel: line 1: syntax\n"),
     ] {
         let answered = run(alloc, &WORDS, vec![in alloc; b'-'; length]?, &[], &[])?;
         assert_eq!(rt; answered.status, 1);
         assert!(rt; answered.out.is_empty());
         assert_eq!(rt; answered.err.as_slice(), err.as_bytes());
+    }
+    Ok(())
+}
+
+#[test]
+fn reads_and_prints(rt: HostRuntime) -> Result<(), Fail> {
+    let alloc = rt.alloc();
+    for (words, text, status, out, err) in [
+        (&["-start-after=legalizer"][..], "", 0u8, "", ""),
+        (
+            &[
+                "-mtriple=riscv32",
+                "-start-after=riscv-prelegalizer-combiner",
+                "-stop-after=legalizer",
+            ][..],
+            "---\nname: f\nbody: |\n  bb.0:\n    liveins: $x10\n\n    %0:_(s32) = COPY $x10\n    %1:_(s32) = G_AD",
+            1u8,
+            "",
+            "gisel: line 8: unknown G_AD\n",
+        ),
+        (
+            &[
+                "-mtriple=riscv32",
+                "-start-after=riscv-prelegalizer-combiner",
+                "-stop-after=legalizer",
+            ][..],
+            "---\nname: f\nbody: |\n  bb.0:\n    liveins: $x10\n\n    %0:_(s32) = COPY $x10\n    %1:_(s32) =",
+            1u8,
+            "",
+            "gisel: line 8: syntax\n",
+        ),
+        (
+            &[
+                "-mtriple=riscv32",
+                "-start-after=riscv-prelegalizer-combiner",
+                "-stop-after=legalizer",
+            ][..],
+            "---\nname: f\nbody: |\n  bb.0:\n    liveins: $x10\n\n    %0:_(s65) = G_IMPLICIT_DEF\n    PseudoRET implicit $x10\n",
+            1u8,
+            "",
+            "gisel: line 7: width 65\n",
+        ),
+        (
+            &["-mtriple=riscv32", "-start-after=legalizer"][..],
+            "---\nname: f\nbody: |\n  bb.0:\n    liveins: $x10\n\n    %0:_(s8) = G_IMPLICIT_DEF\n    %1:_(s8) = G_ADD %0, %0\n    PseudoRET implicit $x10\n",
+            1u8,
+            "",
+            "gisel: function f: property legalized\n",
+        ),
+        (
+            &[
+                "-mtriple=riscv32",
+                "-start-after=irtranslator",
+                "-stop-after=irtranslator",
+            ][..],
+            "# RUN: llc -mtriple=riscv32 -run-pass=legalizer %s -o - | FileCheck %s\n\n---\nname:            get\nalignment:       4\ntracksRegLiveness: true\nregisters:\n  - { id: 0, class: _, preferred-register: '', flags: [  ] }\n  - { id: 1, class: _, preferred-register: '' }\nliveins:         []\nframeInfo:\n  maxAlignment:    1\nfixedStack:      []\nstack:           []\nmachineFunctionInfo:\n  varArgsFrameIndex: 0\nbody:             |\n  bb.1.entry (%ir-block.0):\n    liveins: $x10\n\n    ; CHECK-LABEL: name: get\n    %0:_(p0) = COPY $x10\n    %1:_(s32) = G_LOAD %0(p0) :: (dereferenceable load (s32) from %ir.p + 4, align 4, !tbaa !2)\n    $x10 = COPY %1(s32)\n    PseudoRET implicit $x10\n...\n",
+            0u8,
+            "---\nname:            get\ntracksRegLiveness: true\nbody:             |\n  bb.0:\n    liveins: $x10\n\n    %0:_(p0) = COPY $x10\n    %1:_(s32) = G_LOAD %0(p0) :: (load (s32))\n    $x10 = COPY %1(s32)\n    PseudoRET implicit $x10\n...\n",
+            "",
+        ),
+        (
+            &[
+                "-mtriple=riscv32",
+                "-start-after=irtranslator",
+                "-stop-after=irtranslator",
+            ][..],
+            "---\nname:            get\ntracksRegLiveness: true\nbody:             |\n  bb.0:\n    liveins: $x10\n\n    %0:_(p0) = COPY $x10\n    %1:_(s32) = G_LOAD %0(p0) :: (load (s32))\n    $x10 = COPY %1(s32)\n    PseudoRET implicit $x10\n...\n",
+            0u8,
+            "---\nname:            get\ntracksRegLiveness: true\nbody:             |\n  bb.0:\n    liveins: $x10\n\n    %0:_(p0) = COPY $x10\n    %1:_(s32) = G_LOAD %0(p0) :: (load (s32))\n    $x10 = COPY %1(s32)\n    PseudoRET implicit $x10\n...\n",
+            "",
+        ),
+        (
+            &[
+                "-mtriple=riscv32",
+                "-start-after=regbankselect",
+                "-stop-after=regbankselect",
+            ][..],
+            "---\nname: add\nlegalized: true\nregBankSelected: true\nbody: |\n  bb.0:\n    liveins: $x10, $x11\n\n    %0:gprb(s32) = COPY $x10\n    %1:gprb(s32) = COPY $x11\n    %2:gprb(s32) = G_ADD %0, %1\n    $x10 = COPY %2(s32)\n    PseudoRET implicit $x10\n",
+            1u8,
+            "",
+            "gisel: not built regbankselect\n",
+        ),
+    ] {
+        let answered = run(alloc, words, text.as_bytes().to_vec(alloc)?, &[], &[])?;
+        assert_eq!(rt; answered.out.as_slice(), out.as_bytes());
+        assert_eq!(rt; answered.err.as_slice(), err.as_bytes());
+        assert_eq!(rt; answered.status, status);
+    }
+    Ok(())
+}
+
+// A run on a stored file, with an output whose place has this name; the empty one is the standard stream.
+fn run_on_a_file(alloc: Global, words: &[&str], name: &str) -> Result<Answered, Fail> {
+    let mut given = Vec::new(alloc);
+    for word in words {
+        given.push(String::from_str(alloc, word)?)?;
+    }
+    let mut files = Vec::new(alloc);
+    files.push((
+        String::from_str(alloc, "b.mir")?,
+        b"---\nname: f\nbody: |\n".to_vec(alloc)?,
+    ))?;
+    let mut input = MemInput::new(files, Vec::new(alloc), Vec::new(alloc));
+    let place = match name {
+        "" => None,
+        name => Some(String::from_str(alloc, name)?),
+    };
+    let mut out = match MemOutput::new(alloc, place, 10, 4096, Vec::new(alloc)) {
+        Ok(out) => out,
+        Err(_) => return Err(Fail::from("memory")),
+    };
+    let mut err = sink(alloc, 4096, &[])?;
+    let status = gisel(alloc, given.as_slice(), &mut input, &mut out, &mut err);
+    Ok(Answered {
+        status,
+        out: out.bytes().to_vec(alloc)?,
+        err: err.bytes().to_vec(alloc)?,
+    })
+}
+
+#[test]
+fn takes_files(rt: HostRuntime) -> Result<(), Fail> {
+    let alloc = rt.alloc();
+    let printed = "---\nname:            f\ntracksRegLiveness: true\nbody:             |\n...\n";
+    let start = "-start-after=irtranslator";
+    let stop = "--stop-after=irtranslator";
+    for (words, place, status, out, err) in [
+        (&[start, stop, "b.mir"][..], "", 0u8, printed, ""),
+        (
+            &["b.mir", start, stop, "-o", "a.mir"],
+            "a.mir",
+            0,
+            printed,
+            "",
+        ),
+        (&[start, stop, "b.mir", "-o", "-"], "", 0, printed, ""),
+        (
+            &[start, stop, "b.mir", "-o", "a.mir"],
+            "",
+            5,
+            "",
+            "gisel: write fault\n",
+        ),
+        (&[start, stop, "c.mir"], "", 4, "", "gisel: read fault\n"),
+        (&[start, stop, "-o"], "", 2, "", "gisel: usage: -o\n"),
+    ] {
+        let answered = run_on_a_file(alloc, words, place)?;
+        assert_eq!(rt; answered.out.as_slice(), out.as_bytes());
+        assert_eq!(rt; answered.err.as_slice(), err.as_bytes());
+        assert_eq!(rt; answered.status, status);
     }
     Ok(())
 }

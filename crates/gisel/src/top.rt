@@ -1,33 +1,35 @@
 //! The top call.
 
-ghost use Rattle.std.specs.Prelude.{◌≡◌, ◌≢◌, ◌⊎◌, ◌≤◌, ◌<◌, ◌^◌, ◌-◌, ◌++◌, [], None, IsTrue, IfOk, OnOk, IfErr, IfSome, IsSome, IsErrOf, length, map, string_bytes, Some, codes};
+ghost use Rattle.std.specs.Prelude.{ℕ, List, Result, Ok, is_ok, ◌≡◌, ◌≢◌, ◌⊎◌, ◌≤◌, ◌<◌, ◌^◌, ◌-◌, ◌++◌, [], None, IsTrue, IfOk, OnOk, IfErr, IfSome, IsSome, IsErrOf, length, map, string_bytes, Some, codes};
 ghost use Rattle.gi_io.specs.Faults.{Rose};
 ghost use Rattle.gi_io.specs.Writing.{AppendsPrefix};
-ghost use Rattle.gi_spelling.specs.Plain.{lines_of};
-ghost use Rattle.gisel.specs.Answers.{limit, IsOutput, AppendsOutput, AppendsPartOfOutput, RefusesWith};
-ghost use Rattle.gisel.specs.Promise.{Compiles, AppendsCompiled};
-ghost use Rattle.gisel.specs.Refused.{IsStatedLines};
-ghost use Rattle.gisel.specs.Stop.{IsCause, UsageOf, Says};
-ghost use Rattle.gisel.specs.Words.{wrong_word};
+ghost use Rattle.gisel.specs.Answers.{limit, input_of, IsAnswer, IsOutput, AppendsOutput, AppendsPartOfOutput, RefusesWith};
+ghost use Rattle.gisel.specs.Promise.{IsCompiled, AppendsCompiled};
+ghost use Rattle.gisel.specs.Stop.{IsCause, UsageOf, UsageSaid, Says};
+ghost use Rattle.std.specs.Option.{option_copied};
+ghost use Rattle.gisel.specs.Options.{OptionsData, options_of};
 
-use crate::compile::compile;
-use crate::refusal::Refusal;
+use crate::answer::answer;
+use crate::messages::Refused;
+use crate::options::Options;
 use crate::stop::{LIMIT, Stop, end_with, say};
-use crate::words::faulty_word;
 use gi_io::{Input, Output, ReadError, read_all, write_all};
 use std::alloc::Global;
 
-/// All bytes of standard input.
-fn read_input<'a, I: Input>(alloc: Global, input: &mut I) -> Result<Vec<u8>, Stop<'a>>
-    ensures bytes { IfOk result (λ bytes. IsTrue (I.tells input.old) → bytes.items ≡ I.stored input.old None) }
-    ensures short { IfOk result (λ bytes. length bytes.items < 2 ^ 32 - 1) }
+/// All bytes of the input of this name.
+fn read_input<'a, I: Input>(
+    alloc: Global,
+    name: Option<&str>,
+    input: &mut I,
+) -> Result<Vec<u8>, Stop<'a>>
+    ensures bytes { IfOk result (λ bytes. IsTrue (I.tells input.old) → bytes.items ≡ I.stored input.old (option_copied name.entry)) }
     ensures within { IfOk result (λ bytes. length bytes.items ≤ limit) }
     ensures whole { OnOk result (IsTrue (I.tells input.old) → I.left input.new ≡ []) }
     ensures read_fault { IsErrOf result Stop.ReadFault → Rose (I.faults input.old) (I.faults input.new) }
-    ensures no_usage { IfErr result (UsageOf None) }
-    ensures cause { IfErr result (λ why. IsTrue (I.tells input.old) → IsCause (I.stored input.old None) why) }
+    ensures usage { (found : Result OptionsData (List ℕ)) → IsTrue (is_ok found) → IfErr result (UsageOf found) }
+    ensures cause { (options : OptionsData) → IfErr result (λ why. IsTrue (I.tells input.old) → IsCause options (I.stored input.old (option_copied name.entry)) why) }
 {
-    if input.open(None).is_err() {
+    if input.open(name).is_err() {
         return Err(Stop::ReadFault);
     }
     match read_all(alloc, input, LIMIT) {
@@ -38,36 +40,33 @@ fn read_input<'a, I: Input>(alloc: Global, input: &mut I) -> Result<Vec<u8>, Sto
     }
 }
 
-/// The text that is to be written, for words and input as they are taken.
+/// The text that is to be written, for options and the input that they name.
 fn text_for<'a, I: Input>(
     alloc: Global,
-    words: &'a [String],
+    options: &Options<'_>,
     input: &mut I,
 ) -> Result<Vec<u8>, Stop<'a>>
-    ensures compiled { IfOk result (λ text. IsTrue (I.tells input.old) → Compiles 32 (I.stored input.old None) text.items) }
-    ensures output { IfOk result (λ text. IsTrue (I.tells input.old) → IsOutput (map string_bytes words.now) (I.stored input.old None) text.items) }
-    ensures words { OnOk result (wrong_word (map string_bytes words.now) ≡ None) }
-    ensures usage { IfErr result (UsageOf (wrong_word (map string_bytes words.now))) }
+    ensures compiled { IfOk result (λ text. IsTrue (I.tells input.old) → IsCompiled options.now (I.stored input.old options.now.input) text.items) }
+    ensures output { IfOk result (λ text. IsTrue (I.tells input.old) → IsAnswer options.now (I.stored input.old options.now.input) text.items) }
+    ensures usage { (found : Result OptionsData (List ℕ)) → IsTrue (is_ok found) → IfErr result (UsageOf found) }
     ensures whole { OnOk result (IsTrue (I.tells input.old) → I.left input.new ≡ []) }
     ensures read_fault { IsErrOf result Stop.ReadFault → Rose (I.faults input.old) (I.faults input.new) }
-    ensures cause { IfErr result (λ why. IsTrue (I.tells input.old) → IsCause (I.stored input.old None) why) }
+    ensures cause { IfErr result (λ why. IsTrue (I.tells input.old) → IsCause options.now (I.stored input.old options.now.input) why) }
 {
-    if let Some(word) = faulty_word(words) {
-        return Err(Stop::Usage(word));
-    }
-    let bytes = match read_input(alloc, input) {
+    let bytes = match read_input(alloc, options.input, input) {
         Ok(bytes) => bytes,
         Err(why) => return Err(why),
     };
-    match compile(alloc, bytes.as_slice()) {
+    match answer(alloc, options, bytes.as_slice()) {
         Ok(text) => Ok(text),
-        Err(Refusal::NotBuilt { line }) => Err(Stop::NotBuilt { line }),
-        Err(Refusal::Memory) => Err(Stop::Memory),
+        Err(Refused::Message(message)) => Err(Stop::Refused(message)),
+        Err(Refused::Memory) => Err(Stop::Memory),
     }
 }
 
 /// Writes a text to the output, and answers 0, or 5 after a fault.
-fn written<O: Output, E: Output>(out: &mut O, err: &mut E, text: &[u8]) -> u8
+fn written<O: Output, E: Output>(out: &mut O, err: &mut E, name: Option<&str>, text: &[u8]) -> u8
+    ensures place { result ≡ 0 → IsTrue (O.tells_place out.old) → option_copied name.entry ≡ O.place out.old }
     ensures status { (result ≡ 0) ⊎ (result ≡ 5) }
     ensures text { result ≡ 0 → IsTrue (O.tells out.old) → O.held out.new ≡ O.held out.old ++ text.now }
     ensures part { result ≡ 5 → IsTrue (O.tells out.old) → AppendsPrefix (O.held out.old) (O.held out.new) text.now }
@@ -76,20 +75,20 @@ fn written<O: Output, E: Output>(out: &mut O, err: &mut E, text: &[u8]) -> u8
     ensures said { result ≡ 5 → IsTrue (E.tells err.old)
         → Says (codes "gisel: write fault") (E.faults err.old) (E.faults err.new) (E.held err.old) (E.held err.new) }
 {
-    if out.create(None).is_ok() && write_all(out, text).is_ok() {
+    if out.create(name).is_ok() && write_all(out, text).is_ok() {
         return 0;
     }
-    say(err, "gisel: write fault");
+    say(err, b"gisel: write fault");
     5
 }
 
-/// Reads a text from standard input, runs the passes that the words ask for and writes the text that they
+/// Reads a text, runs the passes that the words ask for and writes the text that they
 /// leave. The answer is the status of the program:
 ///
 /// | Status | Reason |
 /// |---|---|
 /// | 0 | done |
-/// | 1 | a line that is not built, or too many bytes |
+/// | 1 | the input is refused |
 /// | 2 | the words |
 /// | 3 | no memory |
 /// | 4 | a read fault |
@@ -104,42 +103,47 @@ pub fn gisel<I: Input, O: Output, E: Output>(
     err: &mut E,
 ) -> u8
     ensures compiled { result ≡ 0 → IsTrue (I.tells input.old) → IsTrue (O.tells out.old)
-        → AppendsCompiled 32 (I.stored input.old None) (O.held out.old) (O.held out.new) }
+        → AppendsCompiled (map string_bytes words.now) (I.stored input.old (input_of (map string_bytes words.now))) (O.held out.old) (O.held out.new) }
     ensures output { result ≡ 0 → IsTrue (I.tells input.old) → IsTrue (O.tells out.old)
-        → AppendsOutput (map string_bytes words.now) (I.stored input.old None) (O.held out.old) (O.held out.new) }
+        → AppendsOutput (map string_bytes words.now) (I.stored input.old (input_of (map string_bytes words.now))) (O.held out.old) (O.held out.new) }
+    ensures place { result ≡ 0 → IsTrue (O.tells_place out.old)
+        → IfOk (options_of (map string_bytes words.now)) (λ options. options.output ≡ O.place out.old) }
     ensures whole { result ≡ 0 → IsTrue (I.tells input.old) → I.left input.new ≡ [] }
     ensures silent { result ≡ 0 → err.new ≡ err.old }
 
-    // Status 1 comes of an input that is too long or of which a line is refused, and the message says so.
+    // Status 1 comes of an input that is refused, and the message says why.
     ensures refused { result ≡ 1 → IsTrue (I.tells input.old)
-        → RefusesWith (I.stored input.old None) (λ message. IsTrue (E.tells err.old)
+        → RefusesWith (map string_bytes words.now) (I.stored input.old (input_of (map string_bytes words.now))) (λ message. IsTrue (E.tells err.old)
         → Says message (E.faults err.old) (E.faults err.new) (E.held err.old) (E.held err.new)) }
     ensures read_fault { result ≡ 4 → Rose (I.faults input.old) (I.faults input.new) }
     ensures write_fault { result ≡ 5 → Rose (O.faults out.old) (O.faults out.new) }
     ensures part { result ≡ 5 → IsTrue (I.tells input.old) → IsTrue (O.tells out.old)
-        → AppendsPartOfOutput (map string_bytes words.now) (I.stored input.old None) (O.held out.old) (O.held out.new) }
+        → AppendsPartOfOutput (map string_bytes words.now) (I.stored input.old (input_of (map string_bytes words.now))) (O.held out.old) (O.held out.new) }
     ensures untouched { result ≢ 0 → result ≢ 5 → IsTrue (O.tells out.old) → O.held out.new ≡ O.held out.old }
     ensures not_created { result ≢ 0 → result ≢ 5 → O.created out.new ≡ O.created out.old }
 
-    // Status 2 comes only of other words than the two, and such words give no other, but where memory runs out.
-    ensures words { IsSome (wrong_word (map string_bytes words.now)) → (result ≡ 2) ⊎ (result ≡ 3) }
-    ensures usage { result ≡ 2 → IfSome (wrong_word (map string_bytes words.now)) (λ word. IsTrue (E.tells err.old)
+    // Status 2 comes only of words at fault, and such words give no other, but where memory runs out.
+    ensures words { IfErr (options_of (map string_bytes words.now)) (λ word. (result ≡ 2) ⊎ (result ≡ 3)) }
+    ensures usage { result ≡ 2 → UsageSaid (options_of (map string_bytes words.now)) (λ word. IsTrue (E.tells err.old)
         → Says (codes "gisel: usage: " ++ word) (E.faults err.old) (E.faults err.new) (E.held err.old) (E.held err.new)) }
     ensures read_fault_said { result ≡ 4 → IsTrue (E.tells err.old)
         → Says (codes "gisel: read fault") (E.faults err.old) (E.faults err.new) (E.held err.old) (E.held err.new) }
     ensures write_fault_said { result ≡ 5 → IsTrue (E.tells err.old)
         → Says (codes "gisel: write fault") (E.faults err.old) (E.faults err.new) (E.held err.old) (E.held err.new) }
-    // There is no other status, and words and an input as they are taken give none but 0 or 3 where no call on them failed.
+    // There is no other status, and words that are right give none but 0, 1 or 3 where no call failed.
     ensures statuses { result ≤ 5 }
-    ensures complete { wrong_word (map string_bytes words.now) ≡ None → IsTrue (I.tells input.old)
-        → length (I.stored input.old None) ≤ limit → IsStatedLines (lines_of (I.stored input.old None))
+    ensures complete { IsTrue (is_ok (options_of (map string_bytes words.now)))
         → (Rose (I.faults input.old) (I.faults input.new) → ⊥) → (Rose (O.faults out.old) (O.faults out.new) → ⊥)
-        → (result ≡ 0) ⊎ (result ≡ 3) }
+        → (result ≡ 0) ⊎ ((result ≡ 1) ⊎ (result ≡ 3)) }
     ensures no_memory_said { result ≡ 3 → IsTrue (E.tells err.old)
         → Says (codes "gisel: memory") (E.faults err.old) (E.faults err.new) (E.held err.old) (E.held err.new) }
 {
-    match text_for(alloc, words, input) {
-        Ok(text) => written(out, err, text.as_slice()),
+    let options = match Options::from_words(words) {
+        Ok(options) => options,
+        Err(word) => return end_with(alloc, err, &Stop::Usage(word)),
+    };
+    match text_for(alloc, &options, input) {
+        Ok(text) => written(out, err, options.output, text.as_slice()),
         Err(why) => end_with(alloc, err, &why),
     }
 }

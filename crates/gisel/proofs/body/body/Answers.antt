@@ -1,7 +1,7 @@
 use Rattle.std.proofs.Common.{[], arith, sym}
 use Rattle.gisel.specs.Body.{IsBodyFrom}
 use Rattle.gisel.specs.Refused.{AtLine, IsRefusedFrom}
-use Rattle.gi_spelling.specs.Plain.{lines_of}
+use Rattle.gi_spelling.specs.Lines.{lines_of}
 use Rattle.gisel.proofs.FrontLemmas.{if_err, at_line}
 use Rattle.gisel.proofs.BodyLemmas.{refused_instr, refused_end, next_read, last_read, length_pushed}
 use Rattle.gisel.proofs.body.body.Goals as goal

@@ -1,6 +1,6 @@
 use Rattle.std.proofs.Common.{[], map, subst, ap, ◌∙◌}
 use Rattle.std.specs.List.{list_all}
-use Rattle.gi_spelling.specs.Plain.{lines_of}
+use Rattle.gi_spelling.specs.Lines.{lines_of}
 use Rattle.gisel.specs.Body.{IsBody, IsBodyFrom}
 use Rattle.gisel.specs.Built.{has_arguments}
 use Rattle.gisel.specs.Refused.{AtLine, IsRefusedFrom, IsRefusedAt}

@@ -1,0 +1,56 @@
+//! Reading Machine IR: from a text to the module that it spells, or to its first line that spells nothing.
+#![tactic(auto)]
+
+mod access;
+mod beginning;
+mod block;
+mod blocks;
+mod body;
+mod building;
+mod constant;
+mod definition;
+mod document;
+mod document_lines;
+mod entries;
+mod entry;
+mod faults;
+mod instr;
+mod ir;
+mod items;
+mod kept;
+mod keys;
+mod line_bytes;
+mod lines;
+mod list;
+mod memory;
+mod naming;
+mod notes;
+mod number;
+mod numbering;
+mod objects;
+mod parts;
+mod read;
+mod refusal;
+mod registers;
+mod resolve;
+mod sections;
+mod sizes;
+mod source;
+mod split;
+mod stated;
+mod stop;
+mod successors;
+mod tables;
+mod told;
+mod triples;
+mod values;
+mod what;
+mod word;
+mod wrongs;
+
+pub use read::{ir_number, read_mir};
+pub use sizes::check_sizes;
+pub use triples::triple;
+
+#[cfg(test)]
+mod line_tests;

@@ -1,0 +1,100 @@
+-- What stands where, before and after each edit of a rewriting.
+use Rattle.std.proofs.Common.{◌≡◌, ℕ, zero, suc, ◌+◌, ◌<◌, Bool, true, ◌||◌, List, [], ◌∷◌, Option, Some, None, IfSome, length, get_or, refl, sym, subst, ap, ◌∙◌, arith, Contains}
+use Rattle.std.specs.Prelude.{insert, remove, map, option_map, slice_get, ◌==◌}
+use Rattle.std.specs.List.{list_any}
+use Rattle.std.proofs.lemmas.List.{get_or-set_same, length-set}
+use Rattle.std.proofs.lemmas.List.Folds.{list_any-append}
+use Rattle.std.proofs.lemmas.List.Sorted.{IsPermutation-insert, list_any-IsPermutation}
+use Rattle.gi_mir.specs.declared.block.InstrId.{InstrId}
+use Rattle.gi_mir.specs.Data.{InstrData, BlockData, FunctionData}
+use Rattle.gi_mir.specs.Edit.{IsLive, block_at, block_with_instr, empty_block, has_instr, home_of, id_after, ids_of, instr_of, instrs_with, place_in_block, place_of, with_instr, without_instr}
+use Rattle.gi_mir.specs.Places.{nth_id}
+use Rattle.gi_mir.specs.Uses.{block_replaced, entry_replaced, with_reg_replaced}
+use Rattle.gi_mir.proofs.Live.{or_left, or_right}
+use Rattle.gi_mir.proofs.Located.{has_instr-Contains, has_instr-nth_id, id_in-live, id_in-within, nth_id-place_of}
+use Rattle.gi_pattern.specs.Applying.{id_of, next_to, uses_replaced}
+use Rattle.gi_pattern.specs.Making.{register_or}
+use Rattle.gi_pattern.specs.declared.binding.Binding.{Binding}
+
+-- ---- an instruction that is live stays so when uses are replaced
+
+list_any-replaced : (old new id : ℕ) (ps : List (ℕ × InstrData)) → list_any (λ (p : ℕ × InstrData). p.0 == id) (map (entry_replaced old new) ps) ≡ list_any (λ (p : ℕ × InstrData). p.0 == id) ps
+list_any-replaced old new id [] = refl
+list_any-replaced old new id (p ∷ ps) = ap (λ (b : Bool). (p.0 == id) || b) (list_any-replaced old new id ps)
+
+live-blocks_replaced : (old new id : ℕ) (bs : List BlockData) → list_any (has_instr id) (map (block_replaced old new) bs) ≡ list_any (has_instr id) bs
+live-blocks_replaced old new id [] = refl
+live-blocks_replaced old new id (b ∷ bs) =
+    ap (λ (t : Bool). t || list_any (has_instr id) (map (block_replaced old new) bs)) (list_any-replaced old new id b.instrs)
+    ∙ ap (λ (t : Bool). has_instr id b || t) (live-blocks_replaced old new id bs)
+
+pub IsLive-uses_replaced : (b : Binding) (pairs : List (ℕ × ℕ)) (f : FunctionData) (id : ℕ) → IsLive f id → IsLive (uses_replaced b pairs f) id
+IsLive-uses_replaced b [] f id live = live
+IsLive-uses_replaced b (pair ∷ pairs) f id live =
+    let old = (register_or b pair.0).0 in
+    let new = (register_or b pair.1).0 in
+    IsLive-uses_replaced b pairs (with_reg_replaced old new f) id (live-blocks_replaced old new id f.blocks ∙ live)
+
+-- ---- an instruction that is live is there
+
+pub instr-live : (f : FunctionData) (id : ℕ) → IsLive f id → (i : InstrData) × (instr_of f id ≡ Some i)
+instr-live f id live = by (slice_get (get_or f.blocks (home_of f id) empty_block).instrs (place_in_block f id)) (id_in-live f id live)
+  where
+    by : (o : Option (ℕ × InstrData)) → option_map (λ (p : ℕ × InstrData). p.0) o ≡ Some id → (i : InstrData) × (option_map (λ (p : ℕ × InstrData). p.1) o ≡ Some i)
+    by None h = cc
+    by (Some p) h = (p.1, refl)
+
+pub home-within : (f : FunctionData) (id : ℕ) → IsLive f id → home_of f id < length f.blocks
+home-within f id live = id_in-within id f.blocks (home_of f id) (place_in_block f id) (id_in-live f id live)
+
+-- ---- what stands in a block
+
+contains-at : (id : ℕ) (ps : List (ℕ × InstrData)) (k : ℕ) → nth_id ps k ≡ Some id → (k < length (map (λ (p : ℕ × InstrData). p.0) ps)) × (get_or (map (λ (p : ℕ × InstrData). p.0) ps) k id ≡ id)
+contains-at id [] k h = cc
+contains-at id (p ∷ ps) zero h = (omega arith, cc)
+contains-at id (p ∷ ps) (suc k) h = let (within, is) = contains-at id ps k h in (omega arith, is)
+
+pub Contains-has : (id : ℕ) (b : BlockData) → has_instr id b ≡ true → Contains (ids_of b) id
+Contains-has id b h =
+    let (within, is) = contains-at id b.instrs (place_of id b.instrs) (nth_id-place_of id b.instrs h) in (place_of id b.instrs, within, is)
+
+has-instrs_with : (p : ℕ × InstrData → Bool) (instrs : List (ℕ × InstrData)) (before : Option InstrId) (new : ℕ × InstrData) → list_any p instrs ≡ true → list_any p (instrs_with instrs before new) ≡ true
+has-instrs_with p instrs None new h = list_any-append p instrs (new ∷ []) ∙ or_left (list_any p instrs) (list_any p (new ∷ [])) h
+has-instrs_with p instrs (Some id) new h =
+    sym (list_any-IsPermutation p (new ∷ instrs) (insert instrs (place_of id.0 instrs) new) (IsPermutation-insert instrs (place_of id.0 instrs) new))
+    ∙ or_right (p new) (list_any p instrs) h
+
+-- what is named stays in the block when an instruction is created there
+pub stands-created : (f : FunctionData) (block : ℕ) (before named : Option InstrId) (i : InstrData) → block < length f.blocks → IfSome named (λ id. Contains (ids_of (block_at f block)) id.0)
+    → IfSome named (λ id. Contains (ids_of (block_at (with_instr f block before i) block)) id.0)
+stands-created f block before None i within h = tt
+stands-created f block before (Some id) i within h =
+    let new = block_with_instr (block_at f block) before (f.next_id, i) in
+    let has = has-instrs_with (λ (p : ℕ × InstrData). p.0 == id.0) (block_at f block).instrs before (f.next_id, i) (has_instr-Contains id.0 (block_at f block) h) in
+    subst (λ (c : BlockData). Contains (ids_of c) id.0) (sym (get_or-set_same f.blocks block new empty_block within)) (Contains-has id.0 new has)
+
+pub within-created : (f : FunctionData) (block : ℕ) (before : Option InstrId) (i : InstrData) → block < length f.blocks → block < length (with_instr f block before i).blocks
+within-created f block before i within = rw (length-set f.blocks block (block_with_instr (block_at f block) before (f.next_id, i))) within
+
+-- ---- what stands behind the root
+
+removed-next : (id : ℕ) (ps : List (ℕ × InstrData)) (k : ℕ) → nth_id ps (k + 1) ≡ Some id → nth_id (remove ps k) k ≡ Some id
+removed-next id [] k h = cc
+removed-next id (p ∷ ps) zero h = h
+removed-next id (p ∷ ps) (suc k) h = let one : suc k + 1 ≡ suc (k + 1) = omega arith in removed-next id ps k (rw one at h)
+
+pub stands-erased : (f : FunctionData) (id : ℕ) → IsLive f id → IfSome (next_to f id) (λ n. Contains (ids_of (block_at (without_instr f id) (home_of f id))) n.0)
+stands-erased f id live = by (id_after f id) refl
+  where
+    by : (o : Option ℕ) → id_after f id ≡ o → IfSome (option_map id_of o) (λ n. Contains (ids_of (block_at (without_instr f id) (home_of f id))) n.0)
+    by None h = tt
+    by (Some n) h =
+        let body = get_or f.blocks (home_of f id) empty_block in
+        let left : BlockData = record body { instrs = remove body.instrs (place_in_block f id) } in
+        let has = has_instr-nth_id n left.instrs (place_in_block f id) (removed-next n body.instrs (place_in_block f id) h) in
+        subst (λ (c : BlockData). Contains (ids_of c) n) (sym (get_or-set_same f.blocks (home_of f id) left empty_block (home-within f id live))) (Contains-has n left has)
+
+pub within-erased : (f : FunctionData) (id block : ℕ) → block < length f.blocks → block < length (without_instr f id).blocks
+within-erased f id block within =
+    let body = get_or f.blocks (home_of f id) empty_block in
+    rw (length-set f.blocks (home_of f id) (record body { instrs = remove body.instrs (place_in_block f id) })) within

@@ -1,0 +1,38 @@
+-- What a rewriting makes of the blocks of a function, seen at once.
+use Rattle.std.specs.Prelude.{◌≡◌, ℕ, ◌+◌, List, [], ◌∷◌, ◌++◌, Option, take, drop, map, slice_set, ◌==◌, if◌then◌else◌}
+use Rattle.gi_mir.specs.Data.{InstrData, BlockData, FunctionData}
+use Rattle.gi_mir.specs.Edit.{home_block, home_of, place_in_block}
+use Rattle.gi_mir.specs.declared.operand.Operand.{Operand}
+use Rattle.gi_mir.specs.declared.operand.Operand.TheVariants.{Use}
+use Rattle.gi_pattern.specs.Making.{register_or}
+use Rattle.gi_pattern.specs.declared.binding.Binding.{Binding}
+
+-- instructions with ids from this one on
+abbrev pub with_ids : ℕ → List InstrData → List (ℕ × InstrData)
+with_ids id [] = []
+with_ids id (i ∷ is) = (id, i) ∷ with_ids (id + 1) is
+
+-- a block in which instructions stand in the place of one
+abbrev pub block_with : BlockData → (place : ℕ) → List (ℕ × InstrData) → BlockData
+block_with b place made = record b { instrs = take place b.instrs ++ (made ++ drop (place + 1) b.instrs) }
+
+-- the blocks in which instructions with new ids stand in the place of another
+abbrev pub blocks_with : FunctionData → (id : ℕ) → List InstrData → List BlockData
+blocks_with f id made =
+    slice_set f.blocks (home_of f id) (block_with (home_block f id) (place_in_block f id) (with_ids f.next_id made))
+
+-- the register that stands for another once all pairs are replaced, one after the other
+abbrev pub renamed : Binding → List (ℕ × ℕ) → ℕ → ℕ
+renamed b [] reg = reg
+renamed b (pair ∷ pairs) reg = renamed b pairs (if reg == (register_or b pair.0).0 then (register_or b pair.1).0 else reg)
+
+-- the same in each use of an operand, an instruction, a block
+abbrev pub operand_renamed : (ℕ → ℕ) → Operand → Operand
+operand_renamed rename (Use reg) = Use (record { 0 = rename reg.0 })
+operand_renamed rename x = x
+
+abbrev pub entry_renamed : (ℕ → ℕ) → ℕ × InstrData → ℕ × InstrData
+entry_renamed rename p = (p.0, record p.1 { operands = map (operand_renamed rename) p.1.operands })
+
+abbrev pub block_renamed : (ℕ → ℕ) → BlockData → BlockData
+block_renamed rename b = record b { instrs = map (entry_renamed rename) b.instrs }

@@ -1,0 +1,14 @@
+pub mod Answering
+pub mod Defining
+pub mod Existing
+pub mod Greatest
+pub mod Held
+pub mod Holding
+pub mod Settling
+pub mod Single
+pub mod Sited
+pub mod Stepping
+pub mod Telling
+pub mod Trials
+pub mod Valid
+pub mod Walking

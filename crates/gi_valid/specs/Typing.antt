@@ -1,0 +1,123 @@
+-- Whether the types of an instruction's registers meet its row, where a register may have every type.
+-- (Generic Opcodes; Machine IR's target-independent opcodes.)
+use Rattle.std.specs.Prelude.{ℕ, ◌*◌, ◌%◌, Bool, true, false, ◌&&◌, nat_lt, nat_le, ◌==◌, List, [], ◌∷◌, ◌++◌, Option, Some, None, length, map, replicate, take, drop, if◌then◌else◌}
+use Rattle.std.specs.List.{list_all, list_any}
+use Rattle.gi_llt.specs.declared.Llt.{Llt}
+use Rattle.gi_mir.specs.Accepted.{letters, is_letter, class_of, are_one, is_sum}
+use Rattle.gi_mir.specs.Data.{InstrData, FunctionData}
+use Rattle.gi_mir.specs.Registers.{kind_of, type_of_kind}
+use Rattle.gi_mir.specs.Row.{typing_of}
+use Rattle.gi_mir.specs.Types.{scalar_bits}
+use Rattle.gi_mir.specs.Typings.{TypingData}
+use Rattle.gi_mir.specs.Formed.{is_use}
+use Rattle.gi_mir.specs.declared.operand.Operand.{Operand}
+use Rattle.gi_mir.specs.declared.operand.Operand.TheVariants as operand
+use Rattle.gi_mir.specs.declared.stage.Stage.{Stage}
+use Rattle.gi_mir.specs.declared.stage.Stage.TheVariants as stage
+use Rattle.gi_mir.specs.declared.typing.Letter.{Letter}
+use Rattle.gi_mir.specs.declared.typing.Letter.TheVariants as letter
+use Rattle.gi_mir.specs.declared.typing.Relation.{Relation}
+use Rattle.gi_mir.specs.declared.typing.Relation.TheVariants as relation
+use Rattle.gi_valid.specs.Definitions.{is_copy}
+
+-- ══ Phases ══
+
+-- whether registers have types: they do, they do and a copy joins any two while selection goes on, or they don't
+pub data Phase : Type 0 where
+  Typed : Phase
+  Selecting : Phase
+  Untyped : Phase
+
+abbrev pub phase_of : Stage → Phase
+phase_of stage.Selected = Untyped
+phase_of _ = Typed
+
+-- the type of a register, where it hasn't every type
+abbrev pub type_in : Phase → FunctionData → ℕ → Option Llt
+type_in Untyped f r = None
+type_in _ f r = type_of_kind (kind_of f r)
+
+-- ══ The places of a letter ══
+
+abbrev pub places_with : Letter → List Letter → (more : Option Letter) → List (Option Llt) → List (Option Llt)
+places_with l [] None types = []
+places_with l [] (Some m) types = if is_letter l m then types else []
+places_with l (m ∷ ms) more [] = []
+places_with l (m ∷ ms) more (ty ∷ types) = if is_letter l m then ty ∷ places_with l ms more types else places_with l ms more types
+
+abbrev pub places_of_letter : Letter → TypingData → (results sources : List (Option Llt)) → List (Option Llt)
+places_of_letter l typing results sources =
+    places_with l typing.results typing.more_results results ++ places_with l typing.sources typing.more_sources sources
+
+-- the types that are known
+abbrev pub known : List (Option Llt) → List Llt
+known [] = []
+known (None ∷ types) = known types
+known (Some ty ∷ types) = ty ∷ known types
+
+-- ══ The relation between A and B ══
+
+-- so many parts, two to sixteen
+abbrev pub is_count : (count : ℕ) → Bool
+is_count count = nat_le 2 count && nat_le count 16
+
+-- some types up to twice the width of a register are so related, of which these are the first that are known
+abbrev pub may_relate : (x : ℕ) → Relation → (firsts seconds : List Llt) → (count : ℕ) → Bool
+may_relate x relation.Free firsts seconds count = true
+may_relate x relation.Narrower (a ∷ firsts) (b ∷ seconds) count = nat_lt (scalar_bits a) (scalar_bits b)
+may_relate x relation.Narrower (a ∷ firsts) [] count = nat_lt (scalar_bits a) (2 * x)
+may_relate x relation.Narrower [] (b ∷ seconds) count = nat_lt 1 (scalar_bits b)
+may_relate x relation.Narrower [] [] count = true
+may_relate x relation.Wider (a ∷ firsts) (b ∷ seconds) count = nat_lt (scalar_bits b) (scalar_bits a)
+may_relate x relation.Wider (a ∷ firsts) [] count = nat_lt 1 (scalar_bits a)
+may_relate x relation.Wider [] (b ∷ seconds) count = nat_lt (scalar_bits b) (2 * x)
+may_relate x relation.Wider [] [] count = true
+may_relate x relation.Sum (a ∷ firsts) (b ∷ seconds) count = is_sum a b count
+may_relate x relation.Sum (a ∷ firsts) [] count = is_count count && (scalar_bits a % count == 0)
+may_relate x relation.Sum [] (b ∷ seconds) count = is_count count && nat_le (count * scalar_bits b) (2 * x)
+may_relate x relation.Sum [] [] count = is_count count
+
+-- each letter is one type of its class, and the types A and B may be related
+abbrev pub meets : (x : ℕ) → TypingData → (results sources : List (Option Llt)) → Bool
+meets x typing results sources =
+    list_all (λ l. are_one x (class_of typing l) (known (places_of_letter l typing results sources))) letters
+    && may_relate x typing.relation (known (places_of_letter letter.A typing results sources)) (known (places_of_letter letter.B typing results sources))
+    (length (places_of_letter letter.B typing results sources))
+
+-- ══ An instruction ══
+
+-- the virtual registers that are defined, and those that are read
+abbrev pub results_in : List Operand → List ℕ
+results_in [] = []
+results_in (operand.Def r kind ∷ os) = r.0 ∷ results_in os
+results_in (_ ∷ os) = results_in os
+
+abbrev pub sources_in : List Operand → List ℕ
+sources_in [] = []
+sources_in (operand.Use r ∷ os) = r.0 ∷ sources_in os
+sources_in (_ ∷ os) = sources_in os
+
+-- with the types of these registers, and of so many later ones every type, the row can be met
+abbrev pub is_met : (x : ℕ) → (type_of : ℕ → Option Llt) → TypingData → (results : ℕ) → (registers : List ℕ) → (later : ℕ) → Bool
+is_met x type_of typing results registers later =
+    let types : List (Option Llt) = map type_of registers ++ replicate later None in meets x typing (take results types) (drop results types)
+
+-- the first register, of those behind some, with whose type none of the later ones would meet the row
+abbrev pub first_unmet : (x : ℕ) → (type_of : ℕ → Option Llt) → TypingData → (results : ℕ) → (before behind : List ℕ) → Option ℕ
+first_unmet x type_of typing results before [] = None
+first_unmet x type_of typing results before (r ∷ rs) =
+    if is_met x type_of typing results (before ++ r ∷ []) (length rs)
+    then first_unmet x type_of typing results (before ++ r ∷ []) rs else Some r
+
+-- while selection goes on, a copy of a virtual register to a virtual register meets its row with any two types
+abbrev pub joins_any : Phase → InstrData → Bool
+joins_any Selecting i = is_copy i.op && list_any is_use i.operands
+joins_any _ i = false
+
+abbrev pub unmet : (x : ℕ) → (type_of : ℕ → Option Llt) → Option TypingData → List Operand → Option ℕ
+unmet x type_of None os = None
+unmet x type_of (Some typing) os = first_unmet x type_of typing (length (results_in os)) [] (results_in os ++ sources_in os)
+
+-- the register with whose type the row of an instruction can't be met
+abbrev pub mismatch : (x : ℕ) → Phase → FunctionData → InstrData → Option ℕ
+mismatch x phase f i = if joins_any phase i then None else unmet x (type_in phase f) (typing_of i.op) i.operands

@@ -1,0 +1,45 @@
+//! Small functions, valid and invalid: the definitions are neither empty nor too wide.
+
+ghost use Rattle.std.specs.Prelude.{◌≡◌, ◌∷◌, [], ℕ, Some};
+ghost use Rattle.gi_mir.specs.Data.{reg_of};
+ghost use Rattle.gi_mir.specs.declared.operand.Operand.TheVariants.{ImplicitUse, Use};
+ghost use Rattle.gi_meaning.specs.Runs.{setting_of};
+ghost use Rattle.gi_meaning.specs.State.{State};
+ghost use Rattle.gi_refine.specs.Reached.{IsReached};
+ghost use Rattle.gi_valid.specs.Available.{IsAvailable, IsExtent};
+ghost use Rattle.gi_valid.specs.Examples.{adds_a_byte, ahead_of_itself, defines_twice, divides_between, divides_first, extents_of_ahead, goes_nowhere, goes_on_behind, goes_round, joins_at_start, loop_phi, loop_sum, returns_nothing_there, returns_twice, world_with};
+ghost use Rattle.gi_valid.specs.Faults.{fault_at, faults};
+ghost use Rattle.gi_valid.specs.Typing.{Typed};
+ghost use Rattle.gi_valid.specs.Valid.{IsInvalid, IsValid, of_lowest_line};
+ghost use Rattle.gi_valid.specs.declared.invalid.Invalid.TheVariants.{DoubleDefinition, NotAvailable, PhiEntries, PhysicalAcross, Terminator, TypeMismatch, UnknownBlock};
+
+/// A loop with a phi is valid, and a division before a word is given to a call.
+pub fn examples_are_valid()
+    ensures loop_ { IsValid 32 Typed goes_round }
+    ensures division_first { IsValid 32 Typed divides_first }
+{}
+
+/// One function for each fault, with its line.
+pub fn examples_are_invalid()
+    ensures twice { IsInvalid 32 Typed defines_twice (fault_at 8 (DoubleDefinition (reg_of 0))) }
+    ensures not_there { IsInvalid 32 Typed returns_nothing_there (fault_at 8 (NotAvailable (ImplicitUse 10))) }
+    ensures mismatch { IsInvalid 32 Typed adds_a_byte (fault_at 9 (TypeMismatch (reg_of 1))) }
+    ensures nowhere { IsInvalid 32 Typed goes_nowhere (fault_at 8 (UnknownBlock 65540)) }
+    ensures first_block { IsInvalid 32 Typed joins_at_start (fault_at 8 PhiEntries) }
+    ensures across { IsInvalid 32 Typed divides_between (fault_at 10 (PhysicalAcross 10)) }
+    ensures return_behind_return { IsInvalid 32 Typed returns_twice (fault_at 8 Terminator) }
+    ensures behind_return { IsInvalid 32 Typed goes_on_behind (fault_at 9 Terminator) }
+{}
+
+/// A sum that takes a value of the round before it, where none was before the first: by sets that are contained as asked
+/// it is at fault.
+pub fn a_loop_is_invalid()
+    ensures contained { (r : ℕ) → IsExtent ahead_of_itself r (extents_of_ahead r) }
+    ensures told { of_lowest_line (faults 32 Typed ahead_of_itself extents_of_ahead) ≡ Some (fault_at 12 (NotAvailable (Use (reg_of 3)))) }
+{}
+
+/// In the loop's first round its sum is available behind it, and a run is there in which the sum holds 6, of 5 and 1.
+pub fn a_loop_runs()
+    ensures available { IsAvailable goes_round 1 (loop_phi ∷ loop_sum ∷ []) 4 }
+    ensures reached { (state : State) × IsReached (setting_of 32 [] goes_round) (world_with 5) goes_round.blocks 1 (loop_sum ∷ []) state × (state.values 2 ≡ Some 5) × (state.values 1 ≡ Some 1) × (state.values 4 ≡ Some 6) }
+{}

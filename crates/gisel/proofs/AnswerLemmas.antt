@@ -1,0 +1,81 @@
+-- What is told of an input for which a pass isn't built, and the machine of one that passes the checks.
+use Rattle.std.proofs.Common.{◌≡◌, ℕ, true, List, Option, Some, None, ap, sym, subst, refl}
+use Rattle.std.specs.Prelude.{Result, Ok, Err, IfOk}
+use Rattle.gi_mir.specs.Data.{ModuleData}
+use Rattle.gi_mir_read.specs.Sizes.{size_fault}
+use Rattle.gi_observe.specs.declared.pass.Pass.{Pass}
+use Rattle.gi_observe.specs.declared.pass.Pass.TheVariants.{RegBankSelect, Select}
+use Rattle.gi_spelling.specs.Lines.{lines_of}
+use Rattle.gi_text.specs.declared.token.SizeError.{SizeError}
+use Rattle.gisel.specs.Answers.{selects, IsChecked, IsNotBuilt, IsSelectedText}
+use Rattle.gisel.specs.Checks.{checked, fitting, keyed, sized, target_of}
+use Rattle.gisel.specs.Keys.{WrongKey, wrong_in}
+use Rattle.gisel.specs.Machine.{width_of}
+use Rattle.gisel.specs.Messages.{Tells}
+use Rattle.gisel.specs.Options.{OptionsData}
+use Rattle.gisel.specs.Promise.{Compiles, IsCompiled, IsTarget}
+use Rattle.gisel.specs.Refused.{AtLine, IsRefusedAt, IsStatedLines}
+use Rattle.gisel.specs.Unrun.{unbuilt}
+use Rattle.gisel.specs.declared.machine.Machine.{Machine}
+use Rattle.gisel.specs.declared.machine.Machine.TheVariants.{Riscv32, Riscv64}
+use Rattle.gisel.specs.declared.messages.Refused.{Refused}
+use Rattle.gisel.specs.declared.messages.Refused.TheVariants as refused
+use Rattle.gisel.specs.declared.refusal.Refusal.{Refusal}
+use Rattle.gisel.specs.declared.refusal.Refusal.TheVariants as refusal
+use Rattle.gisel.proofs.TextLemmas.{not_refused}
+
+pub tells_not_built : (options : OptionsData) (read : List ℕ) (start : Pass) (machine : Machine) (source : ModuleData) → IsChecked options read start machine source
+    → (selects start options.stop machine ≡ true → IsStatedLines (lines_of read) → ⊥)
+    → (why : Refused) → Tells why (λ message. unbuilt start options.stop source.functions ≡ Some message) → Tells why (IsNotBuilt options read)
+tells_not_built options read start machine source passes other (refused.Message message) told =
+    record { start = start; machine = machine; source = source; passes = passes; other = other; says = told }
+tells_not_built options read start machine source passes other refused.Memory told = told
+
+pub tells_memory : (why : Refused) (Such : List ℕ → Type 0) → why ≡ refused.Memory → Tells why Such
+tells_memory why Such is = subst (λ r. Tells r Such) (sym is) tt
+
+pub not_stated : (read : List ℕ) (line : ℕ) (why : Refusal) → why ≡ refusal.NotBuilt line → AtLine why (IsRefusedAt read) → IsStatedLines (lines_of read) → ⊥
+not_stated read line why is at stated = not_refused read line stated (subst (λ r. AtLine r (IsRefusedAt read)) is at)
+
+-- ══ The machine ══
+
+fitting_same : (found machine : Machine) (o : Option SizeError) → fitting found o ≡ Ok machine → found ≡ machine
+fitting_same found machine None h = cc
+fitting_same found machine (Some error) h = cc
+
+sized_target : (m : ModuleData) (r : Result Machine (List ℕ)) (machine : Machine) → sized m r ≡ Ok machine → r ≡ Ok machine
+sized_target m (Ok found) machine h = ap Ok (fitting_same found machine (size_fault (width_of found) m) h)
+sized_target m (Err message) machine h = cc
+
+keyed_same : (found machine : Machine) (o : Option WrongKey) → keyed o found ≡ Ok machine → found ≡ machine
+keyed_same found machine None h = cc
+keyed_same found machine (Some wrong) h = cc
+
+checked_target : (start : Pass) (m : ModuleData) (r : Result Machine (List ℕ)) (machine : Machine) → checked start m r ≡ Ok machine → r ≡ Ok machine
+checked_target start m (Ok found) machine h = ap Ok (keyed_same found machine (wrong_in start m) h)
+checked_target start m (Err message) machine h = cc
+
+pub its_target : (options : OptionsData) (read : List ℕ) (start : Pass) (machine : Machine) (source : ModuleData) → IsChecked options read start machine source → IsTarget options.target read machine
+its_target options read start machine source passes = record {
+  source = source;
+  reads = passes.reads;
+  told = checked_target start source (target_of options.target read source) machine
+      (sized_target source (checked start source (target_of options.target read source)) machine passes.right);
+}
+
+-- selection is built on RV32
+pub selects_32 : (start stop : Pass) (machine : Machine) → selects start stop machine ≡ true → width_of machine ≡ 32
+selects_32 start stop Riscv32 h = refl
+selects_32 RegBankSelect Select Riscv64 h = cc
+selects_32 RegBankSelect _ Riscv64 h = cc
+selects_32 _ stop Riscv64 h = cc
+
+pub its_compiled : (options : OptionsData) (read written : List ℕ) (start : Pass) (machine : Machine) (source : ModuleData) → IsChecked options read start machine source
+    → Compiles (width_of machine) read written → IsCompiled options read written
+its_compiled options read written start machine source passes compiles =
+    record { machine = machine; target = its_target options read start machine source passes; compiles = compiles }
+
+-- where an answer is right, what follows of each is right
+pub each_right : {X Y : Type 0} (P Q : X → Type 0) (r : Result X Y) → ((x : X) → P x → Q x) → IfOk r P → IfOk r Q
+each_right P Q (Ok x) f h = f x h
+each_right P Q (Err y) f h = tt

@@ -1,0 +1,234 @@
+//! Runs that end with their start: no pass is run, and the module is printed as it was read.
+
+ghost use Rattle.std.specs.Prelude.{◌≡◌, ◌<◌, IfErr, None, OnOk, Some, length, nat_lt};
+ghost use Rattle.std.specs.List.{list_all, list_any};
+ghost use Rattle.gi_mir.specs.Edit.{block_at};
+ghost use Rattle.gi_spelling.specs.There.{is_block_within, is_there_in, names_blocks_there, names_there};
+ghost use Rattle.gi_observe.specs.Passes.{word_of};
+ghost use Rattle.gisel.specs.Messages.{Tells, at_line, not_built};
+ghost use Rattle.gisel.specs.Unrun.{first_of, is_later, is_other_definition, later_in, later_in_blocks, later_in_instrs, later_line, later_message, runs_none, unbuilt, unprinted};
+
+use crate::messages::{Refused, not_built, not_built_at};
+use gi_mir::block::Numbered;
+use gi_mir::function::Function;
+use gi_mir::instr::Instr;
+use gi_mir::opcode::Opcode;
+use gi_mir::operand::Operand;
+use gi_mir::stage::Stage;
+use gi_observe::Pass;
+use std::alloc::Global;
+
+/// Whether no pass is run, behind one of the first two.
+fn runs_none(start: Pass, stop: Pass) -> bool
+    ensures { result ≡ runs_none start stop }
+{
+    match start {
+        Pass::IrTranslator => matches!(stop, Pass::IrTranslator),
+        Pass::PreCombiner => matches!(stop, Pass::PreCombiner),
+        _ => false,
+    }
+}
+
+/// Whether an operand defines a register of another class than `_`.
+fn is_other_definition(operand: Operand) -> bool
+    ensures { result ≡ is_other_definition operand }
+{
+    match operand {
+        Operand::Def(_, kind) => !Stage::Before.has_kind(kind),
+        _ => false,
+    }
+}
+
+/// Whether one of these operands does.
+fn any_other_definition(operands: &[Operand]) -> bool
+    ensures { result ≡ list_any is_other_definition operands.now }
+{
+    operands.iter().any(|operand| is_other_definition(*operand))
+}
+
+/// Whether an instruction is of a later stage.
+fn is_later(instr: &Instr) -> bool
+    ensures { result ≡ is_later instr.now }
+{
+    !Stage::Before.has_opcode(instr.op) || any_other_definition(instr.operands.as_slice())
+}
+
+/// The line and the opcode of an instruction of a later stage.
+fn later_line(instr: &Instr) -> Option<(u32, Opcode)>
+    ensures { result ≡ later_line instr.now }
+{
+    if is_later(instr) {
+        Some((instr.line, instr.op))
+    } else {
+        None
+    }
+}
+
+/// The first of these instructions that is of a later stage.
+fn later_in_instrs(instrs: &[Numbered]) -> Option<(u32, Opcode)>
+    ensures { result ≡ later_in_instrs instrs.now }
+{
+    for numbered in instrs {
+        if let Some(found) = later_line(&numbered.instr) {
+            return Some(found);
+        }
+    }
+    None
+}
+
+/// The first instruction of a function that is of a later stage.
+fn later_in_blocks(function: &Function) -> Option<(u32, Opcode)>
+    ensures { result ≡ later_in_blocks function.now.blocks }
+{
+    for block in 0..function.block_count() {
+        if let Some(found) = later_in_instrs(function.instrs(block)) {
+            return Some(found);
+        }
+    }
+    None
+}
+
+/// The line and the opcode of the first instruction of these functions that is of a later stage.
+fn later_in(functions: &[Function]) -> Option<(u32, Opcode)>
+    ensures { result ≡ later_in functions.now }
+{
+    for function in functions {
+        if let Some(found) = later_in_blocks(function) {
+            return Some(found);
+        }
+    }
+    None
+}
+
+/// Whether the block that an operand names is there, of so many.
+fn is_there(count: u32, operand: Operand) -> bool
+    ensures { result ≡ is_there_in count operand }
+{
+    match operand {
+        Operand::Block(place) => place < count,
+        _ => true,
+    }
+}
+
+/// Whether the blocks that an instruction names are there.
+fn names_there(count: u32, numbered: &Numbered) -> bool
+    ensures { result ≡ names_there count numbered.now }
+{
+    numbered
+        .instr
+        .operands
+        .as_slice()
+        .iter()
+        .all(|operand| is_there(count, *operand))
+}
+
+/// Whether the blocks are there that the instructions of a block name.
+fn all_name_there(count: u32, instrs: &[Numbered]) -> bool
+    ensures { result ≡ list_all (names_there count) instrs.now }
+{
+    instrs.iter().all(|numbered| names_there(count, numbered))
+}
+
+/// Whether these places are those of blocks.
+fn are_places(count: u32, places: &[u32]) -> bool
+    ensures { result ≡ list_all (λ place. nat_lt place count) places.now }
+{
+    places.iter().all(|place| *place < count)
+}
+
+/// Whether the blocks are there that a block and its instructions name.
+fn is_block_within(function: &Function, block: u32) -> bool
+    requires { block < length function.now.blocks }
+    ensures { result ≡ is_block_within (length function.now.blocks) (block_at function.now block) }
+{
+    let count = function.block_count();
+    are_places(count, function.block(block).successors.as_slice())
+        && all_name_there(count, function.instrs(block))
+}
+
+/// Whether the blocks are there that a function names.
+fn names_blocks_there(function: &Function) -> bool
+    ensures { result ≡ names_blocks_there function.now }
+{
+    for block in 0..function.block_count() {
+        if !is_block_within(function, block) {
+            return false;
+        }
+    }
+    true
+}
+
+/// Whether the blocks are there that these functions name.
+fn all_name_blocks_there(functions: &[Function]) -> bool
+    ensures { result ≡ list_all names_blocks_there functions.now }
+{
+    functions
+        .iter()
+        .all(|function| names_blocks_there(function))
+}
+
+/// The first pass that is to be run: the one after the start, or the start where the run ends with it.
+fn first_of(start: Pass, stop: Pass) -> Pass
+    ensures { result ≡ first_of start stop }
+{
+    if stop.place() == start.place() {
+        start
+    } else {
+        start.next()
+    }
+}
+
+/// What is said of a pass that isn't built.
+fn refused_pass(alloc: Global, pass: Pass) -> Refused
+    ensures { Tells result (λ message. message ≡ not_built (word_of pass)) }
+{
+    match not_built(alloc, pass.word()) {
+        Ok(message) => Refused::Message(message),
+        Err(_) => Refused::Memory,
+    }
+}
+
+/// What is said of an instruction of a later stage.
+fn refused_line(alloc: Global, line: u32, op: Opcode) -> Refused
+    ensures { Tells result (λ message. message ≡ later_message (line, op)) }
+{
+    match not_built_at(alloc, line, op.word()) {
+        Ok(message) => Refused::Message(message),
+        Err(_) => Refused::Memory,
+    }
+}
+
+/// Refuses functions that can't be printed as they were read.
+fn check_printed(
+    alloc: Global,
+    start: Pass,
+    stop: Pass,
+    functions: &[Function],
+) -> Result<(), Refused>
+    ensures built { OnOk result (unprinted start stop functions.now ≡ None) }
+    ensures refused { IfErr result (λ why. Tells why (λ message. unprinted start stop functions.now ≡ Some message)) }
+{
+    if !runs_none(start, stop) || !all_name_blocks_there(functions) {
+        return Err(refused_pass(alloc, first_of(start, stop)));
+    }
+    match later_in(functions) {
+        Some((line, op)) => Err(refused_line(alloc, line, op)),
+        None => Ok(()),
+    }
+}
+
+/// Refuses functions for which something isn't built.
+pub fn check_built(
+    alloc: Global,
+    start: Pass,
+    stop: Pass,
+    functions: &[Function],
+) -> Result<(), Refused>
+    ensures built { OnOk result (unbuilt start stop functions.now ≡ None) }
+    ensures refused { IfErr result (λ why. Tells why (λ message. unbuilt start stop functions.now ≡ Some message)) }
+{
+    match functions {
+        [] => Ok(()),
+        [_, ..] => check_printed(alloc, start, stop, functions),
+    }
+}
