@@ -31,3 +31,4 @@ pub mod StandingLemmas
 pub mod TextLaws
 pub mod TextLemmas
 pub mod TopLemmas
+pub mod ValidBlocks

@@ -19,6 +19,7 @@ use Rattle.gisel.specs.Options.{OptionsData, options_of}
 use Rattle.gisel.specs.Refused.{IsStatedLines}
 use Rattle.gisel.specs.Text.{IsText}
 use Rattle.gisel.specs.Unrun.{unbuilt}
+use Rattle.gisel.specs.Validity.{AreValidFor, SaysFaultOf}
 
 -- how many bytes of input are read at most
 abbrev pub limit : ℕ
@@ -44,6 +45,7 @@ pub record IsChecked (options : OptionsData) (read : List ℕ) (start : Pass) (m
   pub started : options.start ≡ Some start
   pub reads : IsReadModule read source
   pub right : check_of options.target start read source ≡ Ok machine
+  pub valid : AreValidFor machine start source.functions
 
 -- the text of what is selected
 pub record IsSelectedText (start stop : Pass) (machine : Machine) (read written : List ℕ) : Type 0 where
@@ -112,6 +114,16 @@ pub record IsWrongModule (options : OptionsData) (read message : List ℕ) : Typ
   pub reads : IsReadModule read source
   pub says : check_of options.target start read source ≡ Err message
 
+-- a function isn't valid
+pub record IsInvalidModule (options : OptionsData) (read message : List ℕ) : Type 0 where
+  pub start : Pass
+  pub started : options.start ≡ Some start
+  pub machine : Machine
+  pub source : ModuleData
+  pub reads : IsReadModule read source
+  pub right : check_of options.target start read source ≡ Ok machine
+  pub fault : SaysFaultOf machine start source.functions message
+
 -- a pass that is to be run isn't built, or not for such a text
 pub record IsNotBuilt (options : OptionsData) (read message : List ℕ) : Type 0 where
   pub start : Pass
@@ -123,7 +135,8 @@ pub record IsNotBuilt (options : OptionsData) (read message : List ℕ) : Type 0
 
 abbrev pub IsRefusedText : (options : OptionsData) (read message : List ℕ) → Type 0
 IsRefusedText options read message =
-    IsUntranslated options message ⊎ (IsWrongText options read message ⊎ (IsWrongModule options read message ⊎ IsNotBuilt options read message))
+    IsUntranslated options message
+    ⊎ (IsWrongText options read message ⊎ (IsWrongModule options read message ⊎ (IsInvalidModule options read message ⊎ IsNotBuilt options read message)))
 
 abbrev pub IsRefusal : (options : OptionsData) (read message : List ℕ) → Type 0
 IsRefusal options read message = IsTooLong read message ⊎ ((length read ≤ limit) × IsRefusedText options read message)

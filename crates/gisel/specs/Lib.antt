@@ -24,3 +24,4 @@ pub mod Statement
 pub mod Stop
 pub mod Text
 pub mod Unrun
+pub mod Validity

@@ -1,7 +1,7 @@
 -- Where the run ends with its start no pass is run, and the module is printed as it was read. So far this is built
 -- behind the first two passes, where a function is generic code.
-use Rattle.std.specs.Prelude.{ℕ, Bool, true, false, not, ◌&&◌, ◌||◌, List, [], ◌∷◌, ◌++◌, ◌==◌, Option, Some, None, option_map, codes, if◌then◌else◌}
-use Rattle.std.specs.List.{list_all, list_any}
+use Rattle.std.specs.Prelude.{ℕ, Bool, true, false, not, ◌||◌, List, [], ◌∷◌, ◌++◌, ◌==◌, Option, Some, None, option_map, codes, if◌then◌else◌}
+use Rattle.std.specs.List.{list_any}
 use Rattle.gi_mir.specs.Data.{InstrData, BlockData, FunctionData, ModuleData}
 use Rattle.gi_mir.specs.Row.{word_of as opcode_word}
 use Rattle.gi_mir.specs.Stages.{is_kind_of, is_opcode_of}
@@ -12,7 +12,6 @@ use Rattle.gi_mir.specs.declared.stage.Stage.TheVariants.{Before}
 use Rattle.gi_observe.specs.declared.pass.Pass.{Pass}
 use Rattle.gi_observe.specs.declared.pass.Pass.TheVariants.{IrTranslator, PreCombiner}
 use Rattle.gi_observe.specs.Passes.{word_of, place_of, next_of}
-use Rattle.gi_spelling.specs.There.{names_blocks_there}
 use Rattle.gisel.specs.Messages.{at_line, not_built}
 use Rattle.gisel.specs.Options.{or_else}
 
@@ -56,11 +55,11 @@ first_of start stop = if place_of stop == place_of start then start else next_of
 abbrev pub later_message : ℕ × Opcode → List ℕ
 later_message later = at_line later.0 (codes "not built " ++ opcode_word later.1)
 
--- what is said of functions that can't be printed as they were read, if that is so: a pass is run or one of them names
--- a block that isn't there, and else the first instruction of a later stage
+-- what is said of functions that can't be printed as they were read, if that is so: a pass is run, or an instruction is of
+-- a later stage
 abbrev pub unprinted : (start stop : Pass) → List FunctionData → Option (List ℕ)
 unprinted start stop functions =
-    if runs_none start stop && list_all names_blocks_there functions then option_map later_message (later_in functions)
+    if runs_none start stop then option_map later_message (later_in functions)
     else Some (not_built (word_of (first_of start stop)))
 
 -- where there is no function nothing is left to be built

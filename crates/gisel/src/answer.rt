@@ -20,6 +20,7 @@ use crate::messages::{Refused, not_built, syntax, unknown};
 use crate::options::Options;
 use crate::refusal::Refusal;
 use crate::unrun::check_built;
+use crate::validity::check_valid;
 use gi_mir::module::Module;
 use gi_mir_print::print;
 use gi_mir_read::read_mir;
@@ -114,6 +115,29 @@ fn passed(
     printed(alloc, m)
 }
 
+/// The machine that a module is for, where the module passes the checks.
+fn checked(
+    alloc: Global,
+    options: &Options<'_>,
+    start: Pass,
+    text: &[u8],
+    m: &Module,
+) -> Result<Machine, Refused>
+    requires within { length text.now ≤ limit }
+    requires started { options.now.start ≡ Some start }
+    requires reads { IsReadModule text.now m.now }
+    ensures passes { IfOk result (λ machine. IsChecked options.now text.now start machine m.now) }
+    ensures refused { IfErr result (λ why. Tells why (IsRefusedText options.now text.now)) }
+{
+    match check(alloc, options.target, start, text, m) {
+        Ok(machine) => match check_valid(alloc, machine, start, m.functions.as_slice()) {
+            Ok(()) => Ok(machine),
+            Err(why) => Err(why),
+        },
+        Err(why) => Err(why),
+    }
+}
+
 /// The text for a module that was read.
 fn answered(
     alloc: Global,
@@ -129,7 +153,7 @@ fn answered(
     ensures answer { IfOk result (λ written. IsAnswer options.now text.now written.items) }
     ensures refused { IfErr result (λ why. Tells why (IsRefusedText options.now text.now)) }
 {
-    match check(alloc, options.target, start, text, m) {
+    match checked(alloc, options, start, text, m) {
         Ok(machine) => passed(alloc, options, start, machine, text, m),
         Err(why) => Err(why),
     }

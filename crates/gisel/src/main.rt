@@ -25,6 +25,7 @@ mod statement;
 mod stop;
 mod top;
 mod unrun;
+mod validity;
 
 use gi_io::{StdInput, StdOutput, write_all};
 pub use laws::{refused_line_is_one, stated_text_is_one};

@@ -126,7 +126,7 @@ fn refuses_words_and_texts(rt: HostRuntime) -> Result<(), Fail> {
             &WORDS[..],
             difference,
             1,
-            "gisel: not built instruction-select\n",
+            "gisel: line 9: not available %0\n",
         ),
         (
             &WORDS[..],
@@ -305,6 +305,56 @@ fn takes_files(rt: HostRuntime) -> Result<(), Fail> {
         assert_eq!(rt; answered.out.as_slice(), out.as_bytes());
         assert_eq!(rt; answered.err.as_slice(), err.as_bytes());
         assert_eq!(rt; answered.status, status);
+    }
+    Ok(())
+}
+
+#[test]
+fn refuses_functions_that_are_not_valid(rt: HostRuntime) -> Result<(), Fail> {
+    let alloc = rt.alloc();
+    let words = [
+        "-mtriple=riscv32",
+        "-start-after=riscv-prelegalizer-combiner",
+        "-stop-after=legalizer",
+    ];
+    for (text, err) in [
+        (
+            "---\nname: f\nbody: |\n  bb.0:\n    liveins: $x10\n\n    %0:_(s32) = COPY $x10\n    %1:_(s32) = G_CONSTANT i32 1\n    G_BR %bb.1\n  bb.1:\n    %2:_(s32) = G_PHI %0(s32), %bb.0, %3(s32), %bb.1\n    %4:_(s32) = G_ADD %3, %1\n    %3:_(s32) = G_SUB %2, %4\n    G_BR %bb.1\n",
+            "gisel: line 12: not available %3\n",
+        ),
+        (
+            "---\nname: f\nbody: |\n  bb.0:\n    liveins: $x10, $x11\n\n    %0:_(s32) = COPY $x10\n    %1:_(s32) = COPY $x11\n    $x10 = COPY %0(s32)\n    %2:_(s32) = G_UDIV %0, %1\n    PseudoCALL target-flags(riscv-call) @g, csr_ilp32_lp64, implicit-def $x1, implicit $x10\n    $x10 = COPY %2(s32)\n    PseudoRET implicit $x10\n",
+            "gisel: line 10: physical across $x10\n",
+        ),
+        (
+            "---\nname: f\nbody: |\n  bb.0:\n    liveins: $x10\n\n    %0:_(s32) = COPY $x10\n    %0:_(s32) = G_CONSTANT i32 1\n    PseudoRET implicit $x10\n",
+            "gisel: line 8: double definition %0\n",
+        ),
+        (
+            "---\nname: f\nbody: |\n  bb.0:\n    liveins: $x10\n\n    %0:_(s32) = COPY $x10\n    %1:_(s8) = G_CONSTANT i8 1\n    %2:_(s32) = G_ADD %0, %1\n    PseudoRET implicit $x10\n",
+            "gisel: line 9: type mismatch %1\n",
+        ),
+        (
+            "---\nname: f\nbody: |\n  bb.0:\n    liveins: $x10\n\n    %0:_(s32) = COPY $x10\n    G_BR %bb.4\n",
+            "gisel: line 8: unknown block 4\n",
+        ),
+        (
+            "---\nname: f\nbody: |\n  bb.0:\n    liveins: $x10\n\n    %0:_(s32) = COPY $x10\n    %1:_(s32) = G_PHI %0(s32), %bb.0\n    PseudoRET implicit $x10\n",
+            "gisel: line 8: phi entries\n",
+        ),
+        (
+            "---\nname: f\nbody: |\n  bb.0:\n    liveins: $x11\n\n    %0:_(s32) = G_CONSTANT i32 0\n    PseudoRET implicit $x10\n    %1:_(s32) = G_CONSTANT i32 1\n",
+            "gisel: line 8: not available $x10\n",
+        ),
+        (
+            "---\nname: f\nbody: |\n  bb.0:\n    liveins: $x11\n\n    %0:_(s32) = G_CONSTANT i32 0\n    PseudoRET\n    %1:_(s32) = G_CONSTANT i32 1\n",
+            "gisel: line 9: terminator\n",
+        ),
+    ] {
+        let answered = run(alloc, &words, text.as_bytes().to_vec(alloc)?, &[], &[])?;
+        assert_eq!(rt; answered.err.as_slice(), err.as_bytes());
+        assert!(rt; answered.out.is_empty());
+        assert_eq!(rt; answered.status, 1);
     }
     Ok(())
 }

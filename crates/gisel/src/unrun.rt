@@ -1,9 +1,7 @@
 //! Runs that end with their start: no pass is run, and the module is printed as it was read.
 
-ghost use Rattle.std.specs.Prelude.{◌≡◌, ◌<◌, IfErr, None, OnOk, Some, length, nat_lt};
-ghost use Rattle.std.specs.List.{list_all, list_any};
-ghost use Rattle.gi_mir.specs.Edit.{block_at};
-ghost use Rattle.gi_spelling.specs.There.{is_block_within, is_there_in, names_blocks_there, names_there};
+ghost use Rattle.std.specs.Prelude.{◌≡◌, IfErr, None, OnOk, Some};
+ghost use Rattle.std.specs.List.{list_any};
 ghost use Rattle.gi_observe.specs.Passes.{word_of};
 ghost use Rattle.gisel.specs.Messages.{Tells, at_line, not_built};
 ghost use Rattle.gisel.specs.Unrun.{first_of, is_later, is_other_definition, later_in, later_in_blocks, later_in_instrs, later_line, later_message, runs_none, unbuilt, unprinted};
@@ -100,73 +98,6 @@ fn later_in(functions: &[Function]) -> Option<(u32, Opcode)>
     None
 }
 
-/// Whether the block that an operand names is there, of so many.
-fn is_there(count: u32, operand: Operand) -> bool
-    ensures { result ≡ is_there_in count operand }
-{
-    match operand {
-        Operand::Block(place) => place < count,
-        _ => true,
-    }
-}
-
-/// Whether the blocks that an instruction names are there.
-fn names_there(count: u32, numbered: &Numbered) -> bool
-    ensures { result ≡ names_there count numbered.now }
-{
-    numbered
-        .instr
-        .operands
-        .as_slice()
-        .iter()
-        .all(|operand| is_there(count, *operand))
-}
-
-/// Whether the blocks are there that the instructions of a block name.
-fn all_name_there(count: u32, instrs: &[Numbered]) -> bool
-    ensures { result ≡ list_all (names_there count) instrs.now }
-{
-    instrs.iter().all(|numbered| names_there(count, numbered))
-}
-
-/// Whether these places are those of blocks.
-fn are_places(count: u32, places: &[u32]) -> bool
-    ensures { result ≡ list_all (λ place. nat_lt place count) places.now }
-{
-    places.iter().all(|place| *place < count)
-}
-
-/// Whether the blocks are there that a block and its instructions name.
-fn is_block_within(function: &Function, block: u32) -> bool
-    requires { block < length function.now.blocks }
-    ensures { result ≡ is_block_within (length function.now.blocks) (block_at function.now block) }
-{
-    let count = function.block_count();
-    are_places(count, function.block(block).successors.as_slice())
-        && all_name_there(count, function.instrs(block))
-}
-
-/// Whether the blocks are there that a function names.
-fn names_blocks_there(function: &Function) -> bool
-    ensures { result ≡ names_blocks_there function.now }
-{
-    for block in 0..function.block_count() {
-        if !is_block_within(function, block) {
-            return false;
-        }
-    }
-    true
-}
-
-/// Whether the blocks are there that these functions name.
-fn all_name_blocks_there(functions: &[Function]) -> bool
-    ensures { result ≡ list_all names_blocks_there functions.now }
-{
-    functions
-        .iter()
-        .all(|function| names_blocks_there(function))
-}
-
 /// The first pass that is to be run: the one after the start, or the start where the run ends with it.
 fn first_of(start: Pass, stop: Pass) -> Pass
     ensures { result ≡ first_of start stop }
@@ -208,7 +139,7 @@ fn check_printed(
     ensures built { OnOk result (unprinted start stop functions.now ≡ None) }
     ensures refused { IfErr result (λ why. Tells why (λ message. unprinted start stop functions.now ≡ Some message)) }
 {
-    if !runs_none(start, stop) || !all_name_blocks_there(functions) {
+    if !runs_none(start, stop) {
         return Err(refused_pass(alloc, first_of(start, stop)));
     }
     match later_in(functions) {

@@ -1,0 +1,12 @@
+pub mod Backwards
+pub mod Finding
+pub mod Front
+pub mod Growing
+pub mod KindLemmas
+pub mod Letters
+pub mod Marking
+pub mod Missing
+pub mod Placing
+pub mod Same
+pub mod Told
+pub mod Unmet
