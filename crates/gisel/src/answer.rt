@@ -14,12 +14,11 @@ ghost use Rattle.gisel.specs.Promise.{Compiles, IsCompiled};
 ghost use Rattle.gi_observe.specs.Passes.{word_of};
 
 use crate::checks::{check, slice};
-use crate::compile::compile;
 use crate::machine::Machine;
 use crate::messages::{Refused, not_built, syntax, unknown};
 use crate::options::Options;
-use crate::refusal::Refusal;
-use crate::unrun::check_built;
+use crate::select::select_module;
+use crate::unrun::{check_built, selects};
 use crate::validity::check_valid;
 use gi_mir::module::Module;
 use gi_mir_print::print;
@@ -27,19 +26,6 @@ use gi_mir_read::read_mir;
 use gi_observe::Pass;
 use gi_text::TextError;
 use std::alloc::Global;
-
-/// Whether the passes are built that are asked for: selection on RV32.
-fn selects(start: Pass, stop: Pass, machine: Machine) -> bool
-    ensures { result ≡ selects start stop machine }
-{
-    match start {
-        Pass::RegBankSelect => match stop {
-            Pass::Select => matches!(machine, Machine::Riscv32),
-            _ => false,
-        },
-        _ => false,
-    }
-}
 
 /// What is said of a text with a line that spells nothing.
 fn wrong_text(alloc: Global, text: &[u8], why: TextError) -> Refused
@@ -69,27 +55,15 @@ fn printed(alloc: Global, m: &Module) -> Result<Vec<u8>, Refused>
     }
 }
 
-/// The text of what is selected, where the passes are built that are asked for.
-fn selected(
-    alloc: Global,
-    start: Pass,
-    stop: Pass,
-    machine: Machine,
-    text: &[u8],
-) -> Result<Option<Vec<u8>>, Refused>
-    requires { length text.now ≤ limit }
-    ensures compiled { IfOk result (λ found. IfSome found (λ written. Compiles (width_of machine) text.now written.items)) }
-    ensures text { IfOk result (λ found. IfSome found (λ written. IsSelectedText start stop machine text.now written.items)) }
-    ensures other { IfOk result (λ found. found ≡ None → selects start stop machine ≡ true → IsStatedLines (lines_of text.now) → ⊥) }
+/// The text of what is selected.
+fn selected(alloc: Global, m: Module) -> Result<Vec<u8>, Refused>
+    requires { AllSelectable m.functions }
+    ensures text { IfOk result (λ text. IsSelectedText m text.items) }
     ensures memory { IfErr result (λ why. why ≡ Refused.Memory) }
 {
-    if !selects(start, stop, machine) {
-        return Ok(None);
-    }
-    match compile(alloc, text) {
-        Ok(written) => Ok(Some(written)),
-        Err(Refusal::Memory) => Err(Refused::Memory),
-        Err(Refusal::NotBuilt { .. }) => Ok(None),
+    match select_module(alloc, m) {
+        Ok(selected) => printed(alloc, &selected),
+        Err(_) => Err(Refused::Memory),
     }
 }
 
@@ -100,19 +74,20 @@ fn passed(
     start: Pass,
     machine: Machine,
     text: &[u8],
-    m: &Module,
+    m: Module,
 ) -> Result<Vec<u8>, Refused>
     requires within { length text.now ≤ limit }
-    requires passes { IsChecked options.now text.now start machine m.now }
+    requires passes { IsChecked options.now text.now start machine m }
     ensures compiled { IfOk result (λ written. IsCompiled options.now text.now written.items) }
     ensures answer { IfOk result (λ written. IsAnswer options.now text.now written.items) }
     ensures refused { IfErr result (λ why. Tells why (IsNotBuilt options.now text.now)) }
 {
-    if let Some(written) = selected(alloc, start, options.stop, machine, text)? {
-        return Ok(written);
+    check_built(alloc, start, options.stop, machine, m.functions.as_slice())?;
+    if selects(start, options.stop, machine) {
+        selected(alloc, m)
+    } else {
+        printed(alloc, &m)
     }
-    check_built(alloc, start, options.stop, m.functions.as_slice())?;
-    printed(alloc, m)
 }
 
 /// The machine that a module is for, where the module passes the checks.
@@ -144,16 +119,16 @@ fn answered(
     options: &Options<'_>,
     start: Pass,
     text: &[u8],
-    m: &Module,
+    m: Module,
 ) -> Result<Vec<u8>, Refused>
     requires within { length text.now ≤ limit }
     requires started { options.now.start ≡ Some start }
-    requires reads { IsReadModule text.now m.now }
+    requires reads { IsReadModule text.now m }
     ensures compiled { IfOk result (λ written. IsCompiled options.now text.now written.items) }
     ensures answer { IfOk result (λ written. IsAnswer options.now text.now written.items) }
     ensures refused { IfErr result (λ why. Tells why (IsRefusedText options.now text.now)) }
 {
-    match checked(alloc, options, start, text, m) {
+    match checked(alloc, options, start, text, &m) {
         Ok(machine) => passed(alloc, options, start, machine, text, m),
         Err(why) => Err(why),
     }
@@ -180,7 +155,7 @@ pub fn answer(alloc: Global, options: &Options<'_>, text: &[u8]) -> Result<Vec<u
         return Err(untranslated(alloc));
     };
     match read_mir(alloc, text) {
-        Ok(m) => answered(alloc, options, start, text, &m),
+        Ok(m) => answered(alloc, options, start, text, m),
         Err(why) => Err(wrong_text(alloc, text, why)),
     }
 }

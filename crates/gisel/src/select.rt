@@ -17,7 +17,7 @@ use gi_mir::function::Function;
 use gi_mir::instr::Instr;
 use gi_mir::module::Module;
 use gi_mir::opcode::Opcode;
-use gi_mir::operand::{Flags, Kind, Operand, Reg};
+use gi_mir::operand::{Flags, Kind, Operand, Reg, StackObject};
 use smallvec::SmallVec;
 use std::alloc::Global;
 use std::collections::{HashMap, HashSet};
@@ -343,20 +343,54 @@ fn put_backwards(selected: &mut Function, instrs: Vec<Instr>) -> Result<(), Memo
     Ok(())
 }
 
-/// The function after selection.
-pub fn select(alloc: Global, function: &Function) -> Result<Function, Memory>
-    requires { IsSelectable function.now }
+/// Adds a stack object.
+fn add_object(selected: &mut Function, object: StackObject) -> Result<(), Memory>
+    ensures { OnOk result (selected.new ≡ with_stack selected.old object) }
+{
+    if selected.stack().len() >= u32::MAX as usize {
+        return Err(Memory);
+    }
+    selected.add_stack(object)?;
+    Ok(())
+}
+
+/// What a function becomes, without its blocks.
+fn emptied(alloc: Global, function: &Function) -> Result<Function, Memory>
+    ensures { IfOk result (λ selected. selected ≡ emptied function.now) }
+{
+    let mut selected = Function::new(alloc, function.name_number());
+    let (legalized, banked, _) = function.keys();
+    selected.set_keys(legalized, banked, true);
+    for object in function.stack() {
+        add_object(&mut selected, *object)?;
+    }
+    Ok(selected)
+}
+
+/// What a function of one block becomes.
+fn select_block(alloc: Global, function: &Function) -> Result<Function, Memory>
+    requires { IsOneBlock function.now }
     ensures { IfOk result (λ selected. IsSelected function.now selected) }
 {
     let instrs = function.instrs(0);
     let constants = short_constants(alloc, instrs)?;
     let backwards = selected_backwards(alloc, instrs, &constants)?;
-    let mut selected = Function::new(alloc, function.name_number());
+    let mut selected = emptied(alloc, function)?;
     selected.add_block(head_copy(alloc, function.block(0))?)?;
-    let (legalized, banked, _) = function.keys();
-    selected.set_keys(legalized, banked, true);
     put_backwards(&mut selected, backwards)?;
     Ok(selected)
+}
+
+/// The function after selection.
+pub fn select(alloc: Global, function: &Function) -> Result<Function, Memory>
+    requires { IsSelectable function.now }
+    ensures { IfOk result (λ selected. IsSelected function.now selected) }
+{
+    if function.block_count() == 0 {
+        emptied(alloc, function)
+    } else {
+        select_block(alloc, function)
+    }
 }
 
 /// The module after selection, function by function.

@@ -6,7 +6,9 @@ ghost use Rattle.gi_observe.specs.Passes.{word_of};
 ghost use Rattle.gisel.specs.Messages.{Tells, at_line, not_built};
 ghost use Rattle.gisel.specs.Unrun.{first_of, is_later, is_other_definition, later_in, later_in_blocks, later_in_instrs, later_line, later_message, runs_none, unbuilt, unprinted};
 
+use crate::machine::Machine;
 use crate::messages::{Refused, not_built, not_built_at};
+use crate::unselected::{any_blank, unselected_in};
 use gi_mir::block::Numbered;
 use gi_mir::function::Function;
 use gi_mir::instr::Instr;
@@ -15,6 +17,19 @@ use gi_mir::operand::Operand;
 use gi_mir::stage::Stage;
 use gi_observe::Pass;
 use std::alloc::Global;
+
+/// Whether the passes are built that are asked for: selection on RV32.
+pub fn selects(start: Pass, stop: Pass, machine: Machine) -> bool
+    ensures { result ≡ selects start stop machine }
+{
+    match start {
+        Pass::RegBankSelect => match stop {
+            Pass::Select => matches!(machine, Machine::Riscv32),
+            _ => false,
+        },
+        _ => false,
+    }
+}
 
 /// Whether no pass is run, behind one of the first two.
 fn runs_none(start: Pass, stop: Pass) -> bool
@@ -148,18 +163,44 @@ fn check_printed(
     }
 }
 
+/// What is said of a function of several blocks without an instruction.
+fn refused_blank(alloc: Global) -> Refused
+    ensures { Tells result (λ message. message ≡ blank_message) }
+{
+    match not_built_at(alloc, 1, Pass::Select.word()) {
+        Ok(message) => Refused::Message(message),
+        Err(_) => Refused::Memory,
+    }
+}
+
+/// Refuses functions that aren't selected.
+fn check_selected(alloc: Global, functions: &[Function]) -> Result<(), Refused>
+    ensures built { OnOk result (unselected functions.now ≡ None) }
+    ensures refused { IfErr result (λ why. Tells why (λ message. unselected functions.now ≡ Some message)) }
+{
+    if any_blank(functions) {
+        return Err(refused_blank(alloc));
+    }
+    match unselected_in(functions) {
+        Some((line, op)) => Err(refused_line(alloc, line, op)),
+        None => Ok(()),
+    }
+}
+
 /// Refuses functions for which something isn't built.
 pub fn check_built(
     alloc: Global,
     start: Pass,
     stop: Pass,
+    machine: Machine,
     functions: &[Function],
 ) -> Result<(), Refused>
-    ensures built { OnOk result (unbuilt start stop functions.now ≡ None) }
-    ensures refused { IfErr result (λ why. Tells why (λ message. unbuilt start stop functions.now ≡ Some message)) }
+    ensures built { OnOk result (unbuilt start stop machine functions.now ≡ None) }
+    ensures refused { IfErr result (λ why. Tells why (λ message. unbuilt start stop machine functions.now ≡ Some message)) }
 {
     match functions {
         [] => Ok(()),
+        [_, ..] if selects(start, stop, machine) => check_selected(alloc, functions),
         [_, ..] => check_printed(alloc, start, stop, functions),
     }
 }
