@@ -5,37 +5,28 @@ use Rattle.gi_mir.specs.Data.{ModuleData}
 use Rattle.gi_mir_read.specs.Sizes.{size_fault}
 use Rattle.gi_observe.specs.declared.pass.Pass.{Pass}
 use Rattle.gi_observe.specs.declared.pass.Pass.TheVariants.{RegBankSelect, Select}
-use Rattle.gi_spelling.specs.Lines.{lines_of}
 use Rattle.gi_text.specs.declared.token.SizeError.{SizeError}
-use Rattle.gisel.specs.Answers.{selects, IsChecked, IsNotBuilt, IsSelectedText}
+use Rattle.gisel.specs.Answers.{IsChecked, IsNotBuilt}
 use Rattle.gisel.specs.Checks.{checked, fitting, keyed, sized, target_of}
 use Rattle.gisel.specs.Keys.{WrongKey, wrong_in}
 use Rattle.gisel.specs.Machine.{width_of}
 use Rattle.gisel.specs.Messages.{Tells}
 use Rattle.gisel.specs.Options.{OptionsData}
 use Rattle.gisel.specs.Promise.{Compiles, IsCompiled, IsTarget}
-use Rattle.gisel.specs.Refused.{AtLine, IsRefusedAt, IsStatedLines}
-use Rattle.gisel.specs.Unrun.{unbuilt}
+use Rattle.gisel.specs.Unrun.{selects, unbuilt}
 use Rattle.gisel.specs.declared.machine.Machine.{Machine}
 use Rattle.gisel.specs.declared.machine.Machine.TheVariants.{Riscv32, Riscv64}
 use Rattle.gisel.specs.declared.messages.Refused.{Refused}
 use Rattle.gisel.specs.declared.messages.Refused.TheVariants as refused
-use Rattle.gisel.specs.declared.refusal.Refusal.{Refusal}
-use Rattle.gisel.specs.declared.refusal.Refusal.TheVariants as refusal
-use Rattle.gisel.proofs.TextLemmas.{not_refused}
 
 pub tells_not_built : (options : OptionsData) (read : List ℕ) (start : Pass) (machine : Machine) (source : ModuleData) → IsChecked options read start machine source
-    → (selects start options.stop machine ≡ true → IsStatedLines (lines_of read) → ⊥)
-    → (why : Refused) → Tells why (λ message. unbuilt start options.stop source.functions ≡ Some message) → Tells why (IsNotBuilt options read)
-tells_not_built options read start machine source passes other (refused.Message message) told =
-    record { start = start; machine = machine; source = source; passes = passes; other = other; says = told }
-tells_not_built options read start machine source passes other refused.Memory told = told
+    → (why : Refused) → Tells why (λ message. unbuilt start options.stop machine source.functions ≡ Some message) → Tells why (IsNotBuilt options read)
+tells_not_built options read start machine source passes (refused.Message message) told =
+    record { start = start; machine = machine; source = source; passes = passes; says = told }
+tells_not_built options read start machine source passes refused.Memory told = told
 
 pub tells_memory : (why : Refused) (Such : List ℕ → Type 0) → why ≡ refused.Memory → Tells why Such
 tells_memory why Such is = subst (λ r. Tells r Such) (sym is) tt
-
-pub not_stated : (read : List ℕ) (line : ℕ) (why : Refusal) → why ≡ refusal.NotBuilt line → AtLine why (IsRefusedAt read) → IsStatedLines (lines_of read) → ⊥
-not_stated read line why is at stated = not_refused read line stated (subst (λ r. AtLine r (IsRefusedAt read)) is at)
 
 -- ══ The machine ══
 

@@ -7,10 +7,9 @@ use Rattle.gi_mir.specs.Data.{InstrData, BlockData, FunctionData}
 use Rattle.gi_mir.specs.declared.opcode.Opcode.{Opcode}
 use Rattle.gi_observe.specs.declared.pass.Pass.TheVariants.{Select}
 use Rattle.gi_observe.specs.Passes.{word_of}
-use Rattle.gisel.specs.Messages.{at_line}
+use Rattle.gisel.specs.Messages.{at_line, unbuilt_line}
 use Rattle.gisel.specs.Options.{or_else}
 use Rattle.gisel.specs.Shapes.{is_shaped}
-use Rattle.gisel.specs.Unrun.{later_message}
 
 -- the line and the opcode of an instruction of another shape
 abbrev pub other_line : InstrData → Option (ℕ × Opcode)
@@ -52,8 +51,10 @@ unselected_in (f ∷ functions) = or_else (unselected_in_function f) (unselected
 abbrev pub is_blank : FunctionData → Bool
 is_blank f = has_several f && is_none (last_of f)
 
--- what is said of functions that aren't selected, if one isn't: the first line stands for a blank one
+-- the first line stands for such a one
+abbrev pub blank_message : List ℕ
+blank_message = at_line 1 (codes "not built " ++ word_of Select)
+
+-- what is said of functions that aren't selected, if one isn't
 abbrev pub unselected : List FunctionData → Option (List ℕ)
-unselected functions =
-    if list_any is_blank functions then Some (at_line 1 (codes "not built " ++ word_of Select))
-    else option_map later_message (unselected_in functions)
+unselected functions = if list_any is_blank functions then Some blank_message else option_map unbuilt_line (unselected_in functions)

@@ -4,13 +4,11 @@ ghost use Rattle.std.specs.Prelude.{◌≡◌, ◌≤◌, ◌-◌, ◌^◌, ◌<
 ghost use Rattle.gi_spelling.specs.Documents.{wrong_in};
 ghost use Rattle.gi_spelling.specs.Read.{IsReadModule, IsRefusal};
 ghost use Rattle.gi_mir.specs.Numbering.{numbered_module};
-ghost use Rattle.gi_spelling.specs.Lines.{lines_of};
 ghost use Rattle.gi_spelling.specs.Printed.{printed};
-ghost use Rattle.gisel.specs.Answers.{limit, selects, IsChecked, IsAnswer, IsWrongLine, IsNotBuilt, IsRefusedText, IsSelectedText};
-ghost use Rattle.gisel.specs.Machine.{width_of};
-ghost use Rattle.gisel.specs.Refused.{IsStatedLines};
+ghost use Rattle.gisel.specs.Answers.{limit, IsChecked, IsAnswer, IsWrongLine, IsNotBuilt, IsRefusedText, IsSelectedText};
 ghost use Rattle.gisel.specs.Messages.{Tells, not_built};
-ghost use Rattle.gisel.specs.Promise.{Compiles, IsCompiled};
+ghost use Rattle.gisel.specs.Promise.{IsCompiled};
+ghost use Rattle.gisel.specs.Selectable.{AllSelectable};
 ghost use Rattle.gi_observe.specs.Passes.{word_of};
 
 use crate::checks::{check, slice};

@@ -5,10 +5,11 @@ ghost use Rattle.std.specs.Prelude.{◌≡◌, ◌==◌, ◌||◌, ℕ, ◌∷�
 ghost use Rattle.std.specs.HashMap.{get};
 ghost use Rattle.std.specs.HashSet.{contains};
 ghost use Rattle.std.specs.List.{AllZip, list_all, list_any};
+ghost use Rattle.gi_mir.specs.Edit.{with_stack};
 ghost use Rattle.gi_mir.specs.Formed.{is_formed};
 ghost use Rattle.gisel.specs.Rows.{is_use_of};
-ghost use Rattle.gisel.specs.Selectable.{IsSelectable, AllSelectable};
-ghost use Rattle.gisel.specs.Selecting.{AreStated, short_of, constant_root, sum_root, root_of, result_of, with_constant, plain, selected_sum, selected_root, selected_where, selected_list, short_among, with_all};
+ghost use Rattle.gisel.specs.Selectable.{IsOneBlock, IsSelectable, AllSelectable};
+ghost use Rattle.gisel.specs.Selecting.{AreShaped, short_of, constant_root, sum_root, root_of, result_of, with_constant, plain, selected_sum, selected_root, selected_where, selected_list, short_among, with_all, emptied};
 ghost use Rattle.gisel.specs.Selection.{classed_operand, classed_instr, IsSelected, IsSelectedModule};
 
 use gi_llt::Memory;
@@ -117,7 +118,7 @@ fn keep_constant(constants: &mut HashMap<u32, i128>, root: Option<Root>) -> Resu
 
 /// The short constants by their registers.
 fn short_constants(alloc: Global, instrs: &[Numbered]) -> Result<HashMap<u32, i128>, Memory>
-    requires { AreStated instrs.now }
+    requires { AreShaped instrs.now }
     ensures { IfOk result (λ constants. (r : ℕ) → get nat_eq constants r ≡ short_among instrs.now r) }
 {
     let mut constants = HashMap::new(alloc);
@@ -302,7 +303,7 @@ fn selected_backwards(
     instrs: &[Numbered],
     constants: &HashMap<u32, i128>,
 ) -> Result<Vec<Instr>, Memory>
-    requires { AreStated instrs.now }
+    requires { AreShaped instrs.now }
     ensures selected { IfOk result (λ selected. selected.items ≡ reverse (selected_list (get nat_eq constants.now) instrs.now)) }
     ensures formed { IfOk result (λ selected. list_all is_formed selected.items ≡ true) }
 {

@@ -1,10 +1,11 @@
-//! Runs that end with their start: no pass is run, and the module is printed as it was read.
+//! Which runs are built: selection on RV32, and runs that end with their start, in which no pass is run.
 
 ghost use Rattle.std.specs.Prelude.{◌≡◌, IfErr, None, OnOk, Some};
 ghost use Rattle.std.specs.List.{list_any};
 ghost use Rattle.gi_observe.specs.Passes.{word_of};
-ghost use Rattle.gisel.specs.Messages.{Tells, at_line, not_built};
-ghost use Rattle.gisel.specs.Unrun.{first_of, is_later, is_other_definition, later_in, later_in_blocks, later_in_instrs, later_line, later_message, runs_none, unbuilt, unprinted};
+ghost use Rattle.gisel.specs.Messages.{Tells, at_line, not_built, unbuilt_line};
+ghost use Rattle.gisel.specs.Unrun.{first_of, is_later, is_other_definition, later_in, later_in_blocks, later_in_instrs, later_line, runs_none, selects, unbuilt, unprinted};
+ghost use Rattle.gisel.specs.Unselected.{blank_message, unselected};
 
 use crate::machine::Machine;
 use crate::messages::{Refused, not_built, not_built_at};
@@ -134,9 +135,9 @@ fn refused_pass(alloc: Global, pass: Pass) -> Refused
     }
 }
 
-/// What is said of an instruction of a later stage.
+/// What is said of an instruction that isn't built.
 fn refused_line(alloc: Global, line: u32, op: Opcode) -> Refused
-    ensures { Tells result (λ message. message ≡ later_message (line, op)) }
+    ensures { Tells result (λ message. message ≡ unbuilt_line (line, op)) }
 {
     match not_built_at(alloc, line, op.word()) {
         Ok(message) => Refused::Message(message),

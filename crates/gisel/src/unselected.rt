@@ -2,7 +2,7 @@
 
 ghost use Rattle.std.specs.Prelude.{◌≡◌, None, Some};
 ghost use Rattle.std.specs.List.{list_any};
-ghost use Rattle.gisel.specs.Unselected.{is_blank, last_in_blocks, last_in_instrs, last_of, line_of, other_in_blocks, other_in_instrs, other_line, several, unselected_in, unselected_in_function};
+ghost use Rattle.gisel.specs.Unselected.{is_blank, last_in_blocks, last_in_instrs, last_of, other_in_blocks, other_in_instrs, other_line, unselected_in, unselected_in_function};
 
 use crate::shapes::is_shaped;
 use gi_mir::block::Numbered;
