@@ -19,3 +19,4 @@ pub mod SelectSteps
 pub mod SelectedPrintable
 pub mod TopLemmas
 pub mod ValidBlocks
+pub mod ValidShapes

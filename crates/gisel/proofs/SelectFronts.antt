@@ -203,7 +203,7 @@ apart defined a r here absent = apart_by defined a r (a == r) refl here absent
 pub new_is_absent : (defined : List ℕ) (d : ℕ) → not (is_among defined d) ≡ true → is_among defined d ≡ false
 new_is_absent defined d h = not-true (is_among defined d) h
 
-defines_next : (defined : List ℕ) (s : ShapedInstr) (id line r : ℕ)
+pub defines_next : (defined : List ℕ) (s : ShapedInstr) (id line r : ℕ)
     → (list_any (defines r) ((id, shaped_instr s line) ∷ []) || is_among defined r) ≡ is_among (defined_after defined s) r
 defines_next defined (CopyIn d p) id line r = ap (λ b. b || is_among defined r) (or_none ((d == r) || false) ∙ or_none (d == r))
 defines_next defined (MakeConstant d v) id line r = ap (λ b. b || is_among defined r) (or_none ((d == r) || false) ∙ or_none (d == r))
