@@ -1,11 +1,11 @@
 //! From the options and an input to the text that is written.
 
-ghost use Rattle.std.specs.Prelude.{◌≡◌, ◌≤◌, ◌-◌, ◌^◌, ◌<◌, IfOk, IfErr, IfSome, None, Some, length, true};
+ghost use Rattle.std.specs.Prelude.{◌≡◌, ◌≤◌, ◌-◌, ◌^◌, ◌<◌, IfOk, IfErr, None, Some, length, true};
 ghost use Rattle.gi_spelling.specs.Documents.{wrong_in};
 ghost use Rattle.gi_spelling.specs.Read.{IsReadModule, IsRefusal};
 ghost use Rattle.gi_mir.specs.Numbering.{numbered_module};
 ghost use Rattle.gi_spelling.specs.Printed.{printed};
-ghost use Rattle.gisel.specs.Answers.{limit, IsChecked, IsAnswer, IsWrongLine, IsNotBuilt, IsRefusedText, IsSelectedText};
+ghost use Rattle.gisel.specs.Answers.{limit, IsChecked, IsAnswer, IsWrongLine, IsNotBuilt, IsRefusedText, IsSelectedText, IsTextOf};
 ghost use Rattle.gisel.specs.Messages.{Tells, not_built};
 ghost use Rattle.gisel.specs.Promise.{IsCompiled};
 ghost use Rattle.gisel.specs.Selectable.{AllSelectable};
@@ -65,6 +65,19 @@ fn selected(alloc: Global, m: Module) -> Result<Vec<u8>, Refused>
     }
 }
 
+/// The text of a module where selection is run, or where no pass is.
+fn text_of(alloc: Global, is_selected: bool, m: Module) -> Result<Vec<u8>, Refused>
+    requires { is_selected ≡ true → AllSelectable m.functions }
+    ensures text { IfOk result (λ text. IsTextOf is_selected m text.items) }
+    ensures memory { IfErr result (λ why. why ≡ Refused.Memory) }
+{
+    if is_selected {
+        selected(alloc, m)
+    } else {
+        printed(alloc, &m)
+    }
+}
+
 /// The text of a module that passes the checks.
 fn passed(
     alloc: Global,
@@ -81,11 +94,7 @@ fn passed(
     ensures refused { IfErr result (λ why. Tells why (IsNotBuilt options.now text.now)) }
 {
     check_built(alloc, start, options.stop, machine, m.functions.as_slice())?;
-    if selects(start, options.stop, machine) {
-        selected(alloc, m)
-    } else {
-        printed(alloc, &m)
-    }
+    text_of(alloc, selects(start, options.stop, machine), m)
 }
 
 /// The machine that a module is for, where the module passes the checks.
