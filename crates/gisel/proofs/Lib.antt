@@ -7,6 +7,7 @@ pub mod CompileLaws
 pub mod MachineSums
 pub mod MessageLemmas
 pub mod NormalForms
+pub mod OneText
 pub mod OptionLemmas
 pub mod PrintedLaws
 pub mod SameRuns
