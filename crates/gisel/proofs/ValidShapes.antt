@@ -4,7 +4,7 @@ use Rattle.std.proofs.Common.{◌≡◌, ℕ, suc, ◌+◌, ◌<◌, ◌≤◌, 
 use Rattle.std.specs.Prelude.{⊤, nat_lt, if◌then◌else◌}
 use Rattle.std.specs.Option.{is_none}
 use Rattle.std.specs.List.{AllZip, list_all, list_any}
-use Rattle.std.proofs.lemmas.Bool.{and_parts, or_cases, eqb-true, eq-eqb}
+use Rattle.std.proofs.lemmas.Bool.{and_parts, or_cases, eqb-true, eq-eqb, lt-ltb}
 use Rattle.std.proofs.lemmas.List.{append-nil}
 use Rattle.std.proofs.lemmas.List.Folds.{list_any-append}
 use Rattle.std.specs.Cmp.Derive.{both_true}
@@ -86,12 +86,12 @@ value_of s = 0
 constant_shape : (operands : List Operand) (line : ℕ) → is_short_constant operands ≡ true → HasShape (of_parts GenericConstant operands line)
 unfolding value_of
 constant_shape (Def reg kind ∷ Constant bits value ∷ []) line h =
-    let parts = and_parts (is_banked_word kind) ((bits == 32) && is_short value) h in
-    let more = and_parts (bits == 32) (is_short value) parts.1 in
+    let parts = and_parts (is_banked_word kind && (bits == 32)) (is_short value) h in
+    let more = and_parts (is_banked_word kind) (bits == 32) parts.0 in
     record {
       shape = MakeConstant reg.0 value;
-      same = ap₂ (λ k b. of_parts GenericConstant (Def reg k ∷ Constant b value ∷ []) line) (banked_word kind parts.0) (eqb-true bits 32 more.0);
-      short = λ r v same. subst (λ n. is_short n ≡ true) (ap value_of same) more.1;
+      same = ap₂ (λ k b. of_parts GenericConstant (Def reg k ∷ Constant b value ∷ []) line) (banked_word kind more.0) (eqb-true bits 32 more.1);
+      short = λ r v same. subst (λ n. is_short n ≡ true) (ap value_of same) parts.1;
     }
 constant_shape operands line h = cc
 
@@ -117,23 +117,19 @@ opcode_shape op operands line h = cc
 
 shape_of : (i : InstrData) → is_shaped i ≡ true → HasShape i
 shape_of i h =
-    let parts = and_parts (is_plain i.flags) (is_none i.mem && are_shaped i.op i.operands) h in
-    let more = and_parts (is_none i.mem) (are_shaped i.op i.operands) parts.1 in
-    let same : i ≡ of_parts i.op i.operands i.line = ap₂ (λ flags mem. record i { flags = flags; mem = mem }) (plain_flags i.flags parts.0) (no_memory i.mem more.0) in
-    subst HasShape (sym same) (opcode_shape i.op i.operands i.line more.1)
+    let parts = and_parts (is_plain i.flags && is_none i.mem) (are_shaped i.op i.operands) h in
+    let more = and_parts (is_plain i.flags) (is_none i.mem) parts.0 in
+    let same : i ≡ of_parts i.op i.operands i.line = ap₂ (λ flags mem. record i { flags = flags; mem = mem }) (plain_flags i.flags more.0) (no_memory i.mem more.1) in
+    subst HasShape (sym same) (opcode_shape i.op i.operands i.line parts.1)
 
 -- ══ What is available in one block ══
 
 stays_away : (r : ℕ) (origins : ℕ → Bool) (is : List (ℕ × InstrData)) → list_any (defines r) is ≡ false → one_by_one r origins false is ≡ false
 stays_away r origins [] h = refl
 stays_away r origins (i ∷ is) h =
-    let parts = neither_of (defines r i) (list_any (defines r) is) h in
+    let parts = or_false (defines r i) (list_any (defines r) is) h in
     ap (λ here. one_by_one r origins here is) (ap (λ t. (t || false) || (false && not (list_any (defines_origin origins) (i ∷ [])))) parts.0)
     ∙ stays_away r origins is parts.1
-  where
-    neither_of : (a b : Bool) → (a || b) ≡ false → (a ≡ false) × (b ≡ false)
-    neither_of true b h = cc
-    neither_of false b h = (refl, h)
 
 -- what is available behind instructions that don't begin with phis, but not before them, one of them defines
 defined_there : (r : ℕ) (origins : ℕ → Bool) (is : List (ℕ × InstrData)) → behind r origins false is ≡ true → phis_of is ≡ [] → after_phis is ≡ is → list_any (defines r) is ≡ true
@@ -241,7 +237,7 @@ neither_else (Some x) b h = cc
 not_other : (i : InstrData) → other_line i ≡ None → is_shaped i ≡ true
 not_other i h = by (is_shaped i) h
   where
-    by : (t : Bool) → (if t then None else Some (i.line, i.op)) ≡ None → t ≡ true
+    by : (t : Bool) → if◌then◌else◌ {A = Option (ℕ × Opcode)} t None (Some (i.line, i.op)) ≡ None → t ≡ true
     by true l = refl
     by false l = cc
 
@@ -288,7 +284,7 @@ module _ (f : FunctionData) (block : BlockData) (one : OneBlock f block) (plain 
       (λ r new. is_new_there defined front i is whole defines_all r (ap (defines r) same ∙ new))
       (λ r used. is_defined_there defined front i is whole front_plain defines_all r (ap (uses r) same ∙ used)) h.short in
       let next : (r : ℕ) → list_any (defines r) (front ++ i ∷ []) ≡ is_among (defined_after defined h.shape) r =
-      λ r. list_any-append (defines r) front (i ∷ []) ∙ ap₂ (λ a (k : ℕ × InstrData). a || list_any (defines r) (k ∷ [])) (defines_all r) same
+      λ r. list_any-append (defines r) front (i ∷ []) ∙ ap₂ (λ (a : Bool) (k : ℕ × InstrData). a || list_any (defines r) (k ∷ [])) (defines_all r) same
       ∙ or_swapped (is_among defined r) (list_any (defines r) (j ∷ [])) ∙ defines_next defined h.shape i.0 line r in
       let rest : InShape (defined_after defined h.shape) is =
       in_shape_from (defined_after defined h.shape) (front ++ i ∷ []) is (whole ∙ sym (append_assoc front (i ∷ []) is))
@@ -325,7 +321,7 @@ valid_selectable x phase f valid instructed none = by f.blocks refl
         let others : other_in_blocks (block ∷ []) ≡ None =
         sym (ap other_in_blocks blocks) ∙ (neither_else (other_in_blocks f.blocks) (if has_several f then last_of f else None) none).0 in
         inr (one_block_selectable x phase f block valid blocks (neither_else (other_in_instrs block.instrs) None others).0)
-    by (block ∷ next ∷ bs) blocks = absurd (no_several f (ap (λ cs. nat_lt 1 (length cs)) blocks) instructed none)
+    by (block ∷ next ∷ bs) blocks = absurd (no_several f (ap (λ cs. nat_lt 1 (length cs)) blocks ∙ lt-ltb 1 (suc (suc (length bs))) (omega arith)) instructed none)
 
 all_selectable : (x : ℕ) (phase : Phase) (fs : List FunctionData) → AreValid x phase fs → list_any is_blank fs ≡ false → unselected_in fs ≡ None → AllSelectable fs
 all_selectable x phase [] valid instructed none = tt
