@@ -135,11 +135,13 @@ block_printable names f g h fine made =
       objects = ap (list_all is_writable_object) one.stack ∙ fine.objects;
       few_blocks = subst (λ bs. nat_le (length bs) (suc greatest_block) ≡ true) (sym one.blocks) refl;
       live_first = subst (λ bs. is_live_first bs ≡ true) (sym one.blocks) (both_true (ap (list_all (λ n. nat_lt n 32)) one.liveins ∙ live) refl);
-      blocks = subst (AllByRecursion (IsPrintableBlock names (counts_of g))) (sym one.blocks)
-          (record {
-            successors = ap (list_all (λ place. nat_lt place (counts_of g).blocks)) one.successors ∙ old.successors;
-            instrs = fine_same names (counts_of g) one.came.back one.block.instrs one.instrs classed;
-          }, tt);
+      blocks = subst (AllByRecursion (IsPrintableBlock names (counts_of g))) (sym one.blocks) (
+        record {
+          successors = ap (list_all (λ place. nat_lt place (counts_of g).blocks)) one.successors ∙ old.successors;
+          instrs = fine_same names (counts_of g) one.came.back one.block.instrs one.instrs classed;
+        },
+        tt,
+      );
     }
 
 -- ══ Functions without a block ══

@@ -409,7 +409,8 @@ fn selects_several_functions(rt: HostRuntime) -> Result<(), Fail> {
         text.extend_from_slice(SUM.as_bytes())?;
     }
     let answered = run(alloc, &WORDS, text, &[], &[])?;
-    let printed = "    %0:gpr = COPY $x10\n    %1:gpr = COPY $x11\n    %2:gpr = ADD %0, %1\n    $x10 = COPY %2\n    PseudoRET implicit $x10\n...\n";
+    let printed =
+        "    %0:gpr = COPY $x10\n    %1:gpr = COPY $x11\n    %2:gpr = ADD %0, %1\n    $x10 = COPY %2\n    PseudoRET implicit $x10\n...\n";
     let mut wanted = Vec::new(alloc);
     for _ in 0..2 {
         wanted.extend_from_slice(PRINTED_HEAD.as_bytes())?;
