@@ -18,11 +18,18 @@ use crate::ends::is_phi;
 use crate::physical::is_physical_there;
 use crate::settled::{Order, comes_sooner, comes_within};
 use gi_llt::Memory;
-use gi_mir::block::Numbered;
+use gi_mir::block::{InstrId, Numbered};
 use gi_mir::function::Function;
 use gi_mir::operand::{Operand, Reg};
 use gi_valid::Invalid;
 use std::alloc::Global;
+
+/// The id of an instruction.
+fn id_of(numbered: &Numbered) -> InstrId
+    ensures { result.0 ≡ (numbered.now).0 }
+{
+    numbered.id
+}
 
 /// Whether a register is found to be available behind the front of a block, since its definition comes sooner.
 fn is_sooner(
@@ -39,7 +46,8 @@ fn is_sooner(
     ensures { result ≡ true → IsAnswer function.now r b front.now true }
 {
     let _ = front;
-    comes_sooner(function, order, r, b, numbered.id)
+    let id = id_of(numbered);
+    comes_sooner(function, order, r, b, id)
 }
 
 /// Whether a register is found to be available at the end of a block, since its definition comes sooner.
