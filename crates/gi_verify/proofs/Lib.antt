@@ -1,12 +1,17 @@
 pub mod Backwards
+pub mod Climbing
 pub mod Finding
 pub mod Front
 pub mod Growing
+pub mod Kept
 pub mod KindLemmas
 pub mod Letters
+pub mod Linked
 pub mod Marking
 pub mod Missing
+pub mod Ordering
 pub mod Placing
 pub mod Same
+pub mod Sooner
 pub mod Told
 pub mod Unmet

@@ -4,6 +4,7 @@
 mod available;
 mod blocks;
 mod definitions;
+mod dominators;
 mod ends;
 mod laws;
 mod lowest;
@@ -12,9 +13,11 @@ mod operands;
 mod physical;
 mod reached;
 mod registers;
+mod settled;
 mod site;
 #[cfg(test)]
 mod tests;
+mod tree;
 mod typing;
 mod uses;
 mod verifying;

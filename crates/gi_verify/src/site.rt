@@ -8,6 +8,7 @@ ghost use Rattle.gi_valid.specs.Faults as faults;
 ghost use Rattle.gi_valid.specs.Typing as typings;
 ghost use Rattle.gi_valid.specs.Valid.{IsGreatest};
 ghost use Rattle.gi_verify.specs.Sets.{AllTold, AreReachedBlocks, AreTold, IsTold};
+ghost use Rattle.gi_verify.specs.Settled.{IsOrderOf, IsPlaced};
 ghost use Rattle.gi_mir.specs.Edit.{block_at};
 
 use crate::blocks::{blocks_in, unknown_among};
@@ -15,6 +16,7 @@ use crate::definitions::push_fault;
 use crate::ends::{phi_entries, terminator};
 use crate::mismatch::type_mismatch;
 use crate::physical::physical_across;
+use crate::settled::Order;
 use crate::uses::not_available;
 use gi_llt::{Memory, Target};
 use gi_mir::block::Numbered;
@@ -100,6 +102,7 @@ pub(crate) fn fault_in(
     stage: Stage,
     function: &Function,
     reached: &[bool],
+    order: &Order,
     way_back: bool,
     b: u32,
     front: &[Numbered],
@@ -108,12 +111,14 @@ pub(crate) fn fault_in(
 ) -> Result<Option<Invalid>, Memory>
     requires xlen { (target.xlen ≡ 32) ⊎ (target.xlen ≡ 64) }
     requires reached { AreReachedBlocks function.now reached.now }
+    requires order { IsOrderOf function.now order.now }
     requires within { b < length function.now.blocks }
+    requires placed { IsPlaced function.now b front.now numbered.now }
     requires way_back { way_back ≡ nat_lt 0 (length (available.predecessors function.now 0)) }
     ensures { (extents : ℕ → Extent) → ((r : ℕ) → IsGreatest function.now r (extents r)) → IfOk result (λ found. found ≡ faults.fault_in target.xlen (typings.phase_of stage) function.now extents (record { block = b; before = front.now; instr = (numbered.now).1; after = after.now })) }
 {
     let missing = not_available(
-        alloc, function, reached, way_back, b, front, numbered, after,
+        alloc, function, reached, order, way_back, b, front, numbered, after,
     )?;
     let others = others_in(
         alloc, target, stage, function, way_back, b, front, numbered, after,
@@ -166,6 +171,7 @@ fn push_site(
     stage: Stage,
     function: &Function,
     reached: &[bool],
+    order: &Order,
     way_back: bool,
     b: u32,
     instrs: &[Numbered],
@@ -174,16 +180,18 @@ fn push_site(
 ) -> Result<(), Memory>
     requires xlen { (target.xlen ≡ 32) ⊎ (target.xlen ≡ 64) }
     requires reached { AreReachedBlocks function.now reached.now }
+    requires order { IsOrderOf function.now order.now }
     requires within { b < length function.now.blocks }
     requires way_back { way_back ≡ nat_lt 0 (length (available.predecessors function.now 0)) }
     requires here { k < length instrs.now }
+    requires instrs { instrs.now ≡ (block_at function.now b).instrs }
     ensures { OnOk result (IsTold target.xlen (typings.phase_of stage) function.now b instrs.now k out.old.items out.new.items) }
 {
     let numbered = &instrs[k];
     let front = in_front(instrs, k);
     let after = behind(instrs, k);
     let what = fault_in(
-        alloc, target, stage, function, reached, way_back, b, front, numbered, after,
+        alloc, target, stage, function, reached, order, way_back, b, front, numbered, after,
     )?;
     push_of(out, numbered, what)
 }
@@ -195,12 +203,14 @@ fn push_block(
     stage: Stage,
     function: &Function,
     reached: &[bool],
+    order: &Order,
     way_back: bool,
     b: u32,
     out: &mut Vec<Fault>,
 ) -> Result<(), Memory>
     requires xlen { (target.xlen ≡ 32) ⊎ (target.xlen ≡ 64) }
     requires reached { AreReachedBlocks function.now reached.now }
+    requires order { IsOrderOf function.now order.now }
     requires within { b < length function.now.blocks }
     requires way_back { way_back ≡ nat_lt 0 (length (available.predecessors function.now 0)) }
     ensures { OnOk result (AreTold target.xlen (typings.phase_of stage) function.now b (block_at function.now b).instrs out.old.items out.new.items) }
@@ -208,7 +218,7 @@ fn push_block(
     let instrs = function.instrs(b);
     for k in 0..instrs.len() {
         push_site(
-            alloc, target, stage, function, reached, way_back, b, instrs, k, out,
+            alloc, target, stage, function, reached, order, way_back, b, instrs, k, out,
         )?;
     }
     Ok(())
@@ -221,16 +231,20 @@ pub(crate) fn push_sites(
     stage: Stage,
     function: &Function,
     reached: &[bool],
+    order: &Order,
     way_back: bool,
     out: &mut Vec<Fault>,
 ) -> Result<(), Memory>
     requires xlen { (target.xlen ≡ 32) ⊎ (target.xlen ≡ 64) }
     requires reached { AreReachedBlocks function.now reached.now }
+    requires order { IsOrderOf function.now order.now }
     requires way_back { way_back ≡ nat_lt 0 (length (available.predecessors function.now 0)) }
     ensures { OnOk result (AllTold target.xlen (typings.phase_of stage) function.now out.old.items out.new.items) }
 {
     for b in 0..function.block_count() {
-        push_block(alloc, target, stage, function, reached, way_back, b, out)?;
+        push_block(
+            alloc, target, stage, function, reached, order, way_back, b, out,
+        )?;
     }
     Ok(())
 }

@@ -10,6 +10,7 @@ use crate::definitions::push_double;
 use crate::lowest::of_lowest_line;
 use crate::physical::has_way_back;
 use crate::reached::reached;
+use crate::settled::order_of;
 use crate::site::{push_sites, push_successors};
 use gi_llt::{Memory, Target};
 use gi_mir::function::Function;
@@ -35,6 +36,7 @@ fn faults_of(
     ensures { IfOk result (λ all. AreAllFaults target.xlen (phase_of stage) function.now all.items) }
 {
     let reached = reached(alloc, function)?;
+    let order = order_of(alloc, function, reached.as_slice())?;
     let way_back = has_way_back(alloc, function)?;
     let mut all = Vec::new(alloc);
     push_double(alloc, function, &mut all)?;
@@ -44,6 +46,7 @@ fn faults_of(
         stage,
         function,
         reached.as_slice(),
+        &order,
         way_back,
         &mut all,
     )?;
