@@ -1,4 +1,5 @@
 pub mod Backwards
+pub mod Counting
 pub mod Finding
 pub mod Front
 pub mod Growing
@@ -6,6 +7,7 @@ pub mod KindLemmas
 pub mod Letters
 pub mod Marking
 pub mod Missing
+pub mod Passing
 pub mod Placing
 pub mod Same
 pub mod Told

@@ -9,6 +9,7 @@ mod laws;
 mod lowest;
 mod mismatch;
 mod operands;
+mod passed;
 mod physical;
 mod reached;
 mod registers;

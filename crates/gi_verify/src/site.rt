@@ -9,11 +9,13 @@ ghost use Rattle.gi_valid.specs.Typing as typings;
 ghost use Rattle.gi_valid.specs.Valid.{IsGreatest};
 ghost use Rattle.gi_verify.specs.Sets.{AllTold, AreReachedBlocks, AreTold, IsTold};
 ghost use Rattle.gi_mir.specs.Edit.{block_at};
+ghost use Rattle.gi_verify.specs.Passed.{IsPassed};
 
 use crate::blocks::{blocks_in, unknown_among};
 use crate::definitions::push_fault;
 use crate::ends::{phi_entries, terminator};
 use crate::mismatch::type_mismatch;
+use crate::passed::{Passed, nothing, passed_with};
 use crate::physical::physical_across;
 use crate::uses::not_available;
 use gi_llt::{Memory, Target};
@@ -51,6 +53,7 @@ fn late_in(
     function: &Function,
     way_back: bool,
     b: u32,
+    passed: Passed,
     front: &[Numbered],
     numbered: &Numbered,
     after: &[Numbered],
@@ -58,12 +61,13 @@ fn late_in(
     requires xlen { (target.xlen ≡ 32) ⊎ (target.xlen ≡ 64) }
     requires within { b < length function.now.blocks }
     requires way_back { way_back ≡ nat_lt 0 (length (available.predecessors function.now 0)) }
+    requires passed { IsPassed front.now passed }
     ensures { IfOk result (λ found. found ≡ option_or (faults.physical_across target.xlen (typings.phase_of stage) function.now (record { block = b; before = front.now; instr = (numbered.now).1; after = after.now })) (faults.terminator function.now (record { block = b; before = front.now; instr = (numbered.now).1; after = after.now }))) }
 {
     let across = physical_across(
         alloc, target, stage, function, way_back, b, front, numbered, after,
     )?;
-    let ends = terminator(alloc, function, b, front, &numbered.instr, after)?;
+    let ends = terminator(alloc, function, b, passed, front, &numbered.instr, after)?;
     Ok(first(across, ends))
 }
 
@@ -75,6 +79,7 @@ fn others_in(
     function: &Function,
     way_back: bool,
     b: u32,
+    passed: Passed,
     front: &[Numbered],
     numbered: &Numbered,
     after: &[Numbered],
@@ -82,13 +87,14 @@ fn others_in(
     requires xlen { (target.xlen ≡ 32) ⊎ (target.xlen ≡ 64) }
     requires within { b < length function.now.blocks }
     requires way_back { way_back ≡ nat_lt 0 (length (available.predecessors function.now 0)) }
+    requires passed { IsPassed front.now passed }
     ensures { IfOk result (λ found. found ≡ faults.others_in target.xlen (typings.phase_of stage) function.now (record { block = b; before = front.now; instr = (numbered.now).1; after = after.now })) }
 {
     let types = type_mismatch(alloc, target.xlen, stage, function, &numbered.instr)?;
     let blocks = unknown_block(alloc, function, &numbered.instr)?;
-    let entries = phi_entries(alloc, function, b, front, &numbered.instr, after)?;
+    let entries = phi_entries(alloc, function, b, passed, front, &numbered.instr, after)?;
     let late = late_in(
-        alloc, target, stage, function, way_back, b, front, numbered, after,
+        alloc, target, stage, function, way_back, b, passed, front, numbered, after,
     )?;
     Ok(first(types, first(blocks, first(entries, late))))
 }
@@ -102,6 +108,7 @@ pub(crate) fn fault_in(
     reached: &[bool],
     way_back: bool,
     b: u32,
+    passed: Passed,
     front: &[Numbered],
     numbered: &Numbered,
     after: &[Numbered],
@@ -110,13 +117,14 @@ pub(crate) fn fault_in(
     requires reached { AreReachedBlocks function.now reached.now }
     requires within { b < length function.now.blocks }
     requires way_back { way_back ≡ nat_lt 0 (length (available.predecessors function.now 0)) }
+    requires passed { IsPassed front.now passed }
     ensures { (extents : ℕ → Extent) → ((r : ℕ) → IsGreatest function.now r (extents r)) → IfOk result (λ found. found ≡ faults.fault_in target.xlen (typings.phase_of stage) function.now extents (record { block = b; before = front.now; instr = (numbered.now).1; after = after.now })) }
 {
     let missing = not_available(
         alloc, function, reached, way_back, b, front, numbered, after,
     )?;
     let others = others_in(
-        alloc, target, stage, function, way_back, b, front, numbered, after,
+        alloc, target, stage, function, way_back, b, passed, front, numbered, after,
     )?;
     Ok(first(missing, others))
 }
@@ -168,6 +176,7 @@ fn push_site(
     reached: &[bool],
     way_back: bool,
     b: u32,
+    passed: Passed,
     instrs: &[Numbered],
     k: usize,
     out: &mut Vec<Fault>,
@@ -177,13 +186,14 @@ fn push_site(
     requires within { b < length function.now.blocks }
     requires way_back { way_back ≡ nat_lt 0 (length (available.predecessors function.now 0)) }
     requires here { k < length instrs.now }
+    requires passed { IsPassed (take k instrs.now) passed }
     ensures { OnOk result (IsTold target.xlen (typings.phase_of stage) function.now b instrs.now k out.old.items out.new.items) }
 {
     let numbered = &instrs[k];
     let front = in_front(instrs, k);
     let after = behind(instrs, k);
     let what = fault_in(
-        alloc, target, stage, function, reached, way_back, b, front, numbered, after,
+        alloc, target, stage, function, reached, way_back, b, passed, front, numbered, after,
     )?;
     push_of(out, numbered, what)
 }
@@ -206,10 +216,12 @@ fn push_block(
     ensures { OnOk result (AreTold target.xlen (typings.phase_of stage) function.now b (block_at function.now b).instrs out.old.items out.new.items) }
 {
     let instrs = function.instrs(b);
+    let mut passed = nothing();
     for k in 0..instrs.len() {
         push_site(
-            alloc, target, stage, function, reached, way_back, b, instrs, k, out,
+            alloc, target, stage, function, reached, way_back, b, passed, instrs, k, out,
         )?;
+        passed = passed_with(passed, instrs, k);
     }
     Ok(())
 }
