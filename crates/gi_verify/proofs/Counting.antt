@@ -1,6 +1,6 @@
 -- Definitions counted one after the other.
 use Rattle.std.proofs.Common.{◌≡◌, ℕ, zero, suc, ◌+◌, Bool, true, false, cond, ◌==◌, List, [], ◌∷◌, ◌++◌, Option, Some, None, refl, sym, ap, ◌∙◌, arith}
-use Rattle.std.proofs.lemmas.Bool.{eqb-true}
+use Rattle.std.proofs.lemmas.Bool.{eqb-true, false_from_ne_true}
 use Rattle.gi_valid.specs.Faults.{times}
 use Rattle.gi_verify.specs.Counted.{counted, kept_of, once_more, is_once, AreCounted}
 use Rattle.gi_verify.specs.declared.definitions.Counted.{Counted}
@@ -9,12 +9,18 @@ use Rattle.gi_verify.specs.declared.definitions.Times.{Times}
 pub once_kept : (n : ℕ) → is_once (kept_of n) ≡ (n == 1)
 once_kept zero = refl
 once_kept (suc zero) = refl
-once_kept (suc (suc n)) = refl
+once_kept (suc (suc n)) = sym (false_from_ne_true (suc (suc n) == 1) (λ h. not_one n (eqb-true (suc (suc n)) 1 h)))
+  where
+    not_one : (n : ℕ) → suc (suc n) ≡ 1 → ⊥
+    not_one n h = omega (arith, h)
 
 one_kept : (n : ℕ) → Some (once_more (kept_of n)) ≡ kept_of (n + 1)
 one_kept zero = refl
 one_kept (suc zero) = refl
-one_kept (suc (suc n)) = refl
+one_kept (suc (suc n)) = ap kept_of (next n)
+  where
+    next : (n : ℕ) → suc (suc (suc n)) ≡ suc (suc n) + 1
+    next n = omega arith
 
 no_more : (n : ℕ) → n + 0 ≡ n
 no_more n = omega arith

@@ -3,7 +3,6 @@ pub mod Counting
 pub mod Finding
 pub mod Front
 pub mod Growing
-pub mod KindLemmas
 pub mod Letters
 pub mod Marking
 pub mod Missing

@@ -129,6 +129,7 @@ impl Counted {
     }
 
     /// Whether the next definition of a register is its second.
+    #[tactic(auto, using(crate::proofs::Counting::once_kept))]
     fn is_second(&self, before: &[(u32, u32)], r: u32) -> bool
         requires { AreCounted before.now self.now }
         ensures { result ≡ (faults.times r before.now == 1) }
@@ -138,6 +139,7 @@ impl Counted {
     }
 
     /// Counts the definition of a register behind others.
+    #[tactic(auto, using(crate::proofs::Counting::one_counted))]
     fn count(&mut self, before: &[(u32, u32)], definition: (u32, u32)) -> Result<(), Memory>
         requires { AreCounted before.now self.old }
         ensures { OnOk result (AreCounted (before.now ++ definition ∷ []) self.new) }

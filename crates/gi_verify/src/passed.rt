@@ -1,6 +1,8 @@
 //! What stands in front of an instruction in its block, carried from each to the next.
 
-ghost use Rattle.std.specs.Prelude.{◌≡◌, ◌<◌, ◌+◌, ◌∷◌, ◌++◌, [], length, take};
+ghost use Rattle.std.specs.Prelude.{◌≡◌, ◌<◌, ◌+◌, ◌||◌, ◌&&◌, ◌∷◌, ◌++◌, [], length, take};
+ghost use Rattle.gi_mir.specs.Row.{is_terminator_op, is_unconditional_op};
+ghost use Rattle.gi_meaning.specs.Runs.{is_phi};
 ghost use Rattle.gi_valid.specs.Faults as faults;
 ghost use Rattle.gi_verify.specs.Passed.{IsPassed};
 
@@ -42,22 +44,54 @@ pub(crate) fn is_late(passed: Passed, front: &[Numbered], instr: &Instr) -> bool
     passed.unconditional || passed.terminator && !instr.op.is_terminator()
 }
 
+/// Whether one is a terminator, with one more instruction.
+fn any_terminator(before: bool, numbered: &Numbered) -> bool
+    ensures { result ≡ (before || is_terminator_op (numbered.now).1.op) }
+{
+    before || numbered.instr.op.is_terminator()
+}
+
+/// Whether one is an unconditional terminator, with one more instruction.
+fn any_unconditional(before: bool, numbered: &Numbered) -> bool
+    ensures { result ≡ (before || is_unconditional_op (numbered.now).1.op) }
+{
+    before || numbered.instr.op.is_unconditional()
+}
+
+/// Whether one stands behind the terminators, with one more instruction.
+fn any_late(passed: Passed, front: &[Numbered], numbered: &Numbered) -> bool
+    requires passed { IsPassed front.now passed }
+    ensures { result ≡ (passed.late || faults.is_late front.now (numbered.now).1) }
+{
+    passed.late || is_late(passed, front, &numbered.instr)
+}
+
+/// Whether each is a phi, with one more instruction.
+fn all_phis(before: bool, numbered: &Numbered) -> bool
+    ensures { result ≡ (before && is_phi (numbered.now).1) }
+{
+    before && is_phi(&numbered.instr)
+}
+
 /// Of one more instruction.
 fn with_one(passed: Passed, front: &[Numbered], numbered: &Numbered) -> Passed
     requires passed { IsPassed front.now passed }
     ensures { IsPassed (front.now ++ numbered.now ∷ []) result }
 {
-    let instr = &numbered.instr;
-    let late = is_late(passed, front, instr);
+    let terminator = any_terminator(passed.terminator, numbered);
+    let unconditional = any_unconditional(passed.unconditional, numbered);
+    let late = any_late(passed, front, numbered);
+    let phis = all_phis(passed.phis, numbered);
     Passed {
-        terminator: passed.terminator || instr.op.is_terminator(),
-        unconditional: passed.unconditional || instr.op.is_unconditional(),
-        late: passed.late || late,
-        phis: passed.phis && is_phi(instr),
+        terminator,
+        unconditional,
+        late,
+        phis,
     }
 }
 
 /// Of the instructions up to one and with it.
+#[tactic(auto, using(crate::proofs::Passing::passed_taken))]
 pub(crate) fn passed_with(passed: Passed, instrs: &[Numbered], k: usize) -> Passed
     requires here { k < length instrs.now }
     requires passed { IsPassed (take k instrs.now) passed }
