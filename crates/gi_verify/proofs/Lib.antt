@@ -6,6 +6,7 @@ pub mod Growing
 pub mod Letters
 pub mod Marking
 pub mod Missing
+pub mod Naming
 pub mod Passing
 pub mod Placing
 pub mod Same

@@ -6,11 +6,13 @@ ghost use Rattle.gi_mir.specs.Row.{is_branch_op};
 ghost use Rattle.gi_meaning.specs.Runs.{is_among, is_phi};
 ghost use Rattle.gi_valid.specs.Available.{predecessors, successors_of};
 ghost use Rattle.gi_valid.specs.Faults as faults;
+ghost use Rattle.gi_verify.specs.Named.{ArePredecessors};
 ghost use Rattle.gi_verify.specs.Passed.{IsPassed};
 
 use crate::available::is_listed;
-use crate::blocks::{are_entries, blocks_in, predecessors};
+use crate::blocks::{are_entries, blocks_in};
 use crate::passed::{Passed, is_late};
+use crate::predecessors::Predecessors;
 use gi_llt::Memory;
 use gi_mir::block::Numbered;
 use gi_mir::function::Function;
@@ -79,18 +81,26 @@ pub(crate) fn terminator(
 }
 
 /// Whether the entries of a phi are one for each predecessor of its block.
-fn has_entries(alloc: Global, function: &Function, b: u32, instr: &Instr) -> Result<bool, Memory>
+fn has_entries(
+    alloc: Global,
+    function: &Function,
+    all: &Predecessors,
+    b: u32,
+    instr: &Instr,
+) -> Result<bool, Memory>
+    requires all { ArePredecessors function.now all.now }
     ensures { IfOk result (λ t. t ≡ faults.are_entries (predecessors function.now b) (faults.blocks_in (instr.now).operands)) }
 {
-    let before = predecessors(alloc, function, b)?;
+    let _ = function;
     let entries = blocks_in(alloc, instr.operands.as_slice())?;
-    Ok(are_entries(before.as_slice(), entries.as_slice()))
+    Ok(are_entries(all.of(b), entries.as_slice()))
 }
 
 /// The fault of a phi's entries.
 pub(crate) fn phi_entries(
     alloc: Global,
     function: &Function,
+    all: &Predecessors,
     b: u32,
     passed: Passed,
     front: &[Numbered],
@@ -98,6 +108,7 @@ pub(crate) fn phi_entries(
     after: &[Numbered],
 ) -> Result<Option<Invalid>, Memory>
     requires within { b < length function.now.blocks }
+    requires all { ArePredecessors function.now all.now }
     requires passed { IsPassed front.now passed }
     ensures { IfOk result (λ found. found ≡ faults.phi_entries function.now (record { block = b; before = front.now; instr = instr.now; after = after.now })) }
 {
@@ -107,7 +118,7 @@ pub(crate) fn phi_entries(
         return Ok(None);
     }
     let stands_first = b != 0 && passed.phis;
-    if stands_first && has_entries(alloc, function, b, instr)? {
+    if stands_first && has_entries(alloc, function, all, b, instr)? {
         Ok(None)
     } else {
         Ok(Some(Invalid::PhiEntries))

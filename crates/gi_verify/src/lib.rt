@@ -11,6 +11,7 @@ mod mismatch;
 mod operands;
 mod passed;
 mod physical;
+mod predecessors;
 mod reached;
 mod registers;
 mod site;

@@ -9,6 +9,7 @@ ghost use Rattle.gi_valid.specs.Typing as typings;
 ghost use Rattle.gi_valid.specs.Valid.{IsGreatest};
 ghost use Rattle.gi_verify.specs.Sets.{AllTold, AreReachedBlocks, AreTold, IsTold};
 ghost use Rattle.gi_mir.specs.Edit.{block_at};
+ghost use Rattle.gi_verify.specs.Named.{ArePredecessors};
 ghost use Rattle.gi_verify.specs.Passed.{IsPassed};
 
 use crate::blocks::{blocks_in, unknown_among};
@@ -17,6 +18,7 @@ use crate::ends::{phi_entries, terminator};
 use crate::mismatch::type_mismatch;
 use crate::passed::{Passed, nothing, passed_with};
 use crate::physical::physical_across;
+use crate::predecessors::Predecessors;
 use crate::uses::not_available;
 use gi_llt::{Memory, Target};
 use gi_mir::block::Numbered;
@@ -77,6 +79,7 @@ fn others_in(
     target: Target,
     stage: Stage,
     function: &Function,
+    all: &Predecessors,
     way_back: bool,
     b: u32,
     passed: Passed,
@@ -86,13 +89,14 @@ fn others_in(
 ) -> Result<Option<Invalid>, Memory>
     requires xlen { (target.xlen ≡ 32) ⊎ (target.xlen ≡ 64) }
     requires within { b < length function.now.blocks }
+    requires all { ArePredecessors function.now all.now }
     requires way_back { way_back ≡ nat_lt 0 (length (available.predecessors function.now 0)) }
     requires passed { IsPassed front.now passed }
     ensures { IfOk result (λ found. found ≡ faults.others_in target.xlen (typings.phase_of stage) function.now (record { block = b; before = front.now; instr = (numbered.now).1; after = after.now })) }
 {
     let types = type_mismatch(alloc, target.xlen, stage, function, &numbered.instr)?;
     let blocks = unknown_block(alloc, function, &numbered.instr)?;
-    let entries = phi_entries(alloc, function, b, passed, front, &numbered.instr, after)?;
+    let entries = phi_entries(alloc, function, all, b, passed, front, &numbered.instr, after)?;
     let late = late_in(
         alloc, target, stage, function, way_back, b, passed, front, numbered, after,
     )?;
@@ -106,6 +110,7 @@ pub(crate) fn fault_in(
     stage: Stage,
     function: &Function,
     reached: &[bool],
+    all: &Predecessors,
     way_back: bool,
     b: u32,
     passed: Passed,
@@ -116,6 +121,7 @@ pub(crate) fn fault_in(
     requires xlen { (target.xlen ≡ 32) ⊎ (target.xlen ≡ 64) }
     requires reached { AreReachedBlocks function.now reached.now }
     requires within { b < length function.now.blocks }
+    requires all { ArePredecessors function.now all.now }
     requires way_back { way_back ≡ nat_lt 0 (length (available.predecessors function.now 0)) }
     requires passed { IsPassed front.now passed }
     ensures { (extents : ℕ → Extent) → ((r : ℕ) → IsGreatest function.now r (extents r)) → IfOk result (λ found. found ≡ faults.fault_in target.xlen (typings.phase_of stage) function.now extents (record { block = b; before = front.now; instr = (numbered.now).1; after = after.now })) }
@@ -124,7 +130,7 @@ pub(crate) fn fault_in(
         alloc, function, reached, way_back, b, front, numbered, after,
     )?;
     let others = others_in(
-        alloc, target, stage, function, way_back, b, passed, front, numbered, after,
+        alloc, target, stage, function, all, way_back, b, passed, front, numbered, after,
     )?;
     Ok(first(missing, others))
 }
@@ -174,6 +180,7 @@ fn push_site(
     stage: Stage,
     function: &Function,
     reached: &[bool],
+    all: &Predecessors,
     way_back: bool,
     b: u32,
     passed: Passed,
@@ -184,6 +191,7 @@ fn push_site(
     requires xlen { (target.xlen ≡ 32) ⊎ (target.xlen ≡ 64) }
     requires reached { AreReachedBlocks function.now reached.now }
     requires within { b < length function.now.blocks }
+    requires all { ArePredecessors function.now all.now }
     requires way_back { way_back ≡ nat_lt 0 (length (available.predecessors function.now 0)) }
     requires here { k < length instrs.now }
     requires passed { IsPassed (take k instrs.now) passed }
@@ -193,7 +201,7 @@ fn push_site(
     let front = in_front(instrs, k);
     let after = behind(instrs, k);
     let what = fault_in(
-        alloc, target, stage, function, reached, way_back, b, passed, front, numbered, after,
+        alloc, target, stage, function, reached, all, way_back, b, passed, front, numbered, after,
     )?;
     push_of(out, numbered, what)
 }
@@ -205,6 +213,7 @@ fn push_block(
     stage: Stage,
     function: &Function,
     reached: &[bool],
+    all: &Predecessors,
     way_back: bool,
     b: u32,
     out: &mut Vec<Fault>,
@@ -212,6 +221,7 @@ fn push_block(
     requires xlen { (target.xlen ≡ 32) ⊎ (target.xlen ≡ 64) }
     requires reached { AreReachedBlocks function.now reached.now }
     requires within { b < length function.now.blocks }
+    requires all { ArePredecessors function.now all.now }
     requires way_back { way_back ≡ nat_lt 0 (length (available.predecessors function.now 0)) }
     ensures { OnOk result (AreTold target.xlen (typings.phase_of stage) function.now b (block_at function.now b).instrs out.old.items out.new.items) }
 {
@@ -219,7 +229,7 @@ fn push_block(
     let mut passed = nothing();
     for k in 0..instrs.len() {
         push_site(
-            alloc, target, stage, function, reached, way_back, b, passed, instrs, k, out,
+            alloc, target, stage, function, reached, all, way_back, b, passed, instrs, k, out,
         )?;
         passed = passed_with(passed, instrs, k);
     }
@@ -233,16 +243,18 @@ pub(crate) fn push_sites(
     stage: Stage,
     function: &Function,
     reached: &[bool],
+    all: &Predecessors,
     way_back: bool,
     out: &mut Vec<Fault>,
 ) -> Result<(), Memory>
     requires xlen { (target.xlen ≡ 32) ⊎ (target.xlen ≡ 64) }
     requires reached { AreReachedBlocks function.now reached.now }
+    requires all { ArePredecessors function.now all.now }
     requires way_back { way_back ≡ nat_lt 0 (length (available.predecessors function.now 0)) }
     ensures { OnOk result (AllTold target.xlen (typings.phase_of stage) function.now out.old.items out.new.items) }
 {
     for b in 0..function.block_count() {
-        push_block(alloc, target, stage, function, reached, way_back, b, out)?;
+        push_block(alloc, target, stage, function, reached, all, way_back, b, out)?;
     }
     Ok(())
 }

@@ -8,7 +8,7 @@ ghost use Rattle.gi_verify.specs.Sets.{AreAllFaults};
 
 use crate::definitions::push_double;
 use crate::lowest::of_lowest_line;
-use crate::physical::has_way_back;
+use crate::predecessors::{has_way_back, predecessors_of};
 use crate::reached::reached;
 use crate::site::{push_sites, push_successors};
 use gi_llt::{Memory, Target};
@@ -35,7 +35,8 @@ fn faults_of(
     ensures { IfOk result (λ all. AreAllFaults target.xlen (phase_of stage) function.now all.items) }
 {
     let reached = reached(alloc, function)?;
-    let way_back = has_way_back(alloc, function)?;
+    let predecessors = predecessors_of(alloc, function)?;
+    let way_back = has_way_back(function, &predecessors);
     let mut all = Vec::new(alloc);
     push_double(alloc, function, &mut all)?;
     push_sites(
@@ -44,6 +45,7 @@ fn faults_of(
         stage,
         function,
         reached.as_slice(),
+        &predecessors,
         way_back,
         &mut all,
     )?;
