@@ -49,11 +49,11 @@ named_then start mid new a front b are once = record {
     by q true so = ap (λ k. only_if (is_among q front) a ++ only_if (not (is_among k front)) a) (sym (eqb-true q b so)) ∙ both (is_among q front)
     by q false so = one (is_among q front)
 
-pub named_taken : (start mid new : Predecessors) (a : ℕ) (successors : List ℕ) (k : ℕ) (b : ℕ) → k < length successors → b ≡ get_or successors k b → AreNamed start mid a (take k successors) → IsNamedOnce mid new a (take k successors) b
+pub named_taken : (start mid new : Predecessors) (a : ℕ) (successors : List ℕ) (k d b : ℕ) → k < length successors → b ≡ get_or successors k d → AreNamed start mid a (take k successors) → IsNamedOnce mid new a (take k successors) b
     → AreNamed start new a (take (k + 1) successors)
-named_taken start mid new a successors k b within is are once =
+named_taken start mid new a successors k d b within is are once =
     let then : AreNamed start new a (take k successors ++ b ∷ []) = named_then start mid new a (take k successors) b are once in
-    let more : take (k + 1) successors ≡ take k successors ++ b ∷ [] = ap (λ j. take j successors) (add-one k) ∙ take-suc successors k b within ∙ ap (λ c. take k successors ++ c ∷ []) (sym is) in
+    let more : take (k + 1) successors ≡ take k successors ++ b ∷ [] = ap (λ j. take j successors) (add-one k) ∙ take-suc successors k d within ∙ ap (λ c. take k successors ++ c ∷ []) (sym is) in
     record { each = λ q. then.each q ∙ ap (λ l. names start q ++ only_if (is_among q l) a) (sym more) }
 
 -- ══ The blocks of a function ══

@@ -1,10 +1,8 @@
 //! The predecessors of each block.
 
-ghost use Rattle.std.specs.Prelude.{◌≡◌, ◌<◌, ℕ, [], ◌∷◌, OnOk, OnErr, IfOk, take, length, nat_lt};
-ghost use Rattle.gi_mir.specs.Edit.{block_at};
-ghost use Rattle.gi_meaning.specs.Runs.{is_among};
+ghost use Rattle.std.specs.Prelude.{◌≡◌, ◌<◌, ◌∷◌, ◌++◌, ℕ, [], OnOk, IfOk, take, length, nat_lt};
 ghost use Rattle.gi_valid.specs.Available as available;
-ghost use Rattle.gi_verify.specs.Named.{AreNamed, AreNamedBelow, IsNamedOnce, ArePredecessors, IsGrown, names};
+ghost use Rattle.gi_verify.specs.Named.{AreNamed, ArePredecessors, IsGrown, IsNamedOnce, names};
 
 use crate::available::is_listed;
 use gi_llt::Memory;
@@ -26,6 +24,14 @@ fn push(blocks: &mut Vec<u32>, b: u32) -> Result<(), Memory>
         Ok(()) => Ok(()),
         Err(_) => Err(Memory),
     }
+}
+
+/// The blocks in front of one.
+fn in_front(blocks: &[u32], k: usize) -> &[u32]
+    requires { k < length blocks.now }
+    ensures { result.now ≡ take k blocks.now }
+{
+    &blocks[..k]
 }
 
 impl Predecessors {
@@ -84,12 +90,13 @@ impl Predecessors {
     }
 
     /// The blocks that another one names.
-    #[tactic(auto, using(crate::proofs::Naming::named_none, crate::proofs::Naming::named_taken))]
+    #[tactic(auto, using(crate::proofs::Naming::named_none))]
     fn name_all(&mut self, a: u32, successors: &[u32]) -> Result<(), Memory>
         ensures { OnOk result (AreNamed self.old self.new a successors.now) }
     {
         for k in 0..successors.len() {
-            self.name_one(a, &successors[..k], successors[k])?;
+            let front = in_front(successors, k);
+            self.name_one(a, front, successors[k])?;
         }
         Ok(())
     }
