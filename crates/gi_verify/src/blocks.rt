@@ -2,9 +2,7 @@
 
 ghost use Rattle.std.specs.Prelude.{◌≡◌, ◌++◌, ◌∷◌, ◌<◌, [], ℕ, Some, None, OnOk, IfOk, find, length, nat_lt, not, option_map, ◌==◌};
 ghost use Rattle.std.specs.List.{list_all, list_any};
-ghost use Rattle.gi_mir.specs.Edit.{block_at};
 ghost use Rattle.gi_meaning.specs.Runs.{is_among};
-ghost use Rattle.gi_valid.specs.Available.{predecessors};
 ghost use Rattle.gi_valid.specs.Faults as faults;
 
 use crate::available::is_listed;
@@ -94,25 +92,4 @@ pub(crate) fn are_entries(predecessors: &[u32], entries: &[u32]) -> bool
     ensures { result ≡ faults.are_entries predecessors.now entries.now }
 {
     have_once(predecessors, entries) && are_listed(entries, predecessors)
-}
-
-/// Whether the successors of a block name one.
-fn names(function: &Function, a: u32, b: u32) -> bool
-    requires { a < length function.now.blocks }
-    ensures { result ≡ is_among b (block_at function.now a).successors }
-{
-    is_listed(b, function.block(a).successors.as_slice())
-}
-
-/// The predecessors of a block.
-pub(crate) fn predecessors(alloc: Global, function: &Function, b: u32) -> Result<Vec<u32>, Memory>
-    ensures { IfOk result (λ found. found.items ≡ predecessors function.now b) }
-{
-    let mut found = Vec::new(alloc);
-    for a in 0..function.block_count() {
-        if names(function, a, b) {
-            push(&mut found, a)?;
-        }
-    }
-    Ok(found)
 }

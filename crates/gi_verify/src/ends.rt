@@ -1,60 +1,24 @@
 //! Terminators, and phis at the front of their block.
 
 ghost use Rattle.std.specs.Prelude.{◌≡◌, ◌<◌, ◌||◌, ◌&&◌, not, [], Some, None, IfOk, length};
-ghost use Rattle.std.specs.List.{list_all, list_any};
-ghost use Rattle.gi_mir.specs.Row.{is_branch_op, is_terminator_op, is_unconditional_op};
+ghost use Rattle.std.specs.List.{list_all};
+ghost use Rattle.gi_mir.specs.Row.{is_branch_op};
 ghost use Rattle.gi_meaning.specs.Runs.{is_among, is_phi};
 ghost use Rattle.gi_valid.specs.Available.{predecessors, successors_of};
 ghost use Rattle.gi_valid.specs.Faults as faults;
+ghost use Rattle.gi_verify.specs.Named.{ArePredecessors};
+ghost use Rattle.gi_verify.specs.Passed.{IsPassed};
 
 use crate::available::is_listed;
-use crate::blocks::{are_entries, blocks_in, predecessors};
+use crate::blocks::{are_entries, blocks_in};
+use crate::passed::{Passed, is_late};
+use crate::predecessors::Predecessors;
 use gi_llt::Memory;
 use gi_mir::block::Numbered;
 use gi_mir::function::Function;
 use gi_mir::instr::Instr;
 use gi_valid::Invalid;
 use std::alloc::Global;
-
-/// Whether a terminator stands among these.
-fn any_terminator(front: &[Numbered]) -> bool
-    ensures { result ≡ list_any (λ p. is_terminator_op p.1.op) front.now }
-{
-    front.iter().any(|n| n.instr.op.is_terminator())
-}
-
-/// Whether an unconditional terminator stands among these.
-fn any_unconditional(front: &[Numbered]) -> bool
-    ensures { result ≡ list_any (λ p. is_unconditional_op p.1.op) front.now }
-{
-    front.iter().any(|n| n.instr.op.is_unconditional())
-}
-
-/// Whether an instruction stands behind the terminators.
-fn is_late(front: &[Numbered], instr: &Instr) -> bool
-    ensures { result ≡ faults.is_late front.now instr.now }
-{
-    any_unconditional(front) || any_terminator(front) && !instr.op.is_terminator()
-}
-
-/// Whether one of these does.
-fn has_late(front: &[Numbered]) -> bool
-    ensures { result ≡ faults.has_late [] front.now }
-{
-    for (k, numbered) in front.iter().enumerate() {
-        if is_late(&front[..k], &numbered.instr) {
-            return true;
-        }
-    }
-    false
-}
-
-/// Whether each of these is a phi.
-fn are_phis(front: &[Numbered]) -> bool
-    ensures { result ≡ list_all (λ p. is_phi p.1) front.now }
-{
-    front.iter().all(|n| is_phi(&n.instr))
-}
 
 /// Whether an instruction is a phi.
 #[tactic(auto, using(crate::proofs::Finding::phi_by_opcode))]
@@ -86,20 +50,30 @@ fn is_astray(alloc: Global, function: &Function, b: u32, instr: &Instr) -> Resul
     }
 }
 
+/// Whether an instruction is the first one that stands behind the terminators.
+fn is_first_late(passed: Passed, front: &[Numbered], instr: &Instr) -> bool
+    requires passed { IsPassed front.now passed }
+    ensures { result ≡ (faults.is_late front.now instr.now && not (faults.has_late [] front.now)) }
+{
+    is_late(passed, front, instr) && !passed.late
+}
+
 /// The fault of a terminator.
 pub(crate) fn terminator(
     alloc: Global,
     function: &Function,
     b: u32,
+    passed: Passed,
     front: &[Numbered],
     instr: &Instr,
     after: &[Numbered],
 ) -> Result<Option<Invalid>, Memory>
-    requires { b < length function.now.blocks }
+    requires within { b < length function.now.blocks }
+    requires passed { IsPassed front.now passed }
     ensures { IfOk result (λ found. found ≡ faults.terminator function.now (record { block = b; before = front.now; instr = instr.now; after = after.now })) }
 {
     let _ = after;
-    if is_late(front, instr) && !has_late(front) || is_astray(alloc, function, b, instr)? {
+    if is_first_late(passed, front, instr) || is_astray(alloc, function, b, instr)? {
         Ok(Some(Invalid::Terminator))
     } else {
         Ok(None)
@@ -107,32 +81,44 @@ pub(crate) fn terminator(
 }
 
 /// Whether the entries of a phi are one for each predecessor of its block.
-fn has_entries(alloc: Global, function: &Function, b: u32, instr: &Instr) -> Result<bool, Memory>
+fn has_entries(
+    alloc: Global,
+    function: &Function,
+    all: &Predecessors,
+    b: u32,
+    instr: &Instr,
+) -> Result<bool, Memory>
+    requires all { ArePredecessors function.now all.now }
     ensures { IfOk result (λ t. t ≡ faults.are_entries (predecessors function.now b) (faults.blocks_in (instr.now).operands)) }
 {
-    let before = predecessors(alloc, function, b)?;
+    let _ = function;
     let entries = blocks_in(alloc, instr.operands.as_slice())?;
-    Ok(are_entries(before.as_slice(), entries.as_slice()))
+    Ok(are_entries(all.of(b), entries.as_slice()))
 }
 
 /// The fault of a phi's entries.
 pub(crate) fn phi_entries(
     alloc: Global,
     function: &Function,
+    all: &Predecessors,
     b: u32,
+    passed: Passed,
     front: &[Numbered],
     instr: &Instr,
     after: &[Numbered],
 ) -> Result<Option<Invalid>, Memory>
-    requires { b < length function.now.blocks }
+    requires within { b < length function.now.blocks }
+    requires all { ArePredecessors function.now all.now }
+    requires passed { IsPassed front.now passed }
     ensures { IfOk result (λ found. found ≡ faults.phi_entries function.now (record { block = b; before = front.now; instr = instr.now; after = after.now })) }
 {
+    let _ = front;
     let _ = after;
     if !is_phi(instr) {
         return Ok(None);
     }
-    let stands_first = b != 0 && are_phis(front);
-    if stands_first && has_entries(alloc, function, b, instr)? {
+    let stands_first = b != 0 && passed.phis;
+    if stands_first && has_entries(alloc, function, all, b, instr)? {
         Ok(None)
     } else {
         Ok(Some(Invalid::PhiEntries))

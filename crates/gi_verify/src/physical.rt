@@ -9,7 +9,6 @@ ghost use Rattle.gi_valid.specs.Faults as faults;
 ghost use Rattle.gi_valid.specs.Typing as typings;
 ghost use Rattle.gi_valid.specs.declared.invalid.Invalid.TheVariants as Invalid;
 
-use crate::blocks::predecessors;
 use crate::mismatch::may_call;
 use crate::operands::{defines_physical, reads_physical};
 use gi_llt::{Memory, Target};
@@ -29,14 +28,6 @@ fn is_livein(n: u8, liveins: &[u8]) -> bool
         }
     }
     false
-}
-
-/// Whether the first block has a predecessor.
-pub(crate) fn has_way_back(alloc: Global, function: &Function) -> Result<bool, Memory>
-    ensures { IfOk result (λ t. t ≡ nat_lt 0 (length (available.predecessors function.now 0))) }
-{
-    let before = predecessors(alloc, function, 0)?;
-    Ok(0 < before.len())
 }
 
 /// Whether a physical register is available at the start of a block.

@@ -1,61 +1,18 @@
 //! What an instruction's virtual registers are.
 
-ghost use Rattle.std.specs.Prelude.{◌≡◌, ◌++◌, ◌∷◌, [], ◌≤◌, ◌-◌, ℕ, Some, None, Option, option_map, OnOk, IfOk, length, map, take, drop, replicate};
+ghost use Rattle.std.specs.Prelude.{◌≡◌, ◌++◌, ◌∷◌, [], ◌≤◌, ◌-◌, ℕ, Some, None, Option, OnOk, IfOk, length, map, take, drop, replicate};
 ghost use Rattle.gi_llt.specs.declared.Llt.{Llt};
-ghost use Rattle.gi_mir.specs.Registers.{kind_in_operand, kind_in_operands, kind_of, type_of_kind};
+ghost use Rattle.gi_mir.specs.Registers.{type_of_kind};
 ghost use Rattle.gi_valid.specs.Typing as typings;
-ghost use Rattle.gi_verify.specs.Sets.{kind_found};
 
-use crate::available::definition;
 use crate::typing::{meets, push};
 use gi_llt::{Llt, Memory};
-use gi_mir::block::Numbered;
 use gi_mir::function::Function;
 use gi_mir::instr::Instr;
-use gi_mir::operand::{Kind, Operand};
+use gi_mir::operand::{Kind, Operand, Reg};
 use gi_mir::stage::Stage;
 use gi_mir::typing::Typing;
 use std::alloc::Global;
-
-/// The kind that an operand defines a register with.
-fn kind_in_operand(r: u32, operand: Operand) -> Option<Kind>
-    ensures { result ≡ kind_in_operand r operand }
-{
-    match operand {
-        Operand::Def(defined, kind) => { if defined.0 == r { Some(kind) } else { None } }
-        _ => None,
-    }
-}
-
-/// The kind of a register at its first definition among operands.
-fn kind_in_operands(r: u32, operands: &[Operand]) -> Option<Kind>
-    ensures { result ≡ kind_in_operands r operands.now }
-{
-    for operand in operands {
-        if let Some(kind) = kind_in_operand(r, *operand) {
-            return Some(kind);
-        }
-    }
-    None
-}
-
-/// The kind that the definition of a register gives it.
-fn kind_found(r: u32, found: Option<&Numbered>) -> Option<Kind>
-    ensures { result ≡ kind_found r (option_map (λ n. n.now) found.entry) }
-{
-    match found {
-        Some(numbered) => kind_in_operands(r, numbered.instr.operands.as_slice()),
-        None => None,
-    }
-}
-
-/// The kind of a register, and `Class` where it has no definition.
-#[tactic(auto, using(crate::proofs::KindLemmas::kind_by_definition))]
-fn kind_of(function: &Function, r: u32) -> Kind
-    ensures { result ≡ kind_of function.now r }
-{
-    kind_found(r, definition(function, r)).unwrap_or(Kind::Class)
-}
 
 /// The type of a register of this kind.
 fn type_of_kind(kind: Kind) -> Option<Llt>
@@ -73,7 +30,7 @@ pub(crate) fn type_in(stage: Stage, function: &Function, r: u32) -> Option<Llt>
 {
     match stage {
         Stage::Selected => None,
-        _ => type_of_kind(kind_of(function, r)),
+        _ => type_of_kind(function.kind_of(Reg(r))),
     }
 }
 

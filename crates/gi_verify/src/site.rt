@@ -10,13 +10,17 @@ ghost use Rattle.gi_valid.specs.Valid.{IsGreatest};
 ghost use Rattle.gi_verify.specs.Sets.{AllTold, AreReachedBlocks, AreTold, IsTold};
 ghost use Rattle.gi_verify.specs.Settled.{IsOrderOf, IsPlaced};
 ghost use Rattle.gi_mir.specs.Edit.{block_at};
+ghost use Rattle.gi_verify.specs.Named.{ArePredecessors};
+ghost use Rattle.gi_verify.specs.Passed.{IsPassed};
 
 use crate::blocks::{blocks_in, unknown_among};
 use crate::definitions::push_fault;
 use crate::ends::{phi_entries, terminator};
 use crate::mismatch::type_mismatch;
+use crate::passed::{Passed, nothing, passed_with};
 use crate::physical::physical_across;
 use crate::settled::Order;
+use crate::predecessors::Predecessors;
 use crate::uses::not_available;
 use gi_llt::{Memory, Target};
 use gi_mir::block::Numbered;
@@ -53,6 +57,7 @@ fn late_in(
     function: &Function,
     way_back: bool,
     b: u32,
+    passed: Passed,
     front: &[Numbered],
     numbered: &Numbered,
     after: &[Numbered],
@@ -60,12 +65,13 @@ fn late_in(
     requires xlen { (target.xlen ≡ 32) ⊎ (target.xlen ≡ 64) }
     requires within { b < length function.now.blocks }
     requires way_back { way_back ≡ nat_lt 0 (length (available.predecessors function.now 0)) }
+    requires passed { IsPassed front.now passed }
     ensures { IfOk result (λ found. found ≡ option_or (faults.physical_across target.xlen (typings.phase_of stage) function.now (record { block = b; before = front.now; instr = (numbered.now).1; after = after.now })) (faults.terminator function.now (record { block = b; before = front.now; instr = (numbered.now).1; after = after.now }))) }
 {
     let across = physical_across(
         alloc, target, stage, function, way_back, b, front, numbered, after,
     )?;
-    let ends = terminator(alloc, function, b, front, &numbered.instr, after)?;
+    let ends = terminator(alloc, function, b, passed, front, &numbered.instr, after)?;
     Ok(first(across, ends))
 }
 
@@ -75,22 +81,26 @@ fn others_in(
     target: Target,
     stage: Stage,
     function: &Function,
+    all: &Predecessors,
     way_back: bool,
     b: u32,
+    passed: Passed,
     front: &[Numbered],
     numbered: &Numbered,
     after: &[Numbered],
 ) -> Result<Option<Invalid>, Memory>
     requires xlen { (target.xlen ≡ 32) ⊎ (target.xlen ≡ 64) }
     requires within { b < length function.now.blocks }
+    requires all { ArePredecessors function.now all.now }
     requires way_back { way_back ≡ nat_lt 0 (length (available.predecessors function.now 0)) }
+    requires passed { IsPassed front.now passed }
     ensures { IfOk result (λ found. found ≡ faults.others_in target.xlen (typings.phase_of stage) function.now (record { block = b; before = front.now; instr = (numbered.now).1; after = after.now })) }
 {
     let types = type_mismatch(alloc, target.xlen, stage, function, &numbered.instr)?;
     let blocks = unknown_block(alloc, function, &numbered.instr)?;
-    let entries = phi_entries(alloc, function, b, front, &numbered.instr, after)?;
+    let entries = phi_entries(alloc, function, all, b, passed, front, &numbered.instr, after)?;
     let late = late_in(
-        alloc, target, stage, function, way_back, b, front, numbered, after,
+        alloc, target, stage, function, way_back, b, passed, front, numbered, after,
     )?;
     Ok(first(types, first(blocks, first(entries, late))))
 }
@@ -103,8 +113,10 @@ pub(crate) fn fault_in(
     function: &Function,
     reached: &[bool],
     order: &Order,
+    all: &Predecessors,
     way_back: bool,
     b: u32,
+    passed: Passed,
     front: &[Numbered],
     numbered: &Numbered,
     after: &[Numbered],
@@ -114,14 +126,16 @@ pub(crate) fn fault_in(
     requires order { IsOrderOf function.now order.now }
     requires within { b < length function.now.blocks }
     requires placed { IsPlaced function.now b front.now numbered.now }
+    requires all { ArePredecessors function.now all.now }
     requires way_back { way_back ≡ nat_lt 0 (length (available.predecessors function.now 0)) }
+    requires passed { IsPassed front.now passed }
     ensures { (extents : ℕ → Extent) → ((r : ℕ) → IsGreatest function.now r (extents r)) → IfOk result (λ found. found ≡ faults.fault_in target.xlen (typings.phase_of stage) function.now extents (record { block = b; before = front.now; instr = (numbered.now).1; after = after.now })) }
 {
     let missing = not_available(
         alloc, function, reached, order, way_back, b, front, numbered, after,
     )?;
     let others = others_in(
-        alloc, target, stage, function, way_back, b, front, numbered, after,
+        alloc, target, stage, function, all, way_back, b, passed, front, numbered, after,
     )?;
     Ok(first(missing, others))
 }
@@ -172,8 +186,10 @@ fn push_site(
     function: &Function,
     reached: &[bool],
     order: &Order,
+    all: &Predecessors,
     way_back: bool,
     b: u32,
+    passed: Passed,
     instrs: &[Numbered],
     k: usize,
     out: &mut Vec<Fault>,
@@ -182,16 +198,19 @@ fn push_site(
     requires reached { AreReachedBlocks function.now reached.now }
     requires order { IsOrderOf function.now order.now }
     requires within { b < length function.now.blocks }
+    requires all { ArePredecessors function.now all.now }
     requires way_back { way_back ≡ nat_lt 0 (length (available.predecessors function.now 0)) }
     requires here { k < length instrs.now }
     requires instrs { instrs.now ≡ (block_at function.now b).instrs }
+    requires passed { IsPassed (take k instrs.now) passed }
     ensures { OnOk result (IsTold target.xlen (typings.phase_of stage) function.now b instrs.now k out.old.items out.new.items) }
 {
     let numbered = &instrs[k];
     let front = in_front(instrs, k);
     let after = behind(instrs, k);
     let what = fault_in(
-        alloc, target, stage, function, reached, order, way_back, b, front, numbered, after,
+        alloc, target, stage, function, reached, order, all, way_back, b, passed, front, numbered,
+        after,
     )?;
     push_of(out, numbered, what)
 }
@@ -204,6 +223,7 @@ fn push_block(
     function: &Function,
     reached: &[bool],
     order: &Order,
+    all: &Predecessors,
     way_back: bool,
     b: u32,
     out: &mut Vec<Fault>,
@@ -212,14 +232,17 @@ fn push_block(
     requires reached { AreReachedBlocks function.now reached.now }
     requires order { IsOrderOf function.now order.now }
     requires within { b < length function.now.blocks }
+    requires all { ArePredecessors function.now all.now }
     requires way_back { way_back ≡ nat_lt 0 (length (available.predecessors function.now 0)) }
     ensures { OnOk result (AreTold target.xlen (typings.phase_of stage) function.now b (block_at function.now b).instrs out.old.items out.new.items) }
 {
     let instrs = function.instrs(b);
+    let mut passed = nothing();
     for k in 0..instrs.len() {
         push_site(
-            alloc, target, stage, function, reached, order, way_back, b, instrs, k, out,
+            alloc, target, stage, function, reached, order, all, way_back, b, passed, instrs, k, out,
         )?;
+        passed = passed_with(passed, instrs, k);
     }
     Ok(())
 }
@@ -232,18 +255,20 @@ pub(crate) fn push_sites(
     function: &Function,
     reached: &[bool],
     order: &Order,
+    all: &Predecessors,
     way_back: bool,
     out: &mut Vec<Fault>,
 ) -> Result<(), Memory>
     requires xlen { (target.xlen ≡ 32) ⊎ (target.xlen ≡ 64) }
     requires reached { AreReachedBlocks function.now reached.now }
     requires order { IsOrderOf function.now order.now }
+    requires all { ArePredecessors function.now all.now }
     requires way_back { way_back ≡ nat_lt 0 (length (available.predecessors function.now 0)) }
     ensures { OnOk result (AllTold target.xlen (typings.phase_of stage) function.now out.old.items out.new.items) }
 {
     for b in 0..function.block_count() {
         push_block(
-            alloc, target, stage, function, reached, order, way_back, b, out,
+            alloc, target, stage, function, reached, order, all, way_back, b, out,
         )?;
     }
     Ok(())

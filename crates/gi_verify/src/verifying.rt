@@ -8,7 +8,7 @@ ghost use Rattle.gi_verify.specs.Sets.{AreAllFaults};
 
 use crate::definitions::push_double;
 use crate::lowest::of_lowest_line;
-use crate::physical::has_way_back;
+use crate::predecessors::{has_way_back, predecessors_of};
 use crate::reached::reached;
 use crate::settled::order_of;
 use crate::site::{push_sites, push_successors};
@@ -37,7 +37,8 @@ fn faults_of(
 {
     let reached = reached(alloc, function)?;
     let order = order_of(alloc, function, reached.as_slice())?;
-    let way_back = has_way_back(alloc, function)?;
+    let predecessors = predecessors_of(alloc, function)?;
+    let way_back = has_way_back(function, &predecessors);
     let mut all = Vec::new(alloc);
     push_double(alloc, function, &mut all)?;
     push_sites(
@@ -47,6 +48,7 @@ fn faults_of(
         function,
         reached.as_slice(),
         &order,
+        &predecessors,
         way_back,
         &mut all,
     )?;
