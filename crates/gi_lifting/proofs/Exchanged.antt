@@ -68,7 +68,7 @@ other-way slots = slots
 abbrev pub turned : Operation → Operation
 turned o = record o { slots = other-way o.slots }
 
-acts-turned : (x : ℕ) (w : World) (o : Operation) (i j : ℕ) → is_commutative o.op ≡ true → o.slots ≡ At i ∷ At j ∷ [] → (outside : Outside) (env : Environment) (answer : Answer)
+pub acts-turned : (x : ℕ) (w : World) (o : Operation) (i j : ℕ) → is_commutative o.op ≡ true → o.slots ≡ At i ∷ At j ∷ [] → (outside : Outside) (env : Environment) (answer : Answer)
     → Acts x w o outside env answer → Acts x w (record o { slots = At j ∷ At i ∷ [] }) outside env answer
 acts-turned x w o i j commutative slots outside env answer acts =
     by (slice_get env i) (slice_get env j) (subst (λ (ss : List Slot). ActsFrom x w o outside (arguments_at env ss) answer) slots acts)

@@ -62,12 +62,12 @@ constant-shown x f b value ty = ap (λ (n : ℕ). Some (Bits n (bits_made (min n
 
 -- ══ Constants of an instruction's own ══
 
-abbrev numbers : List MakeSlot → ℕ → List ℕ
+abbrev pub numbers : List MakeSlot → ℕ → List ℕ
 numbers [] next = []
 numbers (make.Fresh value ty ∷ slots) next = next ∷ numbers slots (next + 1)
 numbers (_ ∷ slots) next = numbers slots next
 
-append-nothing : (rs : List ℕ) → rs ++ [] ≡ rs
+pub append-nothing : (rs : List ℕ) → rs ++ [] ≡ rs
 append-nothing [] = refl
 append-nothing (r ∷ rs) = ap (λ qs. r ∷ qs) (append-nothing rs)
 
@@ -194,7 +194,7 @@ many-defined after [] = refl
 many-defined after (make.Def place ty ∷ slots) = omega (arith, many-defined after slots)
 many-defined after (_ ∷ slots) = many-defined after slots
 
-named-behind : (x : ℕ) (types : Types) (b : Binding) (places : Names) (registers : List ℕ) (m : MakeData) (next : ℕ) (now : Binding) → AreNamed places registers now
+pub named-behind : (x : ℕ) (types : Types) (b : Binding) (places : Names) (registers : List ℕ) (m : MakeData) (next : ℕ) (now : Binding) → AreNamed places registers now
     → AreNamed (names_after x types b places m) ((registers ++ numbers m.slots next) ++ defined_registers (bound_after b m next now) m.slots) (bound_after b m next now)
 named-behind x types b places registers m next now are = record {
   many = omega (
@@ -250,7 +250,7 @@ named-behind x types b places registers m next now are = record {
 
 -- ══ All that a rule makes ══
 
-grown-behind : (registers rs : List ℕ) → grown registers rs ≡ registers ++ rs
+pub grown-behind : (registers rs : List ℕ) → grown registers rs ≡ registers ++ rs
 grown-behind registers [] = sym (append-nothing registers)
 grown-behind registers (r ∷ rs) = grown-behind (registers ++ r ∷ []) rs ∙ append_assoc registers (r ∷ []) rs
 

@@ -54,13 +54,13 @@ live_one p (k ∷ blocks) there =
         (λ later. or_right (q.0 == p.0) (list_any (λ (e : ℕ × InstrData). e.0 == p.0) is) (has p is later)) there
 
 -- the definition that a match looks at is that of the register
-record HasDefinition (f : FunctionData) (b : Binding) (m : MatchData) (i : InstrData) : Type 0 where
-  place : ℕ
-  defined : place_defined m.slots ≡ Some place
-  register : Reg
-  bound : register_at b place ≡ Some register
-  id : ℕ
-  is : definition f register.0 ≡ Some (id, i)
+pub record HasDefinition (f : FunctionData) (b : Binding) (m : MatchData) (i : InstrData) : Type 0 where
+  pub place : ℕ
+  pub defined : place_defined m.slots ≡ Some place
+  pub register : Reg
+  pub bound : register_at b place ≡ Some register
+  pub id : ℕ
+  pub is : definition f register.0 ≡ Some (id, i)
 
 and_then : {X Y : Type 0} (g : X → Option Y) (o : Option X) (c : Y) → option_and_then g o ≡ Some c → (d : X) × (o ≡ Some d) × (g d ≡ Some c)
 and_then g None c h = cc
@@ -78,7 +78,7 @@ looked_up f own r id i h l = by (definition f r) refl h
         let there : IsOneOf (id, i) (all_instrs f.blocks) = found_by_id f id i live l in
         so ∙ ap (λ k. Some k) (one_with id e (id, i) (all_instrs f.blocks) (subst (λ n. n ≤ 1) (uses_in_all id f.blocks) (own.once id)) inside there (eq-eqb e.0 id same) (eq-eqb id id refl))
 
-definition_found : (f : FunctionData) → AreOwnIds f.blocks f.next_id → (b : Binding) (m : MatchData) (ms : List MatchData) (i : InstrData) → definition_at f b (m ∷ ms) ≡ Some i → HasDefinition f b m i
+pub definition_found : (f : FunctionData) → AreOwnIds f.blocks f.next_id → (b : Binding) (m : MatchData) (ms : List MatchData) (i : InstrData) → definition_at f b (m ∷ ms) ≡ Some i → HasDefinition f b m i
 definition_found f own b m ms i h =
     let (id, by_register, found) = and_then (instr_of f) (option_and_then (λ (reg : Reg). definition_of f reg.0) (option_and_then (register_at b) (place_defined m.slots))) i h in
     let (reg, by_place, known) = and_then (λ (reg : Reg). definition_of f reg.0) (option_and_then (register_at b) (place_defined m.slots)) id by_register in
