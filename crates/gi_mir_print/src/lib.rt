@@ -3,6 +3,7 @@
 
 mod blocks;
 mod functions;
+mod hashing;
 mod instruction;
 mod pieces;
 mod registers;

@@ -5,6 +5,7 @@ ghost use Rattle.gi_mir.specs.Numbering.{number_in, with_register, order_of, reg
 ghost use Rattle.gi_mir.specs.Registers.{first_there, kind_in_operand, kind_in_operands, kind_in_instrs, kind_in_blocks};
 ghost use Rattle.gi_mir_print.specs.Shown.{IsNoted, kind_at, kind_noted};
 
+use crate::hashing::RegisterHash;
 use gi_llt::Memory;
 use gi_mir::block::Numbered;
 use gi_mir::function::Function;
@@ -17,8 +18,8 @@ use std::marker::Model;
 /// definition.
 #[derive(Drop)]
 pub(crate) struct Registers {
-    order: IndexSet<u32>,
-    kinds: IndexMap<u32, Kind>,
+    order: IndexSet<u32, RegisterHash>,
+    kinds: IndexMap<u32, Kind, RegisterHash>,
 }
 
 impl Model for Registers {
@@ -30,7 +31,7 @@ impl Model for Registers {
 }
 
 /// Adds a register to the order, unless it is there.
-fn note_register(order: &mut IndexSet<u32>, reg: u32) -> Result<(), Memory>
+fn note_register(order: &mut IndexSet<u32, RegisterHash>, reg: u32) -> Result<(), Memory>
     ensures { OnOk result (order.new.keys ≡ with_register order.old.keys reg) }
 {
     match order.insert_full(reg) {
@@ -40,7 +41,11 @@ fn note_register(order: &mut IndexSet<u32>, reg: u32) -> Result<(), Memory>
 }
 
 /// Notes the kind of a register, unless one is noted.
-fn note_kind(kinds: &mut IndexMap<u32, Kind>, reg: Reg, kind: Kind) -> Result<(), Memory>
+fn note_kind(
+    kinds: &mut IndexMap<u32, Kind, RegisterHash>,
+    reg: Reg,
+    kind: Kind,
+) -> Result<(), Memory>
     ensures { OnOk result ((r : ℕ) → kind_noted kinds.new.entries r ≡ first_there (kind_noted kinds.old.entries r) (kind_in_operand r (Operand.Def reg kind))) }
 {
     if kinds.contains_key(&reg.0) {
@@ -53,7 +58,7 @@ fn note_kind(kinds: &mut IndexMap<u32, Kind>, reg: Reg, kind: Kind) -> Result<()
 }
 
 /// The place of a register in the order, and a number past the end where it has none.
-fn number_among(order: &IndexSet<u32>, reg: Reg) -> u64
+fn number_among(order: &IndexSet<u32, RegisterHash>, reg: Reg) -> u64
     ensures { result ≡ number_in order.now.keys reg.0 }
 {
     let count = order.len() as u64;
@@ -64,7 +69,7 @@ fn number_among(order: &IndexSet<u32>, reg: Reg) -> u64
 }
 
 /// The kind of a register, and `Class` where none is noted.
-fn kind_among(kinds: &IndexMap<u32, Kind>, reg: Reg) -> Kind
+fn kind_among(kinds: &IndexMap<u32, Kind, RegisterHash>, reg: Reg) -> Kind
     ensures { result ≡ unwrap_or (kind_noted kinds.now.entries reg.0) Kind.Class }
 {
     kinds.get(&reg.0).copied().unwrap_or(Kind::Class)
@@ -77,8 +82,8 @@ impl Registers {
         ensures kinds { result.kinds ≡ [] }
     {
         Registers {
-            order: IndexSet::new(alloc),
-            kinds: IndexMap::new(alloc),
+            order: IndexSet::with_hasher(alloc, RegisterHash::new()),
+            kinds: IndexMap::with_hasher(alloc, RegisterHash::new()),
         }
     }
 
