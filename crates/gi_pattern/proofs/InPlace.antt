@@ -1,5 +1,5 @@
 -- A rewriting seen at once.
-use Rattle.std.proofs.Common.{◌≡◌, ℕ, zero, suc, ◌+◌, ◌-◌, ◌<◌, ◌≤◌, Bool, true, false, not, ◌||◌, cond, List, [], ◌∷◌, ◌++◌, Option, Some, None, length, take, drop, get_or, set, map, refl, sym, subst, ap, ap₂, ◌∙◌, append_assoc, arith, eqb-true, eq-eqb, true≢false}
+use Rattle.std.proofs.Common.{◌≡◌, ℕ, zero, suc, ◌+◌, ◌<◌, Bool, true, false, not, ◌||◌, cond, List, [], ◌∷◌, ◌++◌, Option, Some, None, length, take, drop, get_or, set, map, refl, sym, subst, ap, ap₂, ◌∙◌, append_assoc, arith, eq-eqb}
 use Rattle.std.specs.Prelude.{insert, remove, option_map, slice_get, ◌==◌}
 use Rattle.std.specs.List.{list_any}
 use Rattle.std.proofs.lemmas.Bool.Decides.{nat_tests}
@@ -9,9 +9,9 @@ use Rattle.gi_mir.specs.declared.block.InstrId.{InstrId}
 use Rattle.gi_mir.specs.declared.operand.Operand.{Operand}
 use Rattle.gi_mir.specs.declared.operand.Operand.TheVariants as operand
 use Rattle.gi_mir.specs.Data.{InstrData, BlockData, FunctionData}
-use Rattle.gi_mir.specs.Edit.{IsLive, block_at, block_with_instr, empty_block, home_of, id_after, instrs_with, place_in_block, place_of, with_instr, without_instr}
+use Rattle.gi_mir.specs.Edit.{IsLive, block_at, block_with_instr, empty_block, home_of, instrs_with, place_in_block, place_of, with_instr, without_instr}
 use Rattle.gi_mir.specs.Ids.{AreOwnIds}
-use Rattle.gi_mir.specs.Places.{HasDistinctIds, id_in, nth_id}
+use Rattle.gi_mir.specs.Places.{HasDistinctIds, nth_id}
 use Rattle.gi_mir.specs.Uses.{block_replaced, entry_replaced, operand_replaced, with_reg_replaced}
 use Rattle.gi_mir.proofs.Located.{HasDistinctIds-in, HasGivenIds-in, nth_id-place_of}
 use Rattle.gi_pattern.specs.Applying.{all_created, id_of, next_to, root_replaced, uses_replaced}
@@ -92,7 +92,7 @@ created (i ∷ made) before front back block b g within is named apart =
 
 -- ---- the root is taken out
 
-remove-parts : {X : Type 0} (xs : List X) (k : ℕ) → remove xs k ≡ take k xs ++ drop (k + 1) xs
+pub remove-parts : {X : Type 0} (xs : List X) (k : ℕ) → remove xs k ≡ take k xs ++ drop (k + 1) xs
 remove-parts [] zero = refl
 remove-parts [] (suc k) = let one : suc k + 1 ≡ suc (k + 1) = omega arith in rw one refl
 remove-parts (x ∷ xs) zero = refl

@@ -98,3 +98,13 @@ pub within-erased : (f : FunctionData) (id block : ℕ) → block < length f.blo
 within-erased f id block within =
     let body = get_or f.blocks (home_of f id) empty_block in
     rw (length-set f.blocks (home_of f id) (record body { instrs = remove body.instrs (place_in_block f id) })) within
+
+-- ---- the same of the function that an edit left
+
+pub created-within : (f g : FunctionData) (block : ℕ) (before : Option InstrId) (i : InstrData) → g ≡ with_instr f block before i → block < length f.blocks → block < length g.blocks
+created-within f g block before i is within = subst (λ (k : FunctionData). block < length k.blocks) (sym is) (within-created f block before i within)
+
+pub created-stands : (f g : FunctionData) (block : ℕ) (before : Option InstrId) (i : InstrData) → g ≡ with_instr f block before i → block < length f.blocks → IfSome before (λ id. Contains (ids_of (block_at f block)) id.0)
+    → IfSome before (λ id. Contains (ids_of (block_at g block)) id.0)
+created-stands f g block before i is within named =
+    subst (λ (k : FunctionData). IfSome before (λ id. Contains (ids_of (block_at k block)) id.0)) (sym is) (stands-created f block before before i within named)

@@ -1,5 +1,5 @@
 -- What a rewriting makes of the blocks of a function, seen at once.
-use Rattle.std.specs.Prelude.{◌≡◌, ℕ, ◌+◌, List, [], ◌∷◌, ◌++◌, Option, take, drop, map, slice_set, ◌==◌, if◌then◌else◌}
+use Rattle.std.specs.Prelude.{ℕ, ◌+◌, List, [], ◌∷◌, ◌++◌, take, drop, map, slice_set, ◌==◌, if◌then◌else◌}
 use Rattle.gi_mir.specs.Data.{InstrData, BlockData, FunctionData}
 use Rattle.gi_mir.specs.Edit.{home_block, home_of, place_in_block}
 use Rattle.gi_mir.specs.declared.operand.Operand.{Operand}

@@ -1,9 +1,7 @@
-use Rattle.std.proofs.Common.{◌≡◌, ◌<◌, ◌∷◌, ap, arith, length, subst, sym, true, Contains, IfSome}
+use Rattle.std.proofs.Common.{◌≡◌, ◌∷◌, ap, arith, length, true}
 use Rattle.std.specs.List.{list_all}
-use Rattle.gi_mir.specs.Data.{FunctionData}
-use Rattle.gi_mir.specs.Edit.{block_at, ids_of}
 use Rattle.gi_mir.specs.Formed.{is_formed}
-use Rattle.gi_pattern.proofs.Standing.{stands-created, within-created}
+use Rattle.gi_pattern.proofs.Standing.{created-stands, created-within}
 use Rattle.gi_pattern.proofs.Told.{creations-then, rest-formed}
 use Rattle.gi_pattern.proofs.applying.+create_all.Goals as goal
 
@@ -19,10 +17,9 @@ create_all-requires g t c κs within =
       (
         within,
         (
-          subst (λ (k : FunctionData). c.args.block < length k.blocks) (sym after) (within-created f c.args.block c.args.before i c.requires.within),
+          created-within f c.create.new.self.function.now c.args.block c.args.before i after c.requires.within,
           (
-            subst (λ (k : FunctionData). IfSome c.args.before (λ id. Contains (ids_of (block_at k c.args.block)) id.0)) (sym after)
-                (stands-created f c.args.block c.args.before c.args.before i c.requires.within c.requires.stands),
+            created-stands f c.create.new.self.function.now c.args.block c.args.before i after c.requires.within c.requires.stands,
             rest-formed is_formed (is_formed i) (list_all is_formed left) formed,
           ),
         ),

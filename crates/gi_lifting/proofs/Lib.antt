@@ -1,0 +1,17 @@
+pub mod Casts
+pub mod Examples
+pub mod Exchanged
+pub mod Fits
+pub mod Known
+pub mod Parts
+pub mod Positions
+pub mod Powers
+pub mod Replaced
+pub mod ReplacedExample
+pub mod Rooted
+pub mod Roots
+pub mod Rows
+pub mod Rules
+pub mod Shown
+pub mod TurnedExample
+pub mod Used

@@ -1,0 +1,4 @@
+//! Rules as data, sound on values.
+#![tactic(auto)]
+
+pub mod laws;

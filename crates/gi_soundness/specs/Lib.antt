@@ -1,0 +1,4 @@
+pub mod Applying
+pub mod Conditions
+pub mod Rewriting
+pub mod Rules
