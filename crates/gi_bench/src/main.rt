@@ -1,18 +1,25 @@
 //! Does a kind of work of a size that is read from standard input, and prints counts alone.
-//! Each line of the input is a kind of work and a number of bytes, as `tokens 65536`.
+//! Each line of the input is a kind of work and a number of bytes, as `tokens 65536`, or of sums or blocks, as
+//! `verified-chain 65535`.
 #![tactic(auto)]
 
 ghost use Rattle.std.specs.Prelude.{◌≡◌, ◌<◌, ◌≤◌, IfOk, vec_len};
 
+use gi_llt::Target;
 use gi_mir::module::Module;
+use gi_mir::stage::Stage;
 use gi_mir_print::print;
 use gi_mir_read::read_mir;
 use gi_text::{LineError, TextError, tokens};
+use gi_verify::verify;
 use std::alloc::{AllocError, Global};
 use std::io;
 
 /// The greatest line that is cut, and about the greatest text that is read.
 const GREATEST: usize = 8_388_608;
+
+/// The most sums or blocks that are read.
+const LONGEST: usize = 4_194_304;
 
 /// What a line repeats: twelve tokens in 32 bytes.
 const PATTERN: &[u8] = b"%10:_(s32) = G_ADD %1, 0x1f -7  ";
@@ -69,6 +76,71 @@ fn text_of(alloc: Global, size: usize) -> Result<String, AllocError> {
     Ok(text)
 }
 
+/// A text of so many sums in one block, each of the register before it and itself.
+fn sums_of(alloc: Global, count: u32) -> Result<String, AllocError>
+    requires { count ≤ 4194304 }
+{
+    let mut text = String::from_str(alloc, HEAD)?;
+    for last in 0..count {
+        let number = last + 1;
+        let line = format!(in alloc; "    %{number}:_(s32) = G_ADD %{last}, %{last}\n")?;
+        text.push_str(line.as_str())?;
+    }
+    text.push_str("    PseudoRET\n")?;
+    Ok(text)
+}
+
+/// A text of so many blocks, each of which adds to the register of the one before it and goes to the next.
+fn chain_of(alloc: Global, count: u32) -> Result<String, AllocError>
+    requires { count ≤ 4194304 }
+{
+    let mut text = String::from_str(alloc, HEAD)?;
+    for last in 0..count.saturating_sub(1) {
+        let number = last + 1;
+        let block = format!(
+            in alloc;
+            "    G_BR %bb.{number}\n\n  bb.{number}:\n    %{number}:_(s32) = G_ADD %{last}, %{last}\n"
+        )?;
+        text.push_str(block.as_str())?;
+    }
+    text.push_str("    PseudoRET\n")?;
+    Ok(text)
+}
+
+/// Whether each function of a module is valid.
+fn are_valid(alloc: Global, m: &Module) -> bool {
+    let target = Target {
+        xlen: 32,
+        zbb: false,
+    };
+    m.functions
+        .iter()
+        .all(|f| verify(alloc, f, target, Stage::Before).is_ok())
+}
+
+/// Reads a text, verifies it where that is asked for, and tells what is found.
+fn checked(alloc: Global, text: &str, verified: bool) -> Result<String, AllocError> {
+    let length = text.len();
+    if u32::MAX as usize <= length {
+        return format!(in alloc; "{length} bytes: too long");
+    }
+    match read_mir(alloc, text.as_bytes()) {
+        Ok(m) => {
+            if !verified {
+                format!(in alloc; "{length} bytes read")
+            } else if are_valid(alloc, &m) {
+                format!(in alloc; "{length} bytes valid")
+            } else {
+                format!(in alloc; "{length} bytes not valid")
+            }
+        }
+        Err(TextError::Syntax { line } | TextError::Unknown { line, .. }) => {
+            format!(in alloc; "{length} bytes: wrong line {line}")
+        }
+        Err(TextError::Memory) => Err(AllocError),
+    }
+}
+
 /// Reads a text of about so many bytes, prints it so many times, and tells how many bytes that gives.
 fn read(alloc: Global, size: usize, times: u32) -> Result<String, AllocError> {
     let text = text_of(alloc, size)?;
@@ -113,6 +185,14 @@ fn work(alloc: Global, request: &str) -> Result<String, AllocError> {
         "tokens" => cut(alloc, size.min(GREATEST)),
         "read" => read(alloc, size.min(GREATEST), 0),
         "print" => read(alloc, size.min(GREATEST), 32),
+        "sums" | "verified-sums" => {
+            let text = sums_of(alloc, size.min(LONGEST) as u32)?;
+            checked(alloc, text.as_str(), kind == "verified-sums")
+        }
+        "chain" | "verified-chain" => {
+            let text = chain_of(alloc, size.min(LONGEST) as u32)?;
+            checked(alloc, text.as_str(), kind == "verified-chain")
+        }
         _ => format!(in alloc; "no work in {request:?}"),
     }
 }

@@ -1,41 +1,40 @@
 -- What is told of an input for which a pass isn't built, and the machine of one that passes the checks.
-use Rattle.std.proofs.Common.{◌≡◌, ℕ, true, List, Option, Some, None, ap, sym, subst, refl}
+use Rattle.std.proofs.Common.{◌≡◌, ◌≤◌, ℕ, Bool, true, false, length, List, Option, Some, None, ap, sym, subst, refl}
 use Rattle.std.specs.Prelude.{Result, Ok, Err, IfOk}
 use Rattle.gi_mir.specs.Data.{ModuleData}
 use Rattle.gi_mir_read.specs.Sizes.{size_fault}
 use Rattle.gi_observe.specs.declared.pass.Pass.{Pass}
 use Rattle.gi_observe.specs.declared.pass.Pass.TheVariants.{RegBankSelect, Select}
-use Rattle.gi_spelling.specs.Lines.{lines_of}
 use Rattle.gi_text.specs.declared.token.SizeError.{SizeError}
-use Rattle.gisel.specs.Answers.{selects, IsChecked, IsNotBuilt, IsSelectedText}
+use Rattle.gisel.specs.Answers.{limit, IsAnswer, IsChecked, IsNotBuilt, IsTextOf}
+use Rattle.gi_spelling.specs.There.{NamesBlocksThatAreThere}
+use Rattle.gi_valid.specs.Typing.{phase_of}
 use Rattle.gisel.specs.Checks.{checked, fitting, keyed, sized, target_of}
 use Rattle.gisel.specs.Keys.{WrongKey, wrong_in}
 use Rattle.gisel.specs.Machine.{width_of}
 use Rattle.gisel.specs.Messages.{Tells}
 use Rattle.gisel.specs.Options.{OptionsData}
 use Rattle.gisel.specs.Promise.{Compiles, IsCompiled, IsTarget}
-use Rattle.gisel.specs.Refused.{AtLine, IsRefusedAt, IsStatedLines}
-use Rattle.gisel.specs.Unrun.{unbuilt}
+use Rattle.gisel.specs.Selectable.{AllSelectable}
+use Rattle.gisel.specs.Unrun.{selects, unbuilt}
+use Rattle.gisel.specs.Validity.{stage_after}
 use Rattle.gisel.specs.declared.machine.Machine.{Machine}
 use Rattle.gisel.specs.declared.machine.Machine.TheVariants.{Riscv32, Riscv64}
 use Rattle.gisel.specs.declared.messages.Refused.{Refused}
 use Rattle.gisel.specs.declared.messages.Refused.TheVariants as refused
-use Rattle.gisel.specs.declared.refusal.Refusal.{Refusal}
-use Rattle.gisel.specs.declared.refusal.Refusal.TheVariants as refusal
-use Rattle.gisel.proofs.TextLemmas.{not_refused}
+use Rattle.gisel.proofs.CompileLaws.{compiled}
+use Rattle.gisel.proofs.PrintedLaws.{kept}
+use Rattle.gisel.proofs.ValidBlocks.{all_there}
+use Rattle.gisel.proofs.ValidShapes.{built_selectable}
 
 pub tells_not_built : (options : OptionsData) (read : List ℕ) (start : Pass) (machine : Machine) (source : ModuleData) → IsChecked options read start machine source
-    → (selects start options.stop machine ≡ true → IsStatedLines (lines_of read) → ⊥)
-    → (why : Refused) → Tells why (λ message. unbuilt start options.stop source.functions ≡ Some message) → Tells why (IsNotBuilt options read)
-tells_not_built options read start machine source passes other (refused.Message message) told =
-    record { start = start; machine = machine; source = source; passes = passes; other = other; says = told }
-tells_not_built options read start machine source passes other refused.Memory told = told
+    → (why : Refused) → Tells why (λ message. unbuilt start options.stop machine source.functions ≡ Some message) → Tells why (IsNotBuilt options read)
+tells_not_built options read start machine source passes (refused.Message message) told =
+    record { start = start; machine = machine; source = source; passes = passes; says = told }
+tells_not_built options read start machine source passes refused.Memory told = told
 
 pub tells_memory : (why : Refused) (Such : List ℕ → Type 0) → why ≡ refused.Memory → Tells why Such
 tells_memory why Such is = subst (λ r. Tells r Such) (sym is) tt
-
-pub not_stated : (read : List ℕ) (line : ℕ) (why : Refusal) → why ≡ refusal.NotBuilt line → AtLine why (IsRefusedAt read) → IsStatedLines (lines_of read) → ⊥
-not_stated read line why is at stated = not_refused read line stated (subst (λ r. AtLine r (IsRefusedAt read)) is at)
 
 -- ══ The machine ══
 
@@ -79,3 +78,39 @@ its_compiled options read written start machine source passes compiles =
 pub each_right : {X Y : Type 0} (P Q : X → Type 0) (r : Result X Y) → ((x : X) → P x → Q x) → IfOk r P → IfOk r Q
 each_right P Q (Ok x) f h = f x h
 each_right P Q (Err y) f h = tt
+
+-- ══ The text ══
+
+its_there : (options : OptionsData) (read : List ℕ) (start : Pass) (machine : Machine) (source : ModuleData) → IsChecked options read start machine source → NamesBlocksThatAreThere source
+its_there options read start machine source passes = record { each = all_there (width_of machine) (phase_of (stage_after start)) source.functions passes.valid }
+
+-- the functions of a module that passes the checks can be selected, where selection is run and nothing of them isn't built
+pub its_selectable : (options : OptionsData) (read : List ℕ) (start : Pass) (machine : Machine) (source : ModuleData) → IsChecked options read start machine source
+    → unbuilt start options.stop machine source.functions ≡ None → selects start options.stop machine ≡ true → AllSelectable source.functions
+its_selectable options read start machine source passes built so =
+    built_selectable (width_of machine) (phase_of (stage_after start)) start options.stop machine source.functions passes.valid built so
+
+text_compiles : (options : OptionsData) (read written : List ℕ) (start : Pass) (machine : Machine) (source : ModuleData) → IsChecked options read start machine source
+    → unbuilt start options.stop machine source.functions ≡ None → (t : Bool) → selects start options.stop machine ≡ t → IsTextOf t source written → Compiles (width_of machine) read written
+text_compiles options read written start machine source passes built true so text =
+    subst (λ x. Compiles x read written) (sym (selects_32 start options.stop machine so))
+    (compiled read written source text.selected passes.reads (its_there options read start machine source passes) (its_selectable options read start machine source passes built so) text.selects text.text)
+text_compiles options read written start machine source passes built false so same =
+    kept (width_of machine) read written (phase_of (stage_after start)) source passes.reads passes.valid same
+
+pub its_text_compiles : (options : OptionsData) (read written : List ℕ) (start : Pass) (machine : Machine) (source : ModuleData) → IsChecked options read start machine source
+    → unbuilt start options.stop machine source.functions ≡ None → (t : Bool) → t ≡ selects start options.stop machine → IsTextOf t source written → IsCompiled options read written
+its_text_compiles options read written start machine source passes built t so text =
+    its_compiled options read written start machine source passes (text_compiles options read written start machine source passes built t (sym so) text)
+
+pub its_answer : (options : OptionsData) (read written : List ℕ) (start : Pass) (machine : Machine) (source : ModuleData) → length read ≤ limit → IsChecked options read start machine source
+    → unbuilt start options.stop machine source.functions ≡ None → (t : Bool) → t ≡ selects start options.stop machine → IsTextOf t source written → IsAnswer options read written
+its_answer options read written start machine source within passes built t so text = record {
+  within = within;
+  start = start;
+  machine = machine;
+  source = source;
+  passes = passes;
+  built = built;
+  text = subst (λ u. IsTextOf u source written) so text;
+}

@@ -1,53 +1,48 @@
 -- A text that is printed of what is selected from a read one keeps the promise.
-use Rattle.std.proofs.Common.{◌≡◌, ℕ, suc, true, ◌&&◌, List, [], ◌∷◌, length, map, refl, sym, ap, ap₂, ◌∙◌, subst}
+use Rattle.std.proofs.Common.{◌≡◌, ℕ, suc, true, ◌&&◌, List, [], ◌∷◌, length, map, inl, inr, refl, sym, ap, ap₂, ◌∙◌, subst}
 use Rattle.std.specs.Prelude.{nat_le, nat_lt, ◌^◌}
 use Rattle.std.specs.List.{AllByRecursion, AllZip, list_all}
 use Rattle.std.specs.Cmp.Derive.{both_true}
+use Rattle.std.proofs.lemmas.Bool.{and_parts}
 use Rattle.gi_mir.specs.Data.{InstrData, BlockData, FunctionData, ModuleData}
 use Rattle.gi_mir.specs.declared.operand.Operand.{Operand}
 use Rattle.gi_mir.specs.declared.operand.Operand.TheVariants as operand
+use Rattle.gi_mir.specs.declared.operand.StackObject.{StackObject}
 use Rattle.gi_mir.specs.Numbering.{order_of, number_in, numbered, numbered_module}
 use Rattle.gi_mir.specs.Renaming.{renamed_operand, renamed_pair}
 use Rattle.gi_spelling.specs.Documents.{is_name}
 use Rattle.gi_spelling.specs.Printable.{Counts, counts_of, IsPrintableInstr, IsPrintableBlock, is_writable_object, is_live_first, IsPrintableFunction, are_ir_lines, IsPrintableModule}
 use Rattle.gi_spelling.specs.Printed.{name_at, printed}
+use Rattle.gi_spelling.specs.Read.{IsReadModule}
 use Rattle.gi_spelling.specs.Spelling.{Spells}
-use Rattle.gi_spelling.specs.Stated.{StatedInstr, IsStated, IsStatedText}
+use Rattle.gi_spelling.specs.There.{NamesBlocksThatAreThere}
 use Rattle.gi_spelling.specs.Words.{greatest_block}
 use Rattle.gi_mir.proofs.NumberingLaws.{number_in_apart}
 use Rattle.gi_spelling.proofs.NumberedPrintable.{numbered_printable}
 use Rattle.gi_spelling.proofs.PrintedTexts.{printed_spells}
-use Rattle.gi_spelling.proofs.Texts.{stated_name}
-use Rattle.gi_spelling.proofs.StatedTexts.{liveins_below, stated_text_spelled}
+use Rattle.gi_spelling.proofs.ReadSpells.{read_spelled}
+use Rattle.gi_spelling.proofs.SpelledPrintable.{spelled_printable}
 use Rattle.gi_meaning.proofs.Renaming.{runs_renamed}
 use Rattle.gi_refine.specs.Refinement.{IsRefinement}
+use Rattle.gi_refine.specs.Replacing.{IsSameBlock as IsAlikeBlock}
+use Rattle.gi_refine.proofs.SameBlocks.{same_blocks_refine}
 use Rattle.gi_refine.proofs.Refining.{refines_through}
 use Rattle.gisel.specs.Rows.{selection_rows}
 use Rattle.gisel.specs.Selecting.{short_among}
 use Rattle.gisel.specs.Selection.{classed_operand, classed_block, selected_form, IsSameInstr, IsSameBlock, IsSameFunction, IsSelected, IsSelectedModule}
-use Rattle.gisel.specs.Selectable.{IsSelectable, AllSelectable}
+use Rattle.gisel.specs.Selectable.{IsOneBlock, IsSelectable, AllSelectable}
 use Rattle.gisel.specs.Promise.{Refines, Compiles}
 use Rattle.gisel.proofs.ClassedRuns.{classed_pairs, classed_refines}
 use Rattle.gisel.proofs.NormalForms.{one_normal_form}
 use Rattle.gisel.proofs.SelectShapes.{shaped, classed_all, is_nameless_operand, is_nameless, in_order}
 use Rattle.gisel.proofs.SelectSteps.{Came}
-use Rattle.gisel.proofs.SelectLoops.{NormalOf, normal_of}
-use Rattle.gisel.proofs.SelectedPrintable.{among_short, none_defined, selected_fine}
+use Rattle.gisel.proofs.SelectLoops.{NormalOf, normal_of, normal_without_blocks}
+use Rattle.gisel.proofs.SelectedPrintable.{among_short, selected_fine}
 
 -- ══ What is selected ══
 
--- a stated function
-pub record IsReadFunction (names : List (List ℕ)) (f : FunctionData) : Type 0 where
-  pub instrs : List StatedInstr
-  pub block : BlockData
-  pub stated : IsStated names f instrs block
-
-abbrev pub read_selectable : (names : List (List ℕ)) (f : FunctionData) → IsReadFunction names f → IsSelectable f
-read_selectable names f h =
-    record { instrs = h.instrs; block = h.block; blocks = h.stated.blocks; stated = h.stated.instructed; ordered = h.stated.ordered; no_objects = h.stated.no_objects }
-
 -- the one block of what is selected, and what it is selected from
-pub record SelectedBlock (f : FunctionData) (h : IsSelectable f) (g : FunctionData) : Type 0 where
+pub record SelectedBlock (f : FunctionData) (h : IsOneBlock f) (g : FunctionData) : Type 0 where
   pub came : Came (short_among h.block.instrs) f h.block [] [] h.block.instrs f.next_reg f.next_id
   pub start : f ≡ shaped f h.block h.block.instrs f.next_reg f.next_id
   pub block : BlockData
@@ -59,14 +54,14 @@ pub record SelectedBlock (f : FunctionData) (h : IsSelectable f) (g : FunctionDa
   pub legalized : g.legalized ≡ f.legalized
   pub banked : g.banked ≡ f.banked
   pub chosen : g.selected ≡ true
-  pub stack : g.stack ≡ []
+  pub stack : g.stack ≡ f.stack
 
 only_same : (b : BlockData) (bs : List BlockData) → AllZip IsSameBlock (b ∷ []) bs → (c : BlockData) × (bs ≡ c ∷ []) × IsSameBlock b c
 only_same b [] h = absurd h
 only_same b (c ∷ []) h = (c, refl, h.0)
 only_same b (c ∷ d ∷ bs) h = absurd h.1
 
-pub selected_block : (f : FunctionData) (h : IsSelectable f) (g : FunctionData) → IsSelected f g → SelectedBlock f h g
+pub selected_block : (f : FunctionData) (h : IsOneBlock f) (g : FunctionData) → IsSelected f g → SelectedBlock f h g
 selected_block f h g made =
     let found = normal_of f h in
     let n : NormalOf f h found.0 = found.1 in
@@ -87,7 +82,7 @@ selected_block f h g made =
       legalized = same.legalized;
       banked = same.banked;
       chosen = same.chosen;
-      stack = same.stack ∙ h.no_objects;
+      stack = same.stack;
     }
 
 -- ══ What is printed can be spelled ══
@@ -119,34 +114,73 @@ fine_same names counts (i ∷ is) (j ∷ js) same fine =
     let here : IsPrintableInstr names counts (0, j.1) = subst (λ (k : InstrData). IsPrintableInstr names counts (0, k)) (sym same.0) fine.0 in
     (record { formed = here.formed; operands = here.operands; memory = here.memory }, fine_same names counts is js same.1 fine.1)
 
-one_writable : (names : List (List ℕ)) (g : FunctionData) (block : BlockData) → g.blocks ≡ block ∷ [] → g.stack ≡ [] → is_name (name_at names g.name) ≡ true
-    → list_all (λ n. nat_lt n 32) block.liveins ≡ true → block.successors ≡ [] → AllByRecursion (IsPrintableInstr names (counts_of g)) block.instrs → IsPrintableFunction names g
-one_writable names g block blocks stack named live successors instrs = record {
-  named = named;
-  few_objects = subst (λ objects. nat_le (length objects) (2 ^ 128) ≡ true) (sym stack) refl;
-  objects = subst (λ objects. list_all is_writable_object objects ≡ true) (sym stack) refl;
-  few_blocks = subst (λ bs. nat_le (length bs) (suc greatest_block) ≡ true) (sym blocks) refl;
-  live_first = subst (λ bs. is_live_first bs ≡ true) (sym blocks) (both_true live refl);
-  blocks = subst (AllByRecursion (IsPrintableBlock names (counts_of g))) (sym blocks)
-      (record { successors = subst (λ places. list_all (λ place. nat_lt place (length g.blocks)) places ≡ true) (sym successors) refl; instrs = instrs }, tt);
-}
+counts_same : (f g : FunctionData) → length g.blocks ≡ length f.blocks → g.stack ≡ f.stack → counts_of f ≡ counts_of g
+counts_same f g blocks stack =
+    sym (ap₂ (λ (b : ℕ) (objects : List StackObject). let counts : Counts = record { blocks = b; objects = length objects } in counts) blocks stack)
 
-selected_printable : (names : List (List ℕ)) (f g : FunctionData) → IsReadFunction names f → IsSelected f g → IsPrintableFunction names g
-selected_printable names f g h made =
-    let one : SelectedBlock f (read_selectable names f h) g = selected_block f (read_selectable names f h) g made in
+-- what is selected of one block
+block_printable : (names : List (List ℕ)) (f g : FunctionData) (h : IsOneBlock f) → IsPrintableFunction names f → IsSelected f g → IsPrintableFunction names g
+block_printable names f g h fine made =
+    let one : SelectedBlock f h g = selected_block f h g made in
     let read = h.block.instrs in
-    let fine = selected_fine names (counts_of g) (short_among read) (among_short read) h.instrs read [] h.block.liveins h.stated.instructed (in_order [] h.block.liveins h.instrs h.stated.ordered) none_defined in
-    let classed = subst (AllByRecursion (λ i. IsPrintableInstr names (counts_of g) (0, i))) (sym one.came.same) fine in
-    one_writable names g one.block one.blocks one.stack
-    (ap (λ n. is_name (name_at names n)) one.name ∙ stated_name (name_at names f.name) h.stated.named)
-    (subst (λ numbers. list_all (λ n. nat_lt n 32) numbers ≡ true) (sym one.liveins) (liveins_below h.block.liveins h.stated.live))
-    (one.successors ∙ h.stated.no_successors)
-    (fine_same names (counts_of g) one.came.back one.block.instrs one.instrs classed)
+    let counts : counts_of f ≡ counts_of g = counts_same f g (ap length one.blocks ∙ sym (ap length h.blocks)) one.stack in
+    let old : IsPrintableBlock names (counts_of g) h.block =
+    subst (λ c. IsPrintableBlock names c h.block) counts (subst (AllByRecursion (IsPrintableBlock names (counts_of f))) h.blocks fine.blocks).0 in
+    let classed = subst (AllByRecursion (λ i. IsPrintableInstr names (counts_of g) (0, i))) (sym one.came.same)
+    (selected_fine names (counts_of g) (short_among read) (among_short read) h.shapes read [] h.shaped (in_order [] h.shapes h.ordered) old.instrs) in
+    let live : list_all (λ n. nat_lt n 32) h.block.liveins ≡ true =
+    (and_parts (list_all (λ n. nat_lt n 32) h.block.liveins) true (subst (λ bs. is_live_first bs ≡ true) h.blocks fine.live_first)).0 in record {
+      named = ap (λ n. is_name (name_at names n)) one.name ∙ fine.named;
+      few_objects = ap (λ objects. nat_le (length objects) (2 ^ 128)) one.stack ∙ fine.few_objects;
+      objects = ap (list_all is_writable_object) one.stack ∙ fine.objects;
+      few_blocks = subst (λ bs. nat_le (length bs) (suc greatest_block) ≡ true) (sym one.blocks) refl;
+      live_first = subst (λ bs. is_live_first bs ≡ true) (sym one.blocks) (both_true (ap (list_all (λ n. nat_lt n 32)) one.liveins ∙ live) refl);
+      blocks = subst (AllByRecursion (IsPrintableBlock names (counts_of g))) (sym one.blocks) (
+        record {
+          successors = ap (list_all (λ place. nat_lt place (counts_of g).blocks)) one.successors ∙ old.successors;
+          instrs = fine_same names (counts_of g) one.came.back one.block.instrs one.instrs classed;
+        },
+        tt,
+      );
+    }
+
+-- ══ Functions without a block ══
+
+no_blocks : (bs : List BlockData) → AllZip IsSameBlock [] bs → bs ≡ []
+no_blocks [] h = refl
+no_blocks (b ∷ bs) h = absurd h
+
+-- what is selected of a function without a block is that function but for ids and the key
+record SelectedEmpty (f g : FunctionData) : Type 0 where
+  blocks : g.blocks ≡ []
+  name : g.name ≡ f.name
+  stack : g.stack ≡ f.stack
+
+selected_empty : (f g : FunctionData) → f.blocks ≡ [] → IsSelected f g → SelectedEmpty f g
+selected_empty f g none made =
+    let same : IsSameFunction (selected_form f) g =
+    subst (λ m. IsSameFunction (selected_form m) g) (one_normal_form selection_rows f made.normal f made.is_normal (normal_without_blocks f none)) made.same in
+    record { blocks = no_blocks g.blocks (subst (λ bs. AllZip IsSameBlock (map classed_block bs) g.blocks) none same.blocks); name = same.name; stack = same.stack }
+
+empty_printable : (names : List (List ℕ)) (f g : FunctionData) → f.blocks ≡ [] → IsPrintableFunction names f → IsSelected f g → IsPrintableFunction names g
+empty_printable names f g none fine made =
+    let same : SelectedEmpty f g = selected_empty f g none made in record {
+      named = ap (λ n. is_name (name_at names n)) same.name ∙ fine.named;
+      few_objects = ap (λ objects. nat_le (length objects) (2 ^ 128)) same.stack ∙ fine.few_objects;
+      objects = ap (list_all is_writable_object) same.stack ∙ fine.objects;
+      few_blocks = subst (λ bs. nat_le (length bs) (suc greatest_block) ≡ true) (sym same.blocks) refl;
+      live_first = subst (λ bs. is_live_first bs ≡ true) (sym same.blocks) refl;
+      blocks = subst (AllByRecursion (IsPrintableBlock names (counts_of g))) (sym same.blocks) tt;
+    }
+
+empty_refines : (names : List (List ℕ)) (f g : FunctionData) → f.blocks ≡ [] → IsSelected f g → IsRefinement 32 names f g
+empty_refines names f g none made =
+    same_blocks_refine 32 names f g (subst (λ bs. AllZip IsAlikeBlock bs g.blocks) (sym none) (subst (AllZip IsAlikeBlock []) (sym (selected_empty f g none made).blocks) tt))
 
 -- ══ The promise ══
 
-pub selected_refines : (names : List (List ℕ)) (f : FunctionData) (h : IsSelectable f) (g : FunctionData) → IsSelected f g → IsRefinement 32 names f g
-selected_refines names f h g made =
+block_refines : (names : List (List ℕ)) (f : FunctionData) (h : IsOneBlock f) (g : FunctionData) → IsSelected f g → IsRefinement 32 names f g
+block_refines names f h g made =
     let one : SelectedBlock f h g = selected_block f h g made in
     let came = one.came in
     let normal : FunctionData = shaped f h.block came.back came.next_reg came.next_id in
@@ -158,42 +192,56 @@ selected_refines names f h g made =
     (subst (λ k. IsRefinement 32 names start k) (sym shape)
     (refines_through 32 names start normal (shaped g one.block one.block.instrs g.next_reg g.next_id) (came.goes.refines names) last))
 
-numbered_refines : (names : List (List ℕ)) (f g : FunctionData) → IsReadFunction names f → IsSelected f g → Refines 32 names names f (numbered g)
+-- what is selected refines
+pub selected_refines : (names : List (List ℕ)) (f : FunctionData) → IsSelectable f → (g : FunctionData) → IsSelected f g → IsRefinement 32 names f g
+selected_refines names f (inl none) g made = empty_refines names f g none made
+selected_refines names f (inr h) g made = block_refines names f h g made
+
+-- and is printable
+selected_printable : (names : List (List ℕ)) (f : FunctionData) → IsSelectable f → (g : FunctionData) → IsPrintableFunction names f → IsSelected f g → IsPrintableFunction names g
+selected_printable names f (inl none) g fine made = empty_printable names f g none fine made
+selected_printable names f (inr h) g fine made = block_printable names f g h fine made
+
+selected_name : (f : FunctionData) → IsSelectable f → (g : FunctionData) → IsSelected f g → g.name ≡ f.name
+selected_name f (inl none) g made = (selected_empty f g none made).name
+selected_name f (inr h) g made = (selected_block f h g made).name
+
+numbered_refines : (names : List (List ℕ)) (f g : FunctionData) → IsSelectable f → IsSelected f g → Refines 32 names names f (numbered g)
 numbered_refines names f g h made = record {
-  name = ap (name_at names) (selected_block f (read_selectable names f h) g made).name;
+  name = ap (name_at names) (selected_name f h g made);
   runs = λ world is_world n outcome run.
-      (selected_refines names f (read_selectable names f h) g made).runs world is_world n outcome
+      (selected_refines names f h g made).runs world is_world n outcome
       (runs_renamed (number_in (order_of g)) (number_in_apart (order_of g)) 32 names g world n outcome run);
 }
 
-pub only_function : (f : FunctionData) (gs : List FunctionData) → AllZip IsSelected (f ∷ []) gs → (g : FunctionData) × (gs ≡ g ∷ []) × IsSelected f g
-only_function f [] h = absurd h
-only_function f (g ∷ []) h = (g, refl, h.0)
-only_function f (g ∷ k ∷ gs) h = absurd h.1
+-- ══ Modules ══
 
-pub read_function : (text : List ℕ) (m : ModuleData) (h : IsStatedText text m) → IsReadFunction m.names h.f
-read_function text m h = record { instrs = h.instrs; block = h.block; stated = h.stated }
+all_printable : (names : List (List ℕ)) (fs gs : List FunctionData) → AllSelectable fs → AllByRecursion (IsPrintableFunction names) fs → AllZip IsSelected fs gs → AllByRecursion (IsPrintableFunction names) gs
+all_printable names [] [] h fine made = tt
+all_printable names [] (g ∷ gs) h fine made = absurd made
+all_printable names (f ∷ fs) [] h fine made = absurd made
+all_printable names (f ∷ fs) (g ∷ gs) h fine made = (selected_printable names f h.0 g fine.0 made.0, all_printable names fs gs h.1 fine.1 made.1)
 
-pub all_selectable : (text : List ℕ) (m : ModuleData) → IsStatedText text m → AllSelectable m.functions
-all_selectable text m h = subst AllSelectable (sym h.functions) (read_selectable m.names h.f (read_function text m h), tt)
+all_refine : (names : List (List ℕ)) (fs gs : List FunctionData) → AllSelectable fs → AllZip IsSelected fs gs → AllZip (Refines 32 names names) fs (map numbered gs)
+all_refine names [] [] h made = tt
+all_refine names [] (g ∷ gs) h made = absurd made
+all_refine names (f ∷ fs) [] h made = absurd made
+all_refine names (f ∷ fs) (g ∷ gs) h made = (numbered_refines names f g h.0 made.0, all_refine names fs gs h.1 made.1)
 
-pub compiled : (text written : List ℕ) (m s : ModuleData) → IsStatedText text m → IsSelectedModule m s → written ≡ printed (numbered_module s) → Compiles 32 text written
-compiled text written m s h made wrote =
-    let f : FunctionData = h.f in
-    let read : IsReadFunction m.names f = read_function text m h in
-    let one = only_function f s.functions (subst (λ fs. AllZip IsSelected fs s.functions) h.functions made.functions) in
-    let g : FunctionData = one.0 in
-    let Printable : List FunctionData → Type 0 = AllByRecursion (IsPrintableFunction s.names) in
+-- the text of what is selected from a module that a text is read as, where that names no absent block
+pub compiled : (text written : List ℕ) (m s : ModuleData) → IsReadModule text m → NamesBlocksThatAreThere m → AllSelectable m.functions → IsSelectedModule m s → written ≡ printed (numbered_module s)
+    → Compiles 32 text written
+compiled text written m s reads there h made wrote =
+    let spelled : Spells text m = read_spelled text m reads in
+    let fine : IsPrintableModule m = spelled_printable text m spelled there in
     let printable : IsPrintableModule s = record {
-      ir = subst (λ ir. are_ir_lines ir ≡ true) (sym (made.ir ∙ h.no_ir)) refl;
-      functions = subst Printable (sym one.1) (subst (λ names. IsPrintableFunction names g) (sym made.names) (selected_printable m.names f g read one.2), tt);
+      ir = ap are_ir_lines made.ir ∙ fine.ir;
+      functions = subst (λ names. AllByRecursion (IsPrintableFunction names) s.functions) (sym made.names) (all_printable m.names m.functions s.functions h fine.functions made.functions);
     } in
     record {
       old = m;
       new = numbered_module s;
-      spells_old = stated_text_spelled text m h;
+      spells_old = spelled;
       spells_new = subst (λ bytes. Spells bytes (numbered_module s)) (sym wrote) (printed_spells (numbered_module s) (numbered_printable s printable));
-      refines = subst (λ names. AllZip (Refines 32 m.names names) m.functions (map numbered s.functions)) (sym made.names)
-          (subst (λ fs. AllZip (Refines 32 m.names m.names) fs (map numbered s.functions)) (sym h.functions)
-          (subst (λ gs. AllZip (Refines 32 m.names m.names) (f ∷ []) (map numbered gs)) (sym one.1) (numbered_refines m.names f g read one.2, tt)));
+      refines = subst (λ names. AllZip (Refines 32 m.names names) m.functions (map numbered s.functions)) (sym made.names) (all_refine m.names m.functions s.functions h made.functions);
     }

@@ -1,4 +1,4 @@
--- Which row fits a stated instruction, and what the program puts in its place.
+-- Which row fits an instruction of the five shapes, and what the program puts in its place.
 use Rattle.std.proofs.Common.{◌≡◌, ℕ, suc, ℤ, ◌+◌, pos, neg_ℤ, ◌-◌, ◌<◌, ◌≤◌, Bool, true, false, not, ◌||◌, ◌&&◌, List, [], ◌∷◌, map, Option, Some, None, option_map, ⊎_elim, refl, sym, ap, ap₂, ◌∙◌, subst, arith, if◌then◌else◌, nat_lt, nat_le}
 use Rattle.std.proofs.lemmas.Bool.{and_parts, or_cases, ltb-true, lt-ltb, le-ltb, leb-true, le-leb}
 use Rattle.std.proofs.Math.Nat.{mod-eq_of_lt}
@@ -6,7 +6,7 @@ use Rattle.std.specs.List.{list_any}
 use Rattle.std.specs.Option.{option_or}
 use Rattle.gi_llt.specs.Bits.{signed, unsigned}
 use Rattle.gi_mir.specs.Data.{InstrData, FunctionData, reg_of}
-use Rattle.gi_spelling.specs.Stated.{MakeConstant, AddUp, stated_instr, stated_kind, is_short}
+use Rattle.gisel.specs.Shapes.{MakeConstant, AddUp, shaped_instr, word_kind, is_short}
 use Rattle.gi_mir.specs.declared.opcode.Opcode.TheVariants.{Add, AddImmediate}
 use Rattle.gi_mir.specs.declared.operand.Operand.TheVariants.{Def, Use, Phys, Int}
 use Rattle.gi_meaning.specs.Machine.{is_immediate}
@@ -78,10 +78,10 @@ short_value value h = ⊎_elim
 -- ══ A constant ══
 
 abbrev pub constant_instr : (d value line : ℕ) → InstrData
-constant_instr d value line = stated_instr (MakeConstant d value) line
+constant_instr d value line = shaped_instr (MakeConstant d value) line
 
 abbrev pub constant_list : (d : ℕ) (number : ℤ) (line : ℕ) → List InstrData
-constant_list d number line = made AddImmediate (Def (reg_of d) stated_kind ∷ Phys 0 ∷ Int number ∷ []) line
+constant_list d number line = made AddImmediate (Def (reg_of d) word_kind ∷ Phys 0 ∷ Int number ∷ []) line
 
 -- where the result isn't used, nothing; else ADDI
 abbrev pub unless_dead : (used : Bool) → List InstrData → List InstrData
@@ -114,15 +114,15 @@ constant_selected used constant d value line h u same =
 -- ══ A sum ══
 
 abbrev pub sum_instr : (d a b line : ℕ) → InstrData
-sum_instr d a b line = stated_instr (AddUp d a b) line
+sum_instr d a b line = shaped_instr (AddUp d a b) line
 
 abbrev pub sum_list : (d a b : ℕ) → (first second : Option ℤ) → (line : ℕ) → List InstrData
-sum_list d a b first (Some i) line = add_immediate (reg_of d) stated_kind (reg_of a) i line
-sum_list d a b (Some i) None line = add_immediate (reg_of d) stated_kind (reg_of b) i line
-sum_list d a b None None line = made Add (Def (reg_of d) stated_kind ∷ Use (reg_of a) ∷ Use (reg_of b) ∷ []) line
+sum_list d a b first (Some i) line = add_immediate (reg_of d) word_kind (reg_of a) i line
+sum_list d a b (Some i) None line = add_immediate (reg_of d) word_kind (reg_of b) i line
+sum_list d a b None None line = made Add (Def (reg_of d) word_kind ∷ Use (reg_of a) ∷ Use (reg_of b) ∷ []) line
 
 sum_or : (d a b line : ℕ) (first second : Option ℤ)
-    → option_or (short_sum (reg_of d) stated_kind (reg_of a) (reg_of b) first second line) (option_or (sum_made (sum_instr d a b line)) None) ≡ Some (sum_list d a b first second line)
+    → option_or (short_sum (reg_of d) word_kind (reg_of a) (reg_of b) first second line) (option_or (sum_made (sum_instr d a b line)) None) ≡ Some (sum_list d a b first second line)
 sum_or d a b line first (Some i) = refl
 sum_or d a b line (Some i) None = refl
 sum_or d a b line None None = refl
@@ -132,7 +132,7 @@ pub sum_fits : (used : ℕ → Bool) (constant : ℕ → Option ℤ) (d a b line
 sum_fits used constant d a b line u first second same one other =
     ap (λ t. rows_after_dead t (option_or (short_sum_made constant (sum_instr d a b line)) (option_or (sum_made (sum_instr d a b line)) None))) same
     ∙ dead_or u (sum_list d a b first second line) (option_or (short_sum_made constant (sum_instr d a b line)) (option_or (sum_made (sum_instr d a b line)) None))
-    (ap₂ (λ x y. option_or (short_sum (reg_of d) stated_kind (reg_of a) (reg_of b) x y line) (option_or (sum_made (sum_instr d a b line)) None)) one other
+    (ap₂ (λ x y. option_or (short_sum (reg_of d) word_kind (reg_of a) (reg_of b) x y line) (option_or (sum_made (sum_instr d a b line)) None)) one other
     ∙ sum_or d a b line first second)
 
 pub sum_selected : (used : ℕ → Bool) (constant : ℕ → Option ℤ) (d a b line : ℕ) (u : Bool) (first second : Option ℤ) → used d ≡ u → constant a ≡ first → constant b ≡ second

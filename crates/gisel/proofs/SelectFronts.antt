@@ -1,4 +1,4 @@
--- What stands before a place in a block of stated instructions: it defines registers, each once, and wherever it has
+-- What stands before a place in a block of instructions of the five shapes: it defines registers, each once, and wherever it has
 -- run the registers of short constants hold them.
 use Rattle.std.proofs.Common.{◌≡◌, ℕ, ℤ, Bool, true, false, not, nat_le, cond, ◌||◌, ◌&&◌, ◌==◌, List, [], ◌∷◌, ◌++◌, Option, Some, None, option_map, refl, sym, ap, ap₂, ◌∙◌, subst, if◌then◌else◌}
 use Rattle.std.specs.Prelude.{find, ⊤, unwrap_or}
@@ -11,7 +11,7 @@ use Rattle.gi_llt.specs.Bits.{unsigned}
 use Rattle.gi_mir.specs.Data.{InstrData, BlockData, FunctionData}
 use Rattle.gi_mir.specs.Edit.{defines}
 use Rattle.gi_mir.specs.Registers.{first_there, kind_in_operands, kind_in_instrs}
-use Rattle.gi_spelling.specs.Stated.{StatedInstr, CopyIn, MakeConstant, AddUp, CopyOut, Return, stated_instr, is_among, is_stated_after, is_new, is_short, is_argument, defined_after}
+use Rattle.gisel.specs.Shapes.{ShapedInstr, CopyIn, MakeConstant, AddUp, CopyOut, Return, shaped_instr, is_among, stands_behind, is_short, defined_after}
 use Rattle.gi_mir.specs.declared.operand.Kind.{Kind}
 use Rattle.gi_mir.specs.declared.operand.Kind.TheVariants as kind
 use Rattle.gi_mir.specs.declared.operand.Operand.{Operand}
@@ -200,18 +200,18 @@ apart_by defined a r false same here absent = refl
 pub apart : (defined : List ℕ) (a r : ℕ) → is_among defined a ≡ true → is_among defined r ≡ false → (a == r) ≡ false
 apart defined a r here absent = apart_by defined a r (a == r) refl here absent
 
-pub new_is_absent : (defined : List ℕ) (d : ℕ) → is_new defined d ≡ true → is_among defined d ≡ false
-new_is_absent defined d h = not-true (is_among defined d) (and_parts (not (is_among defined d)) (nat_le d 4194303) h).0
+pub new_is_absent : (defined : List ℕ) (d : ℕ) → not (is_among defined d) ≡ true → is_among defined d ≡ false
+new_is_absent defined d h = not-true (is_among defined d) h
 
-defines_next : (defined : List ℕ) (s : StatedInstr) (id line r : ℕ)
-    → (list_any (defines r) ((id, stated_instr s line) ∷ []) || is_among defined r) ≡ is_among (defined_after defined s) r
+pub defines_next : (defined : List ℕ) (s : ShapedInstr) (id line r : ℕ)
+    → (list_any (defines r) ((id, shaped_instr s line) ∷ []) || is_among defined r) ≡ is_among (defined_after defined s) r
 defines_next defined (CopyIn d p) id line r = ap (λ b. b || is_among defined r) (or_none ((d == r) || false) ∙ or_none (d == r))
 defines_next defined (MakeConstant d v) id line r = ap (λ b. b || is_among defined r) (or_none ((d == r) || false) ∙ or_none (d == r))
 defines_next defined (AddUp d a b) id line r = ap (λ b. b || is_among defined r) (or_none ((d == r) || false) ∙ or_none (d == r))
 defines_next defined (CopyOut p q) id line r = refl
 defines_next defined Return id line r = refl
 
-absent_before : (defined : List ℕ) (s : StatedInstr) (r : ℕ) → is_among (defined_after defined s) r ≡ false → is_among defined r ≡ false
+absent_before : (defined : List ℕ) (s : ShapedInstr) (r : ℕ) → is_among (defined_after defined s) r ≡ false → is_among defined r ≡ false
 absent_before defined (CopyIn d p) r h = (or_false (d == r) (is_among defined r) h).1
 absent_before defined (MakeConstant d v) r h = (or_false (d == r) (is_among defined r) h).1
 absent_before defined (AddUp d a b) r h = (or_false (d == r) (is_among defined r) h).1
@@ -219,36 +219,35 @@ absent_before defined (CopyOut p q) r h = h
 absent_before defined Return r h = h
 
 -- what may stand
-pub copy_absent : (defined live : List ℕ) (d p : ℕ) → is_stated_after defined live (CopyIn d p) ≡ true → is_among defined d ≡ false
-copy_absent defined live d p h =
-    new_is_absent defined d (and_parts (is_new defined d) (is_argument p) (and_parts (is_new defined d && is_argument p) (is_among live p) h).0).0
+pub copy_absent : (defined : List ℕ) (d p : ℕ) → stands_behind defined (CopyIn d p) ≡ true → is_among defined d ≡ false
+copy_absent defined d p h = new_is_absent defined d h
 
-pub constant_parts : (defined live : List ℕ) (d v : ℕ) → is_stated_after defined live (MakeConstant d v) ≡ true → (is_among defined d ≡ false) × (is_short v ≡ true)
-constant_parts defined live d v h = let parts = and_parts (is_new defined d) (is_short v) h in (new_is_absent defined d parts.0, parts.1)
+pub constant_parts : (defined : List ℕ) (d v : ℕ) → stands_behind defined (MakeConstant d v) ≡ true → (is_among defined d ≡ false) × (is_short v ≡ true)
+constant_parts defined d v h = let parts = and_parts (not (is_among defined d)) (is_short v) h in (new_is_absent defined d parts.0, parts.1)
 
-pub sum_parts : (defined live : List ℕ) (d a b : ℕ) → is_stated_after defined live (AddUp d a b) ≡ true → (is_among defined d ≡ false) × (is_among defined a ≡ true) × (is_among defined b ≡ true)
-sum_parts defined live d a b h =
-    let parts = and_parts (is_new defined d && is_among defined a) (is_among defined b) h in
-    let more = and_parts (is_new defined d) (is_among defined a) parts.0 in
+pub sum_parts : (defined : List ℕ) (d a b : ℕ) → stands_behind defined (AddUp d a b) ≡ true → (is_among defined d ≡ false) × (is_among defined a ≡ true) × (is_among defined b ≡ true)
+sum_parts defined d a b h =
+    let parts = and_parts (not (is_among defined d) && is_among defined a) (is_among defined b) h in
+    let more = and_parts (not (is_among defined d)) (is_among defined a) parts.0 in
     (new_is_absent defined d more.0, more.1, parts.1)
 
-pub reads_defined : (defined live : List ℕ) (s : StatedInstr) (id line r : ℕ) → is_stated_after defined live s ≡ true → is_among defined r ≡ false → reads r (id, stated_instr s line) ≡ false
-reads_defined defined live (CopyIn d p) id line r h absent = refl
-reads_defined defined live (MakeConstant d v) id line r h absent = refl
-reads_defined defined live (AddUp d a b) id line r h absent =
-    let parts = sum_parts defined live d a b h in
+pub reads_defined : (defined : List ℕ) (s : ShapedInstr) (id line r : ℕ) → stands_behind defined s ≡ true → is_among defined r ≡ false → reads r (id, shaped_instr s line) ≡ false
+reads_defined defined (CopyIn d p) id line r h absent = refl
+reads_defined defined (MakeConstant d v) id line r h absent = refl
+reads_defined defined (AddUp d a b) id line r h absent =
+    let parts = sum_parts defined d a b h in
     ap₂ (λ x y. x || (y || false)) (apart defined a r parts.1 absent) (apart defined b r parts.2 absent)
-reads_defined defined live (CopyOut p q) id line r h absent = ap (λ x. x || false) (apart defined q r (and_parts (is_argument p) (is_among defined q) h).1 absent)
-reads_defined defined live Return id line r h absent = refl
+reads_defined defined (CopyOut p q) id line r h absent = ap (λ x. x || false) (apart defined q r h absent)
+reads_defined defined Return id line r h absent = refl
 
-pub no_phi : (s : StatedInstr) (id line : ℕ) → phis_of ((id, stated_instr s line) ∷ []) ≡ []
+pub no_phi : (s : ShapedInstr) (id line : ℕ) → phis_of ((id, shaped_instr s line) ∷ []) ≡ []
 no_phi (CopyIn d p) id line = refl
 no_phi (MakeConstant d v) id line = refl
 no_phi (AddUp d a b) id line = refl
 no_phi (CopyOut p q) id line = refl
 no_phi Return id line = refl
 
-pub stated_32 : (s : StatedInstr) (id line : ℕ) → All32 ((id, stated_instr s line) ∷ [])
+pub stated_32 : (s : ShapedInstr) (id line : ℕ) → All32 ((id, shaped_instr s line) ∷ [])
 stated_32 (CopyIn d p) id line = ((refl, tt), tt)
 stated_32 (MakeConstant d v) id line = ((refl, tt), tt)
 stated_32 (AddUp d a b) id line = ((refl, tt), tt)
@@ -257,22 +256,22 @@ stated_32 Return id line = (tt, tt)
 
 -- ══ Short constants stay ══
 
-untouched : (defined live : List ℕ) (s : StatedInstr) (line r : ℕ) → is_stated_after defined live s ≡ true → is_among defined r ≡ true
-    → Untouched r (written_places (meaning_of (stated_instr s line).flags (stated_instr s line).op) (stated_instr s line).operands)
-untouched defined live (CopyIn d p) line r h here = (apart defined r d here (copy_absent defined live d p h), tt)
-untouched defined live (MakeConstant d v) line r h here = (apart defined r d here (constant_parts defined live d v h).0, tt)
-untouched defined live (AddUp d a b) line r h here = (apart defined r d here (sum_parts defined live d a b h).0, tt)
-untouched defined live (CopyOut p q) line r h here = tt
-untouched defined live Return line r h here = tt
+untouched : (defined : List ℕ) (s : ShapedInstr) (line r : ℕ) → stands_behind defined s ≡ true → is_among defined r ≡ true
+    → Untouched r (written_places (meaning_of (shaped_instr s line).flags (shaped_instr s line).op) (shaped_instr s line).operands)
+untouched defined (CopyIn d p) line r h here = (apart defined r d here (copy_absent defined d p h), tt)
+untouched defined (MakeConstant d v) line r h here = (apart defined r d here (constant_parts defined d v h).0, tt)
+untouched defined (AddUp d a b) line r h here = (apart defined r d here (sum_parts defined d a b h).0, tt)
+untouched defined (CopyOut p q) line r h here = tt
+untouched defined Return line r h here = tt
 
 -- an instruction that defines a register as a short constant
-record IsConstantOf (r : ℕ) (number : ℤ) (s : StatedInstr) : Type 0 where
+record IsConstantOf (r : ℕ) (number : ℤ) (s : ShapedInstr) : Type 0 where
   value : ℕ
   same : s ≡ MakeConstant r value
   short : short_number 32 value ≡ Some number
 
 constant_by : (r d v id line : ℕ) (number : ℤ) (t : Bool) → (d == r) ≡ t
-    → short_where (option_map (λ (i : ℕ × InstrData). i.1) (cond (t || false) (Some (id, stated_instr (MakeConstant d v) line)) None)) ≡ Some number → IsConstantOf r number (MakeConstant d v)
+    → short_where (option_map (λ (i : ℕ × InstrData). i.1) (cond (t || false) (Some (id, shaped_instr (MakeConstant d v) line)) None)) ≡ Some number → IsConstantOf r number (MakeConstant d v)
 constant_by r d v id line number true same h = record { value = v; same = ap (λ q. MakeConstant q v) (eqb-true d r same); short = h }
 constant_by r d v id line number false same h = cc
 
@@ -286,10 +285,10 @@ no_constant : {P : Type 0} (i : ℕ × InstrData) (number : ℤ) (t : Bool) → 
 no_constant i number true none h = absurd (none_some number (sym none ∙ h))
 no_constant i number false none h = absurd (none_some number h)
 
-alone_short : (r : ℕ) (s : StatedInstr) (id line : ℕ) (number : ℤ) → short_among ((id, stated_instr s line) ∷ []) r ≡ Some number → IsConstantOf r number s
-alone_short r (CopyIn d p) id line number h = no_constant (id, stated_instr (CopyIn d p) line) number ((d == r) || false) refl h
+alone_short : (r : ℕ) (s : ShapedInstr) (id line : ℕ) (number : ℤ) → short_among ((id, shaped_instr s line) ∷ []) r ≡ Some number → IsConstantOf r number s
+alone_short r (CopyIn d p) id line number h = no_constant (id, shaped_instr (CopyIn d p) line) number ((d == r) || false) refl h
 alone_short r (MakeConstant d v) id line number h = constant_by r d v id line number (d == r) refl h
-alone_short r (AddUp d a b) id line number h = no_constant (id, stated_instr (AddUp d a b) line) number ((d == r) || false) refl h
+alone_short r (AddUp d a b) id line number h = no_constant (id, shaped_instr (AddUp d a b) line) number ((d == r) || false) refl h
 alone_short r (CopyOut p q) id line number h = cc
 alone_short r Return id line number h = cc
 
@@ -301,49 +300,49 @@ value_in : ℕ → Option State → Option ℕ
 value_in r None = None
 value_in r (Some state) = state.values r
 
-pub constant_step : (names : List (List ℕ)) (w : World) (d v line : ℕ) (state after : State) → Steps (plain names) w (stated_instr (MakeConstant d v) line) state (On after) → after.values d ≡ Some v
+pub constant_step : (names : List (List ℕ)) (w : World) (d v line : ℕ) (state after : State) → Steps (plain names) w (shaped_instr (MakeConstant d v) line) state (On after) → after.values d ≡ Some v
 unfolding value_in
 constant_step names w d v line state after step =
     let answered : step.0 ≡ Results (v ∷ []) (outside_of state) = answer_one v (outside_of state) step.0 step.1 in
     let went : Some (put state (Virtual d) v) ≡ Some after = went_on (Some (put state (Virtual d) v)) after (step.2 ∙ ap (progress_of state (Virtual d ∷ [])) answered) in
     ap (value_in d) (sym went) ∙ ap (λ b. if b then Some v else state.values d) (eq-eqb d d refl)
 
-constant_held : (names : List (List ℕ)) (w : World) (r : ℕ) (number : ℤ) (s : StatedInstr) (defined live : List ℕ) (line : ℕ) (state after : State) → IsConstantOf r number s
-    → is_stated_after defined live s ≡ true → Steps (plain names) w (stated_instr s line) state (On after) → HoldsShort after r number
-constant_held names w r number s defined live line state after constant stands step =
-    let made : StatedInstr = MakeConstant r constant.value in
-    let short : IsShort constant.value = short_value constant.value (constant_parts defined live r constant.value (subst (λ t. is_stated_after defined live t ≡ true) constant.same stands)).1 in
+constant_held : (names : List (List ℕ)) (w : World) (r : ℕ) (number : ℤ) (s : ShapedInstr) (defined : List ℕ) (line : ℕ) (state after : State) → IsConstantOf r number s
+    → stands_behind defined s ≡ true → Steps (plain names) w (shaped_instr s line) state (On after) → HoldsShort after r number
+constant_held names w r number s defined line state after constant stands step =
+    let made : ShapedInstr = MakeConstant r constant.value in
+    let short : IsShort constant.value = short_value constant.value (constant_parts defined r constant.value (subst (λ t. stands_behind defined t ≡ true) constant.same stands)).1 in
     let same : short.number ≡ number = some_same short.number number (sym short.by_table ∙ constant.short) in
-    let held : after.values r ≡ Some constant.value = constant_step names w r constant.value line state after (subst (λ t. Steps (plain names) w (stated_instr t line) state (On after)) constant.same step) in
+    let held : after.values r ≡ Some constant.value = constant_step names w r constant.value line state after (subst (λ t. Steps (plain names) w (shaped_instr t line) state (On after)) constant.same step) in
     record {
       holds = held ∙ ap Some (sym short.bits ∙ ap (unsigned 32) same);
       immediate = subst (λ n. is_immediate n ≡ true) same short.immediate;
     }
 
-constants_next : (defined live : List ℕ) (front : List (ℕ × InstrData)) (s : StatedInstr) (id line : ℕ) → IsFront defined front → is_stated_after defined live s ≡ true
-    → (names : List (List ℕ)) (w : World) (state after : State) → LastStep (plain names) w front (id, stated_instr s line) state after
-    → (r : ℕ) (number : ℤ) → short_among (front ++ ((id, stated_instr s line) ∷ [])) r ≡ Some number → (t : Bool) → is_among defined r ≡ t → HoldsShort after r number
-constants_next defined live front s id line before stands names w state after last r number h true here =
+constants_next : (defined : List ℕ) (front : List (ℕ × InstrData)) (s : ShapedInstr) (id line : ℕ) → IsFront defined front → stands_behind defined s ≡ true
+    → (names : List (List ℕ)) (w : World) (state after : State) → LastStep (plain names) w front (id, shaped_instr s line) state after
+    → (r : ℕ) (number : ℤ) → short_among (front ++ ((id, shaped_instr s line) ∷ [])) r ≡ Some number → (t : Bool) → is_among defined r ≡ t → HoldsShort after r number
+constants_next defined front s id line before stands names w state after last r number h true here =
     let held : HoldsShort last.middle r number = before.constants names w state last.middle last.first r number
-    (sym (short_before front ((id, stated_instr s line) ∷ []) r (before.defines_all r ∙ here)) ∙ h) in
+    (sym (short_before front ((id, shaped_instr s line) ∷ []) r (before.defines_all r ∙ here)) ∙ h) in
     record {
-      holds = step_leaves (plain names) w r (stated_instr s line) last.middle after (arguments_of (plain names) w last.middle (stated_instr s line).operands) (untouched defined live s line r stands here) last.step ∙ held.holds;
+      holds = step_leaves (plain names) w r (shaped_instr s line) last.middle after (arguments_of (plain names) w last.middle (shaped_instr s line).operands) (untouched defined s line r stands here) last.step ∙ held.holds;
       immediate = held.immediate;
     }
-constants_next defined live front s id line before stands names w state after last r number h false here =
-    constant_held names w r number s defined live line last.middle after
-    (alone_short r s id line number (sym (short_behind front ((id, stated_instr s line) ∷ []) r (before.defines_all r ∙ here)) ∙ h)) stands last.step
+constants_next defined front s id line before stands names w state after last r number h false here =
+    constant_held names w r number s defined line last.middle after
+    (alone_short r s id line number (sym (short_behind front ((id, shaped_instr s line) ∷ []) r (before.defines_all r ∙ here)) ∙ h)) stands last.step
 
-pub front_next : (defined live : List ℕ) (front : List (ℕ × InstrData)) (s : StatedInstr) (id line : ℕ) → IsFront defined front → is_stated_after defined live s ≡ true
-    → IsFront (defined_after defined s) (front ++ ((id, stated_instr s line) ∷ []))
-front_next defined live front s id line before stands =
-    let i : ℕ × InstrData = (id, stated_instr s line) in record {
+pub front_next : (defined : List ℕ) (front : List (ℕ × InstrData)) (s : ShapedInstr) (id line : ℕ) → IsFront defined front → stands_behind defined s ≡ true
+    → IsFront (defined_after defined s) (front ++ ((id, shaped_instr s line) ∷ []))
+front_next defined front s id line before stands =
+    let i : ℕ × InstrData = (id, shaped_instr s line) in record {
       defines_all = λ r. list_any-append (defines r) front (i ∷ []) ∙ ap (λ b. b || list_any (defines r) (i ∷ [])) (before.defines_all r)
           ∙ or_swapped (is_among defined r) (list_any (defines r) (i ∷ [])) ∙ defines_next defined s id line r;
       reads_only = λ r absent. let earlier : is_among defined r ≡ false = absent_before defined s r absent in
-          list_any-append (reads r) front (i ∷ []) ∙ ap₂ (λ a b. a || (b || false)) (before.reads_only r earlier) (reads_defined defined live s id line r stands earlier);
+          list_any-append (reads r) front (i ∷ []) ∙ ap₂ (λ a b. a || (b || false)) (before.reads_only r earlier) (reads_defined defined s id line r stands earlier);
       no_phis = phis_before front (i ∷ []) (no_phi s id line) ∙ before.no_phis;
       of_32 = all_32 front (i ∷ []) before.of_32 (stated_32 s id line);
-      constants = λ names w state after run r number h. constants_next defined live front s id line before stands names w state after
+      constants = λ names w state after run r number h. constants_next defined front s id line before stands names w state after
           (last_step (plain names) w front i state after run) r number h (is_among defined r) refl;
     }

@@ -4,7 +4,7 @@ use Rattle.std.proofs.Common.{◌≡◌, ℕ, zero, suc, ℤ, ◌+◌, ◌<◌, 
 use Rattle.std.proofs.Math.Nat.{mod-eq_of_lt}
 use Rattle.gi_llt.specs.Bits.{wrapped, unsigned}
 use Rattle.gi_mir.specs.Data.{InstrData, BlockData, FunctionData, reg_of, no_flags}
-use Rattle.gi_spelling.specs.Stated.{stated_kind}
+use Rattle.gisel.specs.Shapes.{word_kind}
 use Rattle.gi_mir.specs.declared.opcode.Opcode.TheVariants.{Add, AddImmediate}
 use Rattle.gi_mir.specs.declared.operand.Operand.TheVariants.{Def, Use, Phys, Int}
 use Rattle.gi_meaning.specs.Act.{Answer, Results}
@@ -175,7 +175,7 @@ alone_goes_on : (names : List (List ℕ)) (w : World) (d v : ℕ) (state : State
 alone_goes_on names w d v state next p answer same made run = subst (λ n. After n (Executes (plain names) w []) p) (made ∙ ap (progress_of state (Virtual d ∷ [])) same) run
 
 abbrev pub constant_new : (d : ℕ) (number : ℤ) (line : ℕ) → InstrData
-constant_new d number line = record { op = AddImmediate; flags = no_flags; operands = Def (reg_of d) stated_kind ∷ Phys 0 ∷ Int number ∷ []; mem = None; line = line }
+constant_new d number line = record { op = AddImmediate; flags = no_flags; operands = Def (reg_of d) word_kind ∷ Phys 0 ∷ Int number ∷ []; mem = None; line = line }
 
 zero_sum : (value : ℕ) (number : ℤ) → unsigned 32 number ≡ value → value < 4294967296 → wrapped 32 (0 + unsigned 32 number) ≡ value
 zero_sum value number same small = ap (λ k. wrapped 32 (0 + k)) same ∙ ap (λ k. k % 4294967296) (let e : 0 + value ≡ value = omega arith in e) ∙ mod-eq_of_lt small
@@ -188,7 +188,7 @@ constant_new_does names w d v id line h state p run =
     run.1.2 run.2
 
 abbrev pub immediate_new : (d a : ℕ) (number : ℤ) (line : ℕ) → InstrData
-immediate_new d a number line = record { op = AddImmediate; flags = no_flags; operands = Def (reg_of d) stated_kind ∷ Use (reg_of a) ∷ Int number ∷ []; mem = None; line = line }
+immediate_new d a number line = record { op = AddImmediate; flags = no_flags; operands = Def (reg_of d) word_kind ∷ Use (reg_of a) ∷ Int number ∷ []; mem = None; line = line }
 
 abbrev value_and_number : Option ℕ → ℤ → Option (List Argument)
 value_and_number a number = joined_lists (Some []) (joined_lists (option_map (λ v. Value 32 v ∷ []) a) (Some (Number number ∷ [])))
@@ -201,7 +201,7 @@ immediate_new_does names w d a x id line number state p short one run =
     (immediate_sum_answers w x number (outside_of state) step.0 short step.1) step.2 run.2
 
 abbrev pub sum_new : (d a b line : ℕ) → InstrData
-sum_new d a b line = record { op = Add; flags = no_flags; operands = Def (reg_of d) stated_kind ∷ Use (reg_of a) ∷ Use (reg_of b) ∷ []; mem = None; line = line }
+sum_new d a b line = record { op = Add; flags = no_flags; operands = Def (reg_of d) word_kind ∷ Use (reg_of a) ∷ Use (reg_of b) ∷ []; mem = None; line = line }
 
 sum_new_does : (names : List (List ℕ)) (w : World) (d a b x y id line : ℕ) (state : State) (p : Progress) → state.values a ≡ Some x → state.values b ≡ Some y
     → Executes (plain names) w ((id, sum_new d a b line) ∷ []) state p → p ≡ On (put state (Virtual d) (wrapped 32 (x + y)))

@@ -10,7 +10,7 @@ use Rattle.gi_mir.specs.Data.{InstrData, BlockData, FunctionData}
 use Rattle.gi_mir.specs.Edit.{above_registers}
 use Rattle.gi_mir.specs.declared.operand.Operand.{Operand}
 use Rattle.gi_mir.specs.declared.operand.Operand.TheVariants as operand
-use Rattle.gi_spelling.specs.Stated.{StatedInstr, is_stated_after, defined_after, live_after, is_return, are_stated}
+use Rattle.gisel.specs.Shapes.{ShapedInstr, stands_behind, defined_after, are_in_order}
 use Rattle.gisel.specs.NormalForm.{last_place, first_fit, next, next_at, rewritten_at, rewritten, with_ids}
 use Rattle.gi_mir.specs.Row.{is_generic_op}
 use Rattle.gisel.specs.Rows.{Site, is_generic, is_use_of, reads, is_used, short_in, selection_rows}
@@ -143,13 +143,11 @@ is_nameless i = list_all is_nameless_operand i.1.operands
 -- ══ What stands before ══
 
 -- instructions of which each may stand
-abbrev pub InOrder : (defined live : List ℕ) → List StatedInstr → Type 0
-InOrder defined live [] = ⊤
-InOrder defined live (s ∷ ss) = (is_stated_after defined live s ≡ true) × InOrder (defined_after defined s) (live_after live s) ss
+abbrev pub InOrder : (defined : List ℕ) → List ShapedInstr → Type 0
+InOrder defined [] = ⊤
+InOrder defined (s ∷ ss) = (stands_behind defined s ≡ true) × InOrder (defined_after defined s) ss
 
-pub in_order : (defined live : List ℕ) (ss : List StatedInstr) → are_stated defined live ss ≡ true → InOrder defined live ss
-in_order defined live [] h = cc
-in_order defined live (s ∷ []) h = ((and_parts _ _ h).1, tt)
-in_order defined live (s ∷ t ∷ ss) h =
-    let parts = and_parts (not (is_return s) && is_stated_after defined live s) (are_stated (defined_after defined s) (live_after live s) (t ∷ ss)) h in
-    ((and_parts (not (is_return s)) (is_stated_after defined live s) parts.0).1, in_order (defined_after defined s) (live_after live s) (t ∷ ss) parts.1)
+pub in_order : (defined : List ℕ) (ss : List ShapedInstr) → are_in_order defined ss ≡ true → InOrder defined ss
+in_order defined [] h = tt
+in_order defined (s ∷ ss) h =
+    let parts = and_parts (stands_behind defined s) (are_in_order (defined_after defined s) ss) h in (parts.0, in_order (defined_after defined s) ss parts.1)

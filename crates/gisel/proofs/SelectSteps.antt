@@ -8,7 +8,7 @@ use Rattle.gi_mir.specs.Data.{InstrData, BlockData, FunctionData}
 use Rattle.gi_mir.specs.Edit.{defines, is_def_of}
 use Rattle.gi_mir.specs.declared.operand.Operand.{Operand}
 use Rattle.gi_mir.specs.declared.operand.Operand.TheVariants as operand
-use Rattle.gi_spelling.specs.Stated.{StatedInstr, CopyIn, MakeConstant, AddUp, CopyOut, Return, stated_instr, IsStatedInstr, is_among, is_stated_after, defined_after, live_after}
+use Rattle.gisel.specs.Shapes.{ShapedInstr, CopyIn, MakeConstant, AddUp, CopyOut, Return, shaped_instr, IsShapedInstr, is_among, stands_behind, defined_after}
 use Rattle.gi_meaning.specs.Runs.{phis_of}
 use Rattle.gi_refine.specs.Refinement.{IsRefinement}
 use Rattle.gi_refine.specs.Replacing.{touches, any_touches}
@@ -71,7 +71,7 @@ goes_between f b front i is js reg id reg' id' goes =
 
 -- ══ An instruction that stays ══
 
-stated_nameless : (s : StatedInstr) (id line : ℕ) → is_nameless (id, stated_instr s line) ≡ true
+stated_nameless : (s : ShapedInstr) (id line : ℕ) → is_nameless (id, shaped_instr s line) ≡ true
 stated_nameless (CopyIn d p) id line = refl
 stated_nameless (MakeConstant d v) id line = refl
 stated_nameless (AddUp d a b) id line = refl
@@ -82,7 +82,7 @@ or_true : (a b : Bool) → b ≡ true → (a || b) ≡ true
 or_true true b h = refl
 or_true false b h = h
 
-among_next : (defined : List ℕ) (s : StatedInstr) (r : ℕ) → is_among defined r ≡ true → is_among (defined_after defined s) r ≡ true
+among_next : (defined : List ℕ) (s : ShapedInstr) (r : ℕ) → is_among defined r ≡ true → is_among (defined_after defined s) r ≡ true
 among_next defined (CopyIn d p) r h = or_true (d == r) (is_among defined r) h
 among_next defined (MakeConstant d v) r h = or_true (d == r) (is_among defined r) h
 among_next defined (AddUp d a b) r h = or_true (d == r) (is_among defined r) h
@@ -90,17 +90,17 @@ among_next defined (CopyOut p q) r h = h
 among_next defined Return r h = h
 
 -- what an instruction that is selected needs of itself
-record Stays (constant : ℕ → Option ℤ) (defined : List ℕ) (s : StatedInstr) (id line : ℕ) (behind : List InstrData) : Type 0 where
-  selects : selected_where (used_in behind) constant (stated_instr s line) ≡ Some (classed_instr (stated_instr s line))
-  plain : is_generic (id, stated_instr s line) ≡ false
-  new : (r : ℕ) → is_among defined r ≡ true → defines r (id, stated_instr s line) ≡ false
+record Stays (constant : ℕ → Option ℤ) (defined : List ℕ) (s : ShapedInstr) (id line : ℕ) (behind : List InstrData) : Type 0 where
+  selects : selected_where (used_in behind) constant (shaped_instr s line) ≡ Some (classed_instr (shaped_instr s line))
+  plain : is_generic (id, shaped_instr s line) ≡ false
+  new : (r : ℕ) → is_among defined r ≡ true → defines r (id, shaped_instr s line) ≡ false
 
-kept_step : (constant : ℕ → Option ℤ) (f : FunctionData) (b : BlockData) (defined : List ℕ) (front : List (ℕ × InstrData)) (s : StatedInstr) (id line : ℕ) (is : List (ℕ × InstrData)) (reg next : ℕ)
+kept_step : (constant : ℕ → Option ℤ) (f : FunctionData) (b : BlockData) (defined : List ℕ) (front : List (ℕ × InstrData)) (s : ShapedInstr) (id line : ℕ) (is : List (ℕ × InstrData)) (reg next : ℕ)
     → Stays constant defined s id line (selected_list constant is)
-    → Came constant f b (defined_after defined s) (front ++ ((id, stated_instr s line) ∷ [])) is reg next
-    → Came constant f b defined front ((id, stated_instr s line) ∷ is) reg next
+    → Came constant f b (defined_after defined s) (front ++ ((id, shaped_instr s line) ∷ [])) is reg next
+    → Came constant f b defined front ((id, shaped_instr s line) ∷ is) reg next
 kept_step constant f b defined front s id line is reg next stays came =
-    let i : ℕ × InstrData = (id, stated_instr s line) in record {
+    let i : ℕ × InstrData = (id, shaped_instr s line) in record {
       back = i ∷ came.back;
       next_reg = came.next_reg;
       next_id = came.next_id;
@@ -113,7 +113,7 @@ kept_step constant f b defined front s id line is reg next stays came =
       nameless = ap₂ (λ x y. x && y) (stated_nameless s id line) came.nameless;
     }
   where
-    no_phi_first : (t : StatedInstr) (n l : ℕ) (rest : List (ℕ × InstrData)) → phis_of ((n, stated_instr t l) ∷ rest) ≡ []
+    no_phi_first : (t : ShapedInstr) (n l : ℕ) (rest : List (ℕ × InstrData)) → phis_of ((n, shaped_instr t l) ∷ rest) ≡ []
     no_phi_first (CopyIn d p) n l rest = refl
     no_phi_first (MakeConstant d v) n l rest = refl
     no_phi_first (AddUp d a c) n l rest = refl
@@ -162,13 +162,13 @@ record Makes (constant : ℕ → Option ℤ) (f : FunctionData) (b : BlockData) 
   nameless : list_all is_nameless (with_ids id made) ≡ true
   owes : (names : List (List ℕ)) → Fits names front (i ∷ []) (with_ids id made) back hidden
 
-made_step : (constant : ℕ → Option ℤ) (f : FunctionData) (b : BlockData) (defined : List ℕ) (front : List (ℕ × InstrData)) (s : StatedInstr) (id line : ℕ) (is : List (ℕ × InstrData)) (reg next : ℕ)
+made_step : (constant : ℕ → Option ℤ) (f : FunctionData) (b : BlockData) (defined : List ℕ) (front : List (ℕ × InstrData)) (s : ShapedInstr) (id line : ℕ) (is : List (ℕ × InstrData)) (reg next : ℕ)
     → IsFront defined front
-    → (came : Came constant f b (defined_after defined s) (front ++ ((id, stated_instr s line) ∷ [])) is reg next)
-    → Makes constant f b defined front (id, stated_instr s line) (selected_list constant is) came.back came.next_reg came.next_id
-    → Came constant f b defined front ((id, stated_instr s line) ∷ is) reg next
+    → (came : Came constant f b (defined_after defined s) (front ++ ((id, shaped_instr s line) ∷ [])) is reg next)
+    → Makes constant f b defined front (id, shaped_instr s line) (selected_list constant is) came.back came.next_reg came.next_id
+    → Came constant f b defined front ((id, shaped_instr s line) ∷ is) reg next
 made_step constant f b defined front s id line is reg next front_is came makes =
-    let i : ℕ × InstrData = (id, stated_instr s line) in
+    let i : ℕ × InstrData = (id, shaped_instr s line) in
     let made : List InstrData = makes.made in
     let new : List (ℕ × InstrData) = with_ids came.next_id made in
     let start : FunctionData = shaped f b (front ++ (i ∷ is)) reg next in
@@ -201,32 +201,32 @@ pub new_apart : (defined : List ℕ) (d r : ℕ) → is_among defined d ≡ fals
 new_apart defined d r absent here = new_apart_by defined d r (d == r) refl absent here
 
 -- an instruction's new result is used in the function where it is used behind the instruction
-used_here : (f : FunctionData) (b : BlockData) (defined live : List ℕ) (front : List (ℕ × InstrData)) (s : StatedInstr) (id line : ℕ) (back : List (ℕ × InstrData)) (reg next d : ℕ)
-    → IsFront defined front → is_stated_after defined live s ≡ true → is_among defined d ≡ false
-    → is_used (shaped f b (front ++ ((id, stated_instr s line) ∷ back)) reg next) d ≡ list_any (reads d) back
-used_here f b defined live front s id line back reg next d front_is stands absent =
-    let i : ℕ × InstrData = (id, stated_instr s line) in
+used_here : (f : FunctionData) (b : BlockData) (defined : List ℕ) (front : List (ℕ × InstrData)) (s : ShapedInstr) (id line : ℕ) (back : List (ℕ × InstrData)) (reg next d : ℕ)
+    → IsFront defined front → stands_behind defined s ≡ true → is_among defined d ≡ false
+    → is_used (shaped f b (front ++ ((id, shaped_instr s line) ∷ back)) reg next) d ≡ list_any (reads d) back
+used_here f b defined front s id line back reg next d front_is stands absent =
+    let i : ℕ × InstrData = (id, shaped_instr s line) in
     used_shaped f b (front ++ (i ∷ back)) reg next d ∙ list_any-append (reads d) front (i ∷ back)
-    ∙ ap₂ (λ x y. x || (y || list_any (reads d) back)) (front_is.reads_only d absent) (reads_defined defined live s id line d stands absent)
+    ∙ ap₂ (λ x y. x || (y || list_any (reads d) back)) (front_is.reads_only d absent) (reads_defined defined s id line d stands absent)
 
 used_behind : (back : List (ℕ × InstrData)) (behind : List InstrData) (d : ℕ) → classed_all back ≡ behind → used_in behind d ≡ list_any (reads d) back
 used_behind back behind d same = ap (λ xs. used_in xs d) (sym same) ∙ used_classed d back
 
 -- ══ A constant ══
 
-constant_makes : (constant : ℕ → Option ℤ) (f : FunctionData) (b : BlockData) (defined live : List ℕ) (front : List (ℕ × InstrData)) (d v id line : ℕ) (is : List (ℕ × InstrData)) (reg next : ℕ)
-    → IsFront defined front → is_stated_after defined live (MakeConstant d v) ≡ true
+constant_makes : (constant : ℕ → Option ℤ) (f : FunctionData) (b : BlockData) (defined : List ℕ) (front : List (ℕ × InstrData)) (d v id line : ℕ) (is : List (ℕ × InstrData)) (reg next : ℕ)
+    → IsFront defined front → stands_behind defined (MakeConstant d v) ≡ true
     → (came : Came constant f b (d ∷ defined) (front ++ ((id, constant_instr d v line) ∷ [])) is reg next) → (u : Bool) → list_any (reads d) came.back ≡ u
     → Makes constant f b defined front (id, constant_instr d v line) (selected_list constant is) came.back came.next_reg came.next_id
-constant_makes constant f b defined live front d v id line is reg next front_is stands came true used =
-    let parts = constant_parts defined live d v stands in
+constant_makes constant f b defined front d v id line is reg next front_is stands came true used =
+    let parts = constant_parts defined d v stands in
     let short : IsShort v = short_value v parts.1 in
     let i : ℕ × InstrData = (id, constant_instr d v line) in
     let g : FunctionData = shaped f b (front ++ (i ∷ came.back)) came.next_reg came.next_id in record {
       made = constant_list d short.number line;
       hidden = nothing_hidden;
       generic = refl;
-      fits = constant_fits (is_used g) (short_in g) d v line short true (used_here f b defined live front (MakeConstant d v) id line came.back came.next_reg came.next_id d front_is stands parts.0 ∙ used);
+      fits = constant_fits (is_used g) (short_in g) d v line short true (used_here f b defined front (MakeConstant d v) id line came.back came.next_reg came.next_id d front_is stands parts.0 ∙ used);
       selects = ap (λ o. before o (selected_list constant is)) (constant_selected (used_in (selected_list constant is)) constant d v line short true (used_behind came.back (selected_list constant is) d came.same ∙ used));
       plain = refl;
       no_phis = refl;
@@ -244,15 +244,15 @@ constant_makes constant f b defined live front d v id line is reg next front_is 
         follows = constant_follows names front d v id came.next_id line short;
       };
     }
-constant_makes constant f b defined live front d v id line is reg next front_is stands came false used =
-    let parts = constant_parts defined live d v stands in
+constant_makes constant f b defined front d v id line is reg next front_is stands came false used =
+    let parts = constant_parts defined d v stands in
     let short : IsShort v = short_value v parts.1 in
     let i : ℕ × InstrData = (id, constant_instr d v line) in
     let g : FunctionData = shaped f b (front ++ (i ∷ came.back)) came.next_reg came.next_id in record {
       made = [];
       hidden = λ q. q == d;
       generic = refl;
-      fits = constant_fits (is_used g) (short_in g) d v line short false (used_here f b defined live front (MakeConstant d v) id line came.back came.next_reg came.next_id d front_is stands parts.0 ∙ used);
+      fits = constant_fits (is_used g) (short_in g) d v line short false (used_here f b defined front (MakeConstant d v) id line came.back came.next_reg came.next_id d front_is stands parts.0 ∙ used);
       selects = ap (λ o. before o (selected_list constant is)) (constant_selected (used_in (selected_list constant is)) constant d v line short false (used_behind came.back (selected_list constant is) d came.same ∙ used));
       plain = refl;
       no_phis = came.no_phis;
@@ -292,12 +292,12 @@ sum_defines id d a b line r first (Some number) h = ap (λ x. (x || false) || fa
 sum_defines id d a b line r (Some number) None h = ap (λ x. (x || false) || false) h
 sum_defines id d a b line r None None h = ap (λ x. (x || false) || false) h
 
-sum_makes : (constant : ℕ → Option ℤ) (f : FunctionData) (b : BlockData) (defined live : List ℕ) (front : List (ℕ × InstrData)) (d a c id line : ℕ) (is : List (ℕ × InstrData)) (reg next : ℕ)
-    → IsFront defined front → is_stated_after defined live (AddUp d a c) ≡ true → ((r : ℕ) → is_among defined r ≡ true → constant r ≡ short_among front r)
+sum_makes : (constant : ℕ → Option ℤ) (f : FunctionData) (b : BlockData) (defined : List ℕ) (front : List (ℕ × InstrData)) (d a c id line : ℕ) (is : List (ℕ × InstrData)) (reg next : ℕ)
+    → IsFront defined front → stands_behind defined (AddUp d a c) ≡ true → ((r : ℕ) → is_among defined r ≡ true → constant r ≡ short_among front r)
     → (came : Came constant f b (d ∷ defined) (front ++ ((id, sum_instr d a c line) ∷ [])) is reg next) → (u : Bool) → list_any (reads d) came.back ≡ u
     → Makes constant f b defined front (id, sum_instr d a c line) (selected_list constant is) came.back came.next_reg came.next_id
-sum_makes constant f b defined live front d a c id line is reg next front_is stands constant_is came true used =
-    let parts = sum_parts defined live d a c stands in
+sum_makes constant f b defined front d a c id line is reg next front_is stands constant_is came true used =
+    let parts = sum_parts defined d a c stands in
     let i : ℕ × InstrData = (id, sum_instr d a c line) in
     let g : FunctionData = shaped f b (front ++ (i ∷ came.back)) came.next_reg came.next_id in
     let first : Option ℤ = short_among front a in
@@ -307,7 +307,7 @@ sum_makes constant f b defined live front d a c id line is reg next front_is sta
       hidden = nothing_hidden;
       generic = refl;
       fits = sum_fits (is_used g) (short_in g) d a c line true first second
-          (used_here f b defined live front (AddUp d a c) id line came.back came.next_reg came.next_id d front_is stands parts.0 ∙ used)
+          (used_here f b defined front (AddUp d a c) id line came.back came.next_reg came.next_id d front_is stands parts.0 ∙ used)
           (short_shaped f b (front ++ (i ∷ came.back)) came.next_reg came.next_id a ∙ short_before front (i ∷ came.back) a (front_is.defines_all a ∙ parts.1))
           (short_shaped f b (front ++ (i ∷ came.back)) came.next_reg came.next_id c ∙ short_before front (i ∷ came.back) c (front_is.defines_all c ∙ parts.2));
       selects = ap (λ o. before o (selected_list constant is)) (sum_selected (used_in (selected_list constant is)) constant d a c line true first second
@@ -328,15 +328,15 @@ sum_makes constant f b defined live front d a c id line is reg next front_is sta
         follows = sum_follows names defined front d a c id came.next_id line first second front_is refl refl;
       };
     }
-sum_makes constant f b defined live front d a c id line is reg next front_is stands constant_is came false used =
-    let parts = sum_parts defined live d a c stands in
+sum_makes constant f b defined front d a c id line is reg next front_is stands constant_is came false used =
+    let parts = sum_parts defined d a c stands in
     let i : ℕ × InstrData = (id, sum_instr d a c line) in
     let g : FunctionData = shaped f b (front ++ (i ∷ came.back)) came.next_reg came.next_id in record {
       made = [];
       hidden = λ q. q == d;
       generic = refl;
       fits = sum_fits (is_used g) (short_in g) d a c line false (short_in g a) (short_in g c)
-          (used_here f b defined live front (AddUp d a c) id line came.back came.next_reg came.next_id d front_is stands parts.0 ∙ used) refl refl;
+          (used_here f b defined front (AddUp d a c) id line came.back came.next_reg came.next_id d front_is stands parts.0 ∙ used) refl refl;
       selects = ap (λ o. before o (selected_list constant is)) (sum_selected (used_in (selected_list constant is)) constant d a c line false (constant a) (constant c)
           (used_behind came.back (selected_list constant is) d came.same ∙ used) refl refl);
       plain = refl;
@@ -357,27 +357,27 @@ sum_makes constant f b defined live front d a c id line is reg next front_is sta
 
 -- ══ The whole block ══
 
-step_back : (constant : ℕ → Option ℤ) (f : FunctionData) (b : BlockData) (defined live : List ℕ) (front : List (ℕ × InstrData)) (s : StatedInstr) (id line : ℕ) (is : List (ℕ × InstrData)) (reg next : ℕ)
-    → IsFront defined front → is_stated_after defined live s ≡ true → ((r : ℕ) → is_among defined r ≡ true → constant r ≡ short_among front r)
-    → Came constant f b (defined_after defined s) (front ++ ((id, stated_instr s line) ∷ [])) is reg next
-    → Came constant f b defined front ((id, stated_instr s line) ∷ is) reg next
-step_back constant f b defined live front (CopyIn d p) id line is reg next front_is stands constant_is came =
+step_back : (constant : ℕ → Option ℤ) (f : FunctionData) (b : BlockData) (defined : List ℕ) (front : List (ℕ × InstrData)) (s : ShapedInstr) (id line : ℕ) (is : List (ℕ × InstrData)) (reg next : ℕ)
+    → IsFront defined front → stands_behind defined s ≡ true → ((r : ℕ) → is_among defined r ≡ true → constant r ≡ short_among front r)
+    → Came constant f b (defined_after defined s) (front ++ ((id, shaped_instr s line) ∷ [])) is reg next
+    → Came constant f b defined front ((id, shaped_instr s line) ∷ is) reg next
+step_back constant f b defined front (CopyIn d p) id line is reg next front_is stands constant_is came =
     kept_step constant f b defined front (CopyIn d p) id line is reg next
-    (record { selects = refl; plain = refl; new = λ r h. ap (λ x. x || false) (new_apart defined d r (copy_absent defined live d p stands) h) }) came
-step_back constant f b defined live front (MakeConstant d v) id line is reg next front_is stands constant_is came =
+    (record { selects = refl; plain = refl; new = λ r h. ap (λ x. x || false) (new_apart defined d r (copy_absent defined d p stands) h) }) came
+step_back constant f b defined front (MakeConstant d v) id line is reg next front_is stands constant_is came =
     made_step constant f b defined front (MakeConstant d v) id line is reg next front_is came
-    (constant_makes constant f b defined live front d v id line is reg next front_is stands came (list_any (reads d) came.back) refl)
-step_back constant f b defined live front (AddUp d a c) id line is reg next front_is stands constant_is came =
+    (constant_makes constant f b defined front d v id line is reg next front_is stands came (list_any (reads d) came.back) refl)
+step_back constant f b defined front (AddUp d a c) id line is reg next front_is stands constant_is came =
     made_step constant f b defined front (AddUp d a c) id line is reg next front_is came
-    (sum_makes constant f b defined live front d a c id line is reg next front_is stands constant_is came (list_any (reads d) came.back) refl)
-step_back constant f b defined live front (CopyOut p q) id line is reg next front_is stands constant_is came =
+    (sum_makes constant f b defined front d a c id line is reg next front_is stands constant_is came (list_any (reads d) came.back) refl)
+step_back constant f b defined front (CopyOut p q) id line is reg next front_is stands constant_is came =
     kept_step constant f b defined front (CopyOut p q) id line is reg next (record { selects = refl; plain = refl; new = λ r h. refl }) came
-step_back constant f b defined live front Return id line is reg next front_is stands constant_is came =
+step_back constant f b defined front Return id line is reg next front_is stands constant_is came =
     kept_step constant f b defined front Return id line is reg next (record { selects = refl; plain = refl; new = λ r h. refl }) came
 
-pub came_from : (whole : List (ℕ × InstrData)) (f : FunctionData) (b : BlockData) (ss : List StatedInstr) (is front : List (ℕ × InstrData)) (defined live : List ℕ) (reg next : ℕ)
-    → AllZip IsStatedInstr ss is → InOrder defined live ss → IsFront defined front → front ++ is ≡ whole → Came (short_among whole) f b defined front is reg next
-came_from whole f b [] [] front defined live reg next same order front_is all = record {
+pub came_from : (whole : List (ℕ × InstrData)) (f : FunctionData) (b : BlockData) (ss : List ShapedInstr) (is front : List (ℕ × InstrData)) (defined : List ℕ) (reg next : ℕ)
+    → AllZip IsShapedInstr ss is → InOrder defined ss → IsFront defined front → front ++ is ≡ whole → Came (short_among whole) f b defined front is reg next
+came_from whole f b [] [] front defined reg next same order front_is all = record {
   back = [];
   next_reg = reg;
   next_id = next;
@@ -389,16 +389,16 @@ came_from whole f b [] [] front defined live reg next same order front_is all = 
   fresh = λ r h. refl;
   nameless = refl;
 }
-came_from whole f b [] (i ∷ is) front defined live reg next same order front_is all = absurd same
-came_from whole f b (s ∷ ss) [] front defined live reg next same order front_is all = absurd same
-came_from whole f b (s ∷ ss) (i ∷ is) front defined live reg next same order front_is all =
+came_from whole f b [] (i ∷ is) front defined reg next same order front_is all = absurd same
+came_from whole f b (s ∷ ss) [] front defined reg next same order front_is all = absurd same
+came_from whole f b (s ∷ ss) (i ∷ is) front defined reg next same order front_is all =
     let line : ℕ = i.1.line in
-    let j : ℕ × InstrData = (i.0, stated_instr s line) in
+    let j : ℕ × InstrData = (i.0, shaped_instr s line) in
     let here : i ≡ j = ap (λ (e : InstrData). (i.0, e)) same.0 in
     let whole_is : front ++ (j ∷ is) ≡ whole = ap (λ (k : ℕ × InstrData). front ++ (k ∷ is)) (sym here) ∙ all in
     let behind : Came (short_among whole) f b (defined_after defined s) (front ++ (j ∷ [])) is reg next =
-    came_from whole f b ss is (front ++ (j ∷ [])) (defined_after defined s) (live_after live s) reg next same.1 order.1 (front_next defined live front s i.0 line front_is order.0)
+    came_from whole f b ss is (front ++ (j ∷ [])) (defined_after defined s) reg next same.1 order.1 (front_next defined front s i.0 line front_is order.0)
     (append_assoc front (j ∷ []) is ∙ whole_is) in
     subst (λ (k : ℕ × InstrData). Came (short_among whole) f b defined front (k ∷ is) reg next) (sym here)
-    (step_back (short_among whole) f b defined live front s i.0 line is reg next front_is order.0
+    (step_back (short_among whole) f b defined front s i.0 line is reg next front_is order.0
     (λ r h. ap (λ xs. short_among xs r) (sym whole_is) ∙ short_before front (j ∷ is) r (front_is.defines_all r ∙ h)) behind)

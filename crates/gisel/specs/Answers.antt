@@ -4,21 +4,19 @@ use Rattle.gi_io.specs.Writing.{AppendsPrefix}
 use Rattle.gi_mir.specs.Data.{ModuleData}
 use Rattle.gi_mir.specs.Numbering.{numbered_module}
 use Rattle.gi_observe.specs.declared.pass.Pass.{Pass}
-use Rattle.gi_observe.specs.declared.pass.Pass.TheVariants.{IrTranslator, RegBankSelect, Select}
+use Rattle.gi_observe.specs.declared.pass.Pass.TheVariants.{IrTranslator}
 use Rattle.gi_observe.specs.Passes.{word_of}
 use Rattle.gi_spelling.specs.Documents.{wrong_in}
-use Rattle.gi_spelling.specs.Lines.{lines_of}
 use Rattle.gi_spelling.specs.Printed.{printed}
 use Rattle.gi_spelling.specs.Read.{IsReadModule}
 use Rattle.gi_spelling.specs.declared.written.Wrong.{Wrong}
 use Rattle.gisel.specs.Checks.{check_of}
 use Rattle.gisel.specs.declared.machine.Machine.{Machine}
-use Rattle.gisel.specs.declared.machine.Machine.TheVariants.{Riscv32}
 use Rattle.gisel.specs.Messages.{message_of_wrong, not_built}
 use Rattle.gisel.specs.Options.{OptionsData, options_of}
-use Rattle.gisel.specs.Refused.{IsStatedLines}
-use Rattle.gisel.specs.Text.{IsText}
-use Rattle.gisel.specs.Unrun.{unbuilt}
+use Rattle.gisel.specs.Selection.{IsSelectedModule}
+use Rattle.gisel.specs.Unrun.{selects, unbuilt}
+use Rattle.gisel.specs.Validity.{AreValidFor, SaysFaultOf}
 
 -- how many bytes of input are read at most
 abbrev pub limit : ℕ
@@ -32,11 +30,6 @@ input_in (Err word) = None
 abbrev pub input_of : (words : List (List ℕ)) → Option (List ℕ)
 input_of words = input_in (options_of words)
 
--- the passes that are built: selection on RV32
-abbrev pub selects : (start stop : Pass) → Machine → Bool
-selects RegBankSelect Select Riscv32 = true
-selects start stop machine = false
-
 -- ══ The text that is written ══
 
 -- the input is read as this module, which passes the checks, for this machine
@@ -44,16 +37,18 @@ pub record IsChecked (options : OptionsData) (read : List ℕ) (start : Pass) (m
   pub started : options.start ≡ Some start
   pub reads : IsReadModule read source
   pub right : check_of options.target start read source ≡ Ok machine
+  pub valid : AreValidFor machine start source.functions
 
--- the text of what is selected
-pub record IsSelectedText (start stop : Pass) (machine : Machine) (read written : List ℕ) : Type 0 where
-  pub built : selects start stop machine ≡ true
-  pub text : IsText read written
+-- the text of what is selected from a module, with its registers numbered by first appearance
+pub record IsSelectedText (source : ModuleData) (written : List ℕ) : Type 0 where
+  pub selected : ModuleData
+  pub selects : IsSelectedModule source selected
+  pub text : written ≡ printed (numbered_module selected)
 
--- the text of the module as it was read, with its registers numbered by first appearance
-pub record IsPrintedText (start stop : Pass) (source : ModuleData) (written : List ℕ) : Type 0 where
-  pub built : unbuilt start stop source.functions ≡ None
-  pub text : written ≡ printed (numbered_module source)
+-- the text of a module where selection is run, and where no pass is
+abbrev pub IsTextOf : (is_selected : Bool) (source : ModuleData) (written : List ℕ) → Type 0
+IsTextOf true source written = IsSelectedText source written
+IsTextOf false source written = written ≡ printed (numbered_module source)
 
 -- the text for these options and this input
 pub record IsAnswer (options : OptionsData) (read written : List ℕ) : Type 0 where
@@ -62,7 +57,8 @@ pub record IsAnswer (options : OptionsData) (read written : List ℕ) : Type 0 w
   pub machine : Machine
   pub source : ModuleData
   pub passes : IsChecked options read start machine source
-  pub text : IsSelectedText start options.stop machine read written ⊎ IsPrintedText start options.stop source written
+  pub built : unbuilt start options.stop machine source.functions ≡ None
+  pub text : IsTextOf (selects start options.stop machine) source written
 
 -- the text for these words and this input
 pub record IsOutput (words : List (List ℕ)) (read written : List ℕ) : Type 0 where
@@ -112,18 +108,28 @@ pub record IsWrongModule (options : OptionsData) (read message : List ℕ) : Typ
   pub reads : IsReadModule read source
   pub says : check_of options.target start read source ≡ Err message
 
--- a pass that is to be run isn't built, or not for such a text
+-- a function isn't valid
+pub record IsInvalidModule (options : OptionsData) (read message : List ℕ) : Type 0 where
+  pub start : Pass
+  pub started : options.start ≡ Some start
+  pub machine : Machine
+  pub source : ModuleData
+  pub reads : IsReadModule read source
+  pub right : check_of options.target start read source ≡ Ok machine
+  pub fault : SaysFaultOf machine start source.functions message
+
+-- a pass that is to be run isn't built, or not for such a module
 pub record IsNotBuilt (options : OptionsData) (read message : List ℕ) : Type 0 where
   pub start : Pass
   pub machine : Machine
   pub source : ModuleData
   pub passes : IsChecked options read start machine source
-  pub other : selects start options.stop machine ≡ true → IsStatedLines (lines_of read) → ⊥
-  pub says : unbuilt start options.stop source.functions ≡ Some message
+  pub says : unbuilt start options.stop machine source.functions ≡ Some message
 
 abbrev pub IsRefusedText : (options : OptionsData) (read message : List ℕ) → Type 0
 IsRefusedText options read message =
-    IsUntranslated options message ⊎ (IsWrongText options read message ⊎ (IsWrongModule options read message ⊎ IsNotBuilt options read message))
+    IsUntranslated options message
+    ⊎ (IsWrongText options read message ⊎ (IsWrongModule options read message ⊎ (IsInvalidModule options read message ⊎ IsNotBuilt options read message)))
 
 abbrev pub IsRefusal : (options : OptionsData) (read message : List ℕ) → Type 0
 IsRefusal options read message = IsTooLong read message ⊎ ((length read ≤ limit) × IsRefusedText options read message)

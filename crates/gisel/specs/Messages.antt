@@ -1,5 +1,7 @@
 -- What is said of an input that is refused.
 use Rattle.std.specs.Prelude.{ℕ, List, ◌++◌, codes, decimal, ⊤}
+use Rattle.gi_mir.specs.Row.{word_of as opcode_word}
+use Rattle.gi_mir.specs.declared.opcode.Opcode.{Opcode}
 use Rattle.gi_text.specs.Cutting.{slice}
 use Rattle.gi_text.specs.declared.token.SizeError.{SizeError}
 use Rattle.gi_text.specs.declared.token.SizeError.TheVariants.{Width, Limit}
@@ -17,6 +19,10 @@ property function key = codes "gisel: function " ++ (function ++ (codes ": prope
 
 abbrev pub not_built : (word : List ℕ) → List ℕ
 not_built word = codes "gisel: not built " ++ word
+
+-- what is said of an instruction, by its line and its opcode, that isn't built
+abbrev pub unbuilt_line : ℕ × Opcode → List ℕ
+unbuilt_line found = at_line found.0 (codes "not built " ++ opcode_word found.1)
 
 -- what is said of a line that spells nothing
 abbrev pub message_of_fault : (text : List ℕ) (line : ℕ) → Fault → List ℕ

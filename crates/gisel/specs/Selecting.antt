@@ -10,18 +10,17 @@ use Rattle.gi_mir.specs.declared.operand.Operand.{Operand}
 use Rattle.gi_mir.specs.declared.operand.Operand.TheVariants.{Def, Use, Phys, Int, Constant}
 use Rattle.gi_mir.specs.Data.{InstrData, FunctionData, no_flags}
 use Rattle.gi_mir.specs.Edit.{defines, with_instr}
-use Rattle.gi_spelling.specs.Stated.{StatedInstr, IsStatedInstr, are_stated}
+use Rattle.gisel.specs.Shapes.{ShapedInstr, IsShapedInstr, are_in_order}
 use Rattle.gisel.specs.Rows.{is_use_of, short_where}
 use Rattle.gisel.specs.Selection.{classed_instr}
 use Rattle.gisel.specs.declared.select.Root.{Root}
 use Rattle.gisel.specs.declared.select.Root.TheVariants as root
 
--- stated instructions in their order
-pub record AreStated (instrs : List (ℕ × InstrData)) : Type 0 where
-  pub live : List ℕ
-  pub stated : List StatedInstr
-  pub same : AllZip IsStatedInstr stated instrs
-  pub ordered : are_stated [] live stated ≡ true
+-- instructions of the five shapes in their order
+pub record AreShaped (instrs : List (ℕ × InstrData)) : Type 0 where
+  pub shapes : List ShapedInstr
+  pub same : AllZip IsShapedInstr shapes instrs
+  pub ordered : are_in_order [] shapes ≡ true
 
 -- the number from -2048 to 2047 that 32 bits stand for
 abbrev pub short_of : (value : ℕ) → Option ℤ
@@ -97,3 +96,7 @@ short_among instrs r = short_where (option_map (λ i. i.1) (find (defines r) ins
 abbrev pub with_all : FunctionData → List InstrData → FunctionData
 with_all f [] = f
 with_all f (i ∷ is) = with_all (with_instr f 0 None i) is
+
+-- what a function becomes, without its blocks
+abbrev pub emptied : FunctionData → FunctionData
+emptied f = record { name = f.name; legalized = f.legalized; banked = f.banked; selected = true; stack = f.stack; blocks = []; next_reg = 0; next_id = 0 }

@@ -1,20 +1,26 @@
--- Where the run ends with its start no pass is run, and the module is printed as it was read. So far this is built
--- behind the first two passes, where a function is generic code.
-use Rattle.std.specs.Prelude.{ℕ, Bool, true, false, not, ◌&&◌, ◌||◌, List, [], ◌∷◌, ◌++◌, ◌==◌, Option, Some, None, option_map, codes, if◌then◌else◌}
-use Rattle.std.specs.List.{list_all, list_any}
+-- Which runs are built so far: selection on RV32, and runs that end with their start, behind the first two passes, where a
+-- function is generic code: no pass is run there, and the module is printed as it was read.
+use Rattle.std.specs.Prelude.{ℕ, Bool, true, false, not, ◌||◌, List, [], ◌∷◌, ◌==◌, Option, Some, None, option_map, if◌then◌else◌}
+use Rattle.std.specs.List.{list_any}
 use Rattle.gi_mir.specs.Data.{InstrData, BlockData, FunctionData, ModuleData}
-use Rattle.gi_mir.specs.Row.{word_of as opcode_word}
 use Rattle.gi_mir.specs.Stages.{is_kind_of, is_opcode_of}
 use Rattle.gi_mir.specs.declared.opcode.Opcode.{Opcode}
 use Rattle.gi_mir.specs.declared.operand.Operand.{Operand}
 use Rattle.gi_mir.specs.declared.operand.Operand.TheVariants.{Def}
 use Rattle.gi_mir.specs.declared.stage.Stage.TheVariants.{Before}
 use Rattle.gi_observe.specs.declared.pass.Pass.{Pass}
-use Rattle.gi_observe.specs.declared.pass.Pass.TheVariants.{IrTranslator, PreCombiner}
+use Rattle.gi_observe.specs.declared.pass.Pass.TheVariants.{IrTranslator, PreCombiner, RegBankSelect, Select}
 use Rattle.gi_observe.specs.Passes.{word_of, place_of, next_of}
-use Rattle.gi_spelling.specs.There.{names_blocks_there}
-use Rattle.gisel.specs.Messages.{at_line, not_built}
+use Rattle.gisel.specs.Messages.{not_built, unbuilt_line}
 use Rattle.gisel.specs.Options.{or_else}
+use Rattle.gisel.specs.Unselected.{unselected}
+use Rattle.gisel.specs.declared.machine.Machine.{Machine}
+use Rattle.gisel.specs.declared.machine.Machine.TheVariants.{Riscv32}
+
+-- selection is run, which is built on RV32
+abbrev pub selects : (start stop : Pass) → Machine → Bool
+selects RegBankSelect Select Riscv32 = true
+selects start stop machine = false
 
 -- no pass is run, behind one of the first two
 abbrev pub runs_none : (start stop : Pass) → Bool
@@ -53,17 +59,16 @@ later_in (f ∷ functions) = or_else (later_in_blocks f.blocks) (later_in functi
 abbrev pub first_of : (start stop : Pass) → Pass
 first_of start stop = if place_of stop == place_of start then start else next_of start
 
-abbrev pub later_message : ℕ × Opcode → List ℕ
-later_message later = at_line later.0 (codes "not built " ++ opcode_word later.1)
-
--- what is said of functions that can't be printed as they were read, if that is so: a pass is run or one of them names
--- a block that isn't there, and else the first instruction of a later stage
+-- what is said of functions that can't be printed as they were read, if that is so: a pass is run, or an instruction is of
+-- a later stage
 abbrev pub unprinted : (start stop : Pass) → List FunctionData → Option (List ℕ)
 unprinted start stop functions =
-    if runs_none start stop && list_all names_blocks_there functions then option_map later_message (later_in functions)
+    if runs_none start stop then option_map unbuilt_line (later_in functions)
     else Some (not_built (word_of (first_of start stop)))
 
--- where there is no function nothing is left to be built
-abbrev pub unbuilt : (start stop : Pass) → List FunctionData → Option (List ℕ)
-unbuilt start stop [] = None
-unbuilt start stop (f ∷ functions) = unprinted start stop (f ∷ functions)
+-- what is said of functions for which something isn't built, if that is so: where there is no function nothing is left to be
+-- built
+abbrev pub unbuilt : (start stop : Pass) → Machine → List FunctionData → Option (List ℕ)
+unbuilt start stop machine [] = None
+unbuilt start stop machine (f ∷ functions) =
+    if selects start stop machine then unselected (f ∷ functions) else unprinted start stop (f ∷ functions)

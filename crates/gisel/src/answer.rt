@@ -1,44 +1,29 @@
 //! From the options and an input to the text that is written.
 
-ghost use Rattle.std.specs.Prelude.{◌≡◌, ◌≤◌, ◌-◌, ◌^◌, ◌<◌, IfOk, IfErr, IfSome, None, Some, length, true};
+ghost use Rattle.std.specs.Prelude.{◌≡◌, ◌≤◌, ◌-◌, ◌^◌, ◌<◌, IfOk, IfErr, None, Some, length, true};
 ghost use Rattle.gi_spelling.specs.Documents.{wrong_in};
 ghost use Rattle.gi_spelling.specs.Read.{IsReadModule, IsRefusal};
 ghost use Rattle.gi_mir.specs.Numbering.{numbered_module};
-ghost use Rattle.gi_spelling.specs.Lines.{lines_of};
 ghost use Rattle.gi_spelling.specs.Printed.{printed};
-ghost use Rattle.gisel.specs.Answers.{limit, selects, IsChecked, IsAnswer, IsWrongLine, IsNotBuilt, IsRefusedText, IsSelectedText};
-ghost use Rattle.gisel.specs.Machine.{width_of};
-ghost use Rattle.gisel.specs.Refused.{IsStatedLines};
+ghost use Rattle.gisel.specs.Answers.{limit, IsChecked, IsAnswer, IsWrongLine, IsNotBuilt, IsRefusedText, IsSelectedText, IsTextOf};
 ghost use Rattle.gisel.specs.Messages.{Tells, not_built};
-ghost use Rattle.gisel.specs.Promise.{Compiles, IsCompiled};
+ghost use Rattle.gisel.specs.Promise.{IsCompiled};
+ghost use Rattle.gisel.specs.Selectable.{AllSelectable};
 ghost use Rattle.gi_observe.specs.Passes.{word_of};
 
 use crate::checks::{check, slice};
-use crate::compile::compile;
 use crate::machine::Machine;
 use crate::messages::{Refused, not_built, syntax, unknown};
 use crate::options::Options;
-use crate::refusal::Refusal;
-use crate::unrun::check_built;
+use crate::select::select_module;
+use crate::unrun::{check_built, selects};
+use crate::validity::check_valid;
 use gi_mir::module::Module;
 use gi_mir_print::print;
 use gi_mir_read::read_mir;
 use gi_observe::Pass;
 use gi_text::TextError;
 use std::alloc::Global;
-
-/// Whether the passes are built that are asked for: selection on RV32.
-fn selects(start: Pass, stop: Pass, machine: Machine) -> bool
-    ensures { result ≡ selects start stop machine }
-{
-    match start {
-        Pass::RegBankSelect => match stop {
-            Pass::Select => matches!(machine, Machine::Riscv32),
-            _ => false,
-        },
-        _ => false,
-    }
-}
 
 /// What is said of a text with a line that spells nothing.
 fn wrong_text(alloc: Global, text: &[u8], why: TextError) -> Refused
@@ -68,27 +53,28 @@ fn printed(alloc: Global, m: &Module) -> Result<Vec<u8>, Refused>
     }
 }
 
-/// The text of what is selected, where the passes are built that are asked for.
-fn selected(
-    alloc: Global,
-    start: Pass,
-    stop: Pass,
-    machine: Machine,
-    text: &[u8],
-) -> Result<Option<Vec<u8>>, Refused>
-    requires { length text.now ≤ limit }
-    ensures compiled { IfOk result (λ found. IfSome found (λ written. Compiles (width_of machine) text.now written.items)) }
-    ensures text { IfOk result (λ found. IfSome found (λ written. IsSelectedText start stop machine text.now written.items)) }
-    ensures other { IfOk result (λ found. found ≡ None → selects start stop machine ≡ true → IsStatedLines (lines_of text.now) → ⊥) }
+/// The text of what is selected.
+fn selected(alloc: Global, m: Module) -> Result<Vec<u8>, Refused>
+    requires { AllSelectable m.functions }
+    ensures text { IfOk result (λ text. IsSelectedText m text.items) }
     ensures memory { IfErr result (λ why. why ≡ Refused.Memory) }
 {
-    if !selects(start, stop, machine) {
-        return Ok(None);
+    match select_module(alloc, m) {
+        Ok(selected) => printed(alloc, &selected),
+        Err(_) => Err(Refused::Memory),
     }
-    match compile(alloc, text) {
-        Ok(written) => Ok(Some(written)),
-        Err(Refusal::Memory) => Err(Refused::Memory),
-        Err(Refusal::NotBuilt { .. }) => Ok(None),
+}
+
+/// The text of a module where selection is run, or where no pass is.
+fn text_of(alloc: Global, is_selected: bool, m: Module) -> Result<Vec<u8>, Refused>
+    requires { is_selected ≡ true → AllSelectable m.functions }
+    ensures text { IfOk result (λ text. IsTextOf is_selected m text.items) }
+    ensures memory { IfErr result (λ why. why ≡ Refused.Memory) }
+{
+    if is_selected {
+        selected(alloc, m)
+    } else {
+        printed(alloc, &m)
     }
 }
 
@@ -99,19 +85,39 @@ fn passed(
     start: Pass,
     machine: Machine,
     text: &[u8],
-    m: &Module,
+    m: Module,
 ) -> Result<Vec<u8>, Refused>
     requires within { length text.now ≤ limit }
-    requires passes { IsChecked options.now text.now start machine m.now }
+    requires passes { IsChecked options.now text.now start machine m }
     ensures compiled { IfOk result (λ written. IsCompiled options.now text.now written.items) }
     ensures answer { IfOk result (λ written. IsAnswer options.now text.now written.items) }
     ensures refused { IfErr result (λ why. Tells why (IsNotBuilt options.now text.now)) }
 {
-    if let Some(written) = selected(alloc, start, options.stop, machine, text)? {
-        return Ok(written);
+    check_built(alloc, start, options.stop, machine, m.functions.as_slice())?;
+    text_of(alloc, selects(start, options.stop, machine), m)
+}
+
+/// The machine that a module is for, where the module passes the checks.
+fn checked(
+    alloc: Global,
+    options: &Options<'_>,
+    start: Pass,
+    text: &[u8],
+    m: &Module,
+) -> Result<Machine, Refused>
+    requires within { length text.now ≤ limit }
+    requires started { options.now.start ≡ Some start }
+    requires reads { IsReadModule text.now m.now }
+    ensures passes { IfOk result (λ machine. IsChecked options.now text.now start machine m.now) }
+    ensures refused { IfErr result (λ why. Tells why (IsRefusedText options.now text.now)) }
+{
+    match check(alloc, options.target, start, text, m) {
+        Ok(machine) => match check_valid(alloc, machine, start, m.functions.as_slice()) {
+            Ok(()) => Ok(machine),
+            Err(why) => Err(why),
+        },
+        Err(why) => Err(why),
     }
-    check_built(alloc, start, options.stop, m.functions.as_slice())?;
-    printed(alloc, m)
 }
 
 /// The text for a module that was read.
@@ -120,16 +126,16 @@ fn answered(
     options: &Options<'_>,
     start: Pass,
     text: &[u8],
-    m: &Module,
+    m: Module,
 ) -> Result<Vec<u8>, Refused>
     requires within { length text.now ≤ limit }
     requires started { options.now.start ≡ Some start }
-    requires reads { IsReadModule text.now m.now }
+    requires reads { IsReadModule text.now m }
     ensures compiled { IfOk result (λ written. IsCompiled options.now text.now written.items) }
     ensures answer { IfOk result (λ written. IsAnswer options.now text.now written.items) }
     ensures refused { IfErr result (λ why. Tells why (IsRefusedText options.now text.now)) }
 {
-    match check(alloc, options.target, start, text, m) {
+    match checked(alloc, options, start, text, &m) {
         Ok(machine) => passed(alloc, options, start, machine, text, m),
         Err(why) => Err(why),
     }
@@ -156,7 +162,7 @@ pub fn answer(alloc: Global, options: &Options<'_>, text: &[u8]) -> Result<Vec<u
         return Err(untranslated(alloc));
     };
     match read_mir(alloc, text) {
-        Ok(m) => answered(alloc, options, start, text, &m),
+        Ok(m) => answered(alloc, options, start, text, m),
         Err(why) => Err(wrong_text(alloc, text, why)),
     }
 }

@@ -1,6 +1,6 @@
-//! What holds of the texts that are taken and of those that are refused, and of what is selected and written.
+//! What holds of the texts that are written, and of what is selected.
 
-ghost use Rattle.std.specs.Prelude.{◌≡◌, ℕ, List, None};
+ghost use Rattle.std.specs.Prelude.{◌≡◌, ℕ, List, None, false};
 ghost use Rattle.gi_mir.specs.Data.{FunctionData, ModuleData};
 ghost use Rattle.gi_mir.specs.Numbering.{numbered_module};
 ghost use Rattle.gi_spelling.specs.Documents.{wrong_in};
@@ -9,29 +9,23 @@ ghost use Rattle.gi_spelling.specs.Read.{IsReadModule};
 ghost use Rattle.gi_spelling.specs.Same.{IsSameModule};
 ghost use Rattle.gi_spelling.specs.Spelled.{IsSpelled};
 ghost use Rattle.gi_spelling.specs.There.{NamesBlocksThatAreThere};
-ghost use Rattle.gi_spelling.specs.Lines.{lines_of};
 ghost use Rattle.gi_refine.specs.Refinement.{IsRefinement};
+ghost use Rattle.gi_valid.specs.Typing.{Phase};
+ghost use Rattle.gi_valid.specs.Valid.{IsValid};
 ghost use Rattle.gisel.specs.NormalForm.{IsNormalForm};
-ghost use Rattle.gisel.specs.Refused.{IsStatedLines, IsRefusedAt};
 ghost use Rattle.gisel.specs.Rows.{selection_rows};
 ghost use Rattle.gisel.specs.Selectable.{IsSelectable};
-ghost use Rattle.gisel.specs.Selection.{IsSelected};
-ghost use Rattle.gisel.specs.Text.{IsText};
+ghost use Rattle.gisel.specs.Selection.{IsSelected, IsSelectedModule};
+ghost use Rattle.gisel.specs.Unselected.{is_blank, unselected_in_function};
 
-/// A text states one name, one list of physical registers and one list of instructions.
-pub fn stated_text_is_one()
-    ensures { (lines : List (List ℕ)) (a b : IsStatedLines lines) → (a.name ≡ b.name) × (a.liveins ≡ b.liveins) × (a.instrs ≡ b.instrs) }
+/// What is selected from a module is printed in one way, whatever the ids are.
+pub fn selected_text_is_one()
+    ensures { (source a b : ModuleData) → IsSelectedModule source a → IsSelectedModule source b → printed (numbered_module a) ≡ printed (numbered_module b) }
 {}
 
-/// A text is refused at one line at most, and at none where its lines are those of a text that is taken.
-pub fn refused_line_is_one()
-    ensures one { (text : List ℕ) (a b : ℕ) → IsRefusedAt text a → IsRefusedAt text b → a ≡ b }
-    ensures none { (text : List ℕ) (line : ℕ) → IsStatedLines (lines_of text) → IsRefusedAt text line → ⊥ }
-{}
-
-/// A text is written in one way: whatever module it states, and whatever the ids are of what is selected.
-pub fn written_text_is_one()
-    ensures { (text written other : List ℕ) → IsText text written → IsText text other → written ≡ other }
+/// A valid function whose instructions all have one of the five shapes, in one block at most, can be selected.
+pub fn valid_function_is_selectable()
+    ensures { (x : ℕ) (phase : Phase) (f : FunctionData) → IsValid x phase f → is_blank f ≡ false → unselected_in_function f ≡ None → IsSelectable f }
 {}
 
 /// What is read of the text that is printed of a module, one that some text spells and that names no block that isn't

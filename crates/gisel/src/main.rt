@@ -2,32 +2,24 @@
 #![tactic(auto)]
 
 mod answer;
-mod body;
-mod build;
 mod checks;
-mod compile;
 mod example;
-mod header;
 mod keys;
 mod laws;
-mod line;
-mod lines;
 mod machine;
 mod messages;
 mod normal_form;
 mod options;
-mod read;
-mod refusal;
 mod same;
 mod select;
-mod standing;
-mod statement;
+mod shapes;
 mod stop;
 mod top;
 mod unrun;
+mod unselected;
+mod validity;
 
 use gi_io::{StdInput, StdOutput, write_all};
-pub use laws::{refused_line_is_one, stated_text_is_one};
 use std::process::ExitCode;
 use std::{env, io};
 pub use top::gisel;

@@ -5,10 +5,11 @@ ghost use Rattle.std.specs.Prelude.{◌≡◌, ◌==◌, ◌||◌, ℕ, ◌∷�
 ghost use Rattle.std.specs.HashMap.{get};
 ghost use Rattle.std.specs.HashSet.{contains};
 ghost use Rattle.std.specs.List.{AllZip, list_all, list_any};
+ghost use Rattle.gi_mir.specs.Edit.{with_stack};
 ghost use Rattle.gi_mir.specs.Formed.{is_formed};
 ghost use Rattle.gisel.specs.Rows.{is_use_of};
-ghost use Rattle.gisel.specs.Selectable.{IsSelectable, AllSelectable};
-ghost use Rattle.gisel.specs.Selecting.{AreStated, short_of, constant_root, sum_root, root_of, result_of, with_constant, plain, selected_sum, selected_root, selected_where, selected_list, short_among, with_all};
+ghost use Rattle.gisel.specs.Selectable.{IsOneBlock, IsSelectable, AllSelectable};
+ghost use Rattle.gisel.specs.Selecting.{AreShaped, short_of, constant_root, sum_root, root_of, result_of, with_constant, plain, selected_sum, selected_root, selected_where, selected_list, short_among, with_all, emptied};
 ghost use Rattle.gisel.specs.Selection.{classed_operand, classed_instr, IsSelected, IsSelectedModule};
 
 use gi_llt::Memory;
@@ -17,7 +18,7 @@ use gi_mir::function::Function;
 use gi_mir::instr::Instr;
 use gi_mir::module::Module;
 use gi_mir::opcode::Opcode;
-use gi_mir::operand::{Flags, Kind, Operand, Reg};
+use gi_mir::operand::{Flags, Kind, Operand, Reg, StackObject};
 use smallvec::SmallVec;
 use std::alloc::Global;
 use std::collections::{HashMap, HashSet};
@@ -117,7 +118,7 @@ fn keep_constant(constants: &mut HashMap<u32, i128>, root: Option<Root>) -> Resu
 
 /// The short constants by their registers.
 fn short_constants(alloc: Global, instrs: &[Numbered]) -> Result<HashMap<u32, i128>, Memory>
-    requires { AreStated instrs.now }
+    requires { AreShaped instrs.now }
     ensures { IfOk result (λ constants. (r : ℕ) → get nat_eq constants r ≡ short_among instrs.now r) }
 {
     let mut constants = HashMap::new(alloc);
@@ -302,7 +303,7 @@ fn selected_backwards(
     instrs: &[Numbered],
     constants: &HashMap<u32, i128>,
 ) -> Result<Vec<Instr>, Memory>
-    requires { AreStated instrs.now }
+    requires { AreShaped instrs.now }
     ensures selected { IfOk result (λ selected. selected.items ≡ reverse (selected_list (get nat_eq constants.now) instrs.now)) }
     ensures formed { IfOk result (λ selected. list_all is_formed selected.items ≡ true) }
 {
@@ -343,20 +344,54 @@ fn put_backwards(selected: &mut Function, instrs: Vec<Instr>) -> Result<(), Memo
     Ok(())
 }
 
-/// The function after selection.
-pub fn select(alloc: Global, function: &Function) -> Result<Function, Memory>
-    requires { IsSelectable function.now }
+/// Adds a stack object.
+fn add_object(selected: &mut Function, object: StackObject) -> Result<(), Memory>
+    ensures { OnOk result (selected.new ≡ with_stack selected.old object) }
+{
+    if selected.stack().len() >= u32::MAX as usize {
+        return Err(Memory);
+    }
+    selected.add_stack(object)?;
+    Ok(())
+}
+
+/// What a function becomes, without its blocks.
+fn emptied(alloc: Global, function: &Function) -> Result<Function, Memory>
+    ensures { IfOk result (λ selected. selected ≡ emptied function.now) }
+{
+    let mut selected = Function::new(alloc, function.name_number());
+    let (legalized, banked, _) = function.keys();
+    selected.set_keys(legalized, banked, true);
+    for object in function.stack() {
+        add_object(&mut selected, *object)?;
+    }
+    Ok(selected)
+}
+
+/// What a function of one block becomes.
+fn select_block(alloc: Global, function: &Function) -> Result<Function, Memory>
+    requires { IsOneBlock function.now }
     ensures { IfOk result (λ selected. IsSelected function.now selected) }
 {
     let instrs = function.instrs(0);
     let constants = short_constants(alloc, instrs)?;
     let backwards = selected_backwards(alloc, instrs, &constants)?;
-    let mut selected = Function::new(alloc, function.name_number());
+    let mut selected = emptied(alloc, function)?;
     selected.add_block(head_copy(alloc, function.block(0))?)?;
-    let (legalized, banked, _) = function.keys();
-    selected.set_keys(legalized, banked, true);
     put_backwards(&mut selected, backwards)?;
     Ok(selected)
+}
+
+/// The function after selection.
+pub fn select(alloc: Global, function: &Function) -> Result<Function, Memory>
+    requires { IsSelectable function.now }
+    ensures { IfOk result (λ selected. IsSelected function.now selected) }
+{
+    if function.block_count() == 0 {
+        emptied(alloc, function)
+    } else {
+        select_block(alloc, function)
+    }
 }
 
 /// The module after selection, function by function.

@@ -126,7 +126,7 @@ fn refuses_words_and_texts(rt: HostRuntime) -> Result<(), Fail> {
             &WORDS[..],
             difference,
             1,
-            "gisel: not built instruction-select\n",
+            "gisel: line 9: not available %0\n",
         ),
         (
             &WORDS[..],
@@ -305,6 +305,169 @@ fn takes_files(rt: HostRuntime) -> Result<(), Fail> {
         assert_eq!(rt; answered.out.as_slice(), out.as_bytes());
         assert_eq!(rt; answered.err.as_slice(), err.as_bytes());
         assert_eq!(rt; answered.status, status);
+    }
+    Ok(())
+}
+
+#[test]
+fn refuses_functions_that_are_not_valid(rt: HostRuntime) -> Result<(), Fail> {
+    let alloc = rt.alloc();
+    let words = [
+        "-mtriple=riscv32",
+        "-start-after=riscv-prelegalizer-combiner",
+        "-stop-after=legalizer",
+    ];
+    for (text, err) in [
+        (
+            "---\nname: f\nbody: |\n  bb.0:\n    liveins: $x10\n\n    %0:_(s32) = COPY $x10\n    %1:_(s32) = G_CONSTANT i32 1\n    G_BR %bb.1\n  bb.1:\n    %2:_(s32) = G_PHI %0(s32), %bb.0, %3(s32), %bb.1\n    %4:_(s32) = G_ADD %3, %1\n    %3:_(s32) = G_SUB %2, %4\n    G_BR %bb.1\n",
+            "gisel: line 12: not available %3\n",
+        ),
+        (
+            "---\nname: f\nbody: |\n  bb.0:\n    liveins: $x10, $x11\n\n    %0:_(s32) = COPY $x10\n    %1:_(s32) = COPY $x11\n    $x10 = COPY %0(s32)\n    %2:_(s32) = G_UDIV %0, %1\n    PseudoCALL target-flags(riscv-call) @g, csr_ilp32_lp64, implicit-def $x1, implicit $x10\n    $x10 = COPY %2(s32)\n    PseudoRET implicit $x10\n",
+            "gisel: line 10: physical across $x10\n",
+        ),
+        (
+            "---\nname: f\nbody: |\n  bb.0:\n    liveins: $x10\n\n    %0:_(s32) = COPY $x10\n    %0:_(s32) = G_CONSTANT i32 1\n    PseudoRET implicit $x10\n",
+            "gisel: line 8: double definition %0\n",
+        ),
+        (
+            "---\nname: f\nbody: |\n  bb.0:\n    liveins: $x10\n\n    %0:_(s32) = COPY $x10\n    %1:_(s8) = G_CONSTANT i8 1\n    %2:_(s32) = G_ADD %0, %1\n    PseudoRET implicit $x10\n",
+            "gisel: line 9: type mismatch %1\n",
+        ),
+        (
+            "---\nname: f\nbody: |\n  bb.0:\n    liveins: $x10\n\n    %0:_(s32) = COPY $x10\n    G_BR %bb.4\n",
+            "gisel: line 8: unknown block 4\n",
+        ),
+        (
+            "---\nname: f\nbody: |\n  bb.0:\n    liveins: $x10\n\n    %0:_(s32) = COPY $x10\n    %1:_(s32) = G_PHI %0(s32), %bb.0\n    PseudoRET implicit $x10\n",
+            "gisel: line 8: phi entries\n",
+        ),
+        (
+            "---\nname: f\nbody: |\n  bb.0:\n    liveins: $x11\n\n    %0:_(s32) = G_CONSTANT i32 0\n    PseudoRET implicit $x10\n    %1:_(s32) = G_CONSTANT i32 1\n",
+            "gisel: line 8: not available $x10\n",
+        ),
+        (
+            "---\nname: f\nbody: |\n  bb.0:\n    liveins: $x11\n\n    %0:_(s32) = G_CONSTANT i32 0\n    PseudoRET\n    %1:_(s32) = G_CONSTANT i32 1\n",
+            "gisel: line 9: terminator\n",
+        ),
+    ] {
+        let answered = run(alloc, &words, text.as_bytes().to_vec(alloc)?, &[], &[])?;
+        assert_eq!(rt; answered.err.as_slice(), err.as_bytes());
+        assert!(rt; answered.out.is_empty());
+        assert_eq!(rt; answered.status, 1);
+    }
+    Ok(())
+}
+
+// The head of a function whose registers have banks.
+const BANKED: &str = "---\nname: f\nlegalized: true\nregBankSelected: true\n";
+
+#[test]
+fn selects_what_has_the_five_shapes(rt: HostRuntime) -> Result<(), Fail> {
+    let alloc = rt.alloc();
+    for (body, printed) in [
+        // What is read and dropped, classes told at the front, a number of 32 bits, and a name for a block.
+        (
+            "registers:\n  - { id: 4, class: gprb }\nbody: |\n  bb.3.entry (address-taken):\n    successors:\n    liveins: $x14, $x10\n    dead %4(s32) = samesign COPY $x10, debug-location !4 ; text\n    %9:gprb(s32) = G_CONSTANT i32 4294965248\n    %2:gprb(s32) = G_ADD killed %9, renamable %4(s32)\n    $x17 = COPY %2\n    $x10 = COPY %2(s32)\n    PseudoRET implicit killed $x10\n",
+            "body:             |\n  bb.0:\n    liveins: $x14, $x10\n\n    %0:gpr = COPY $x10\n    %1:gpr = ADDI %0, -2048\n    $x17 = COPY %1\n    $x10 = COPY %1\n    PseudoRET implicit $x10\n...\n",
+        ),
+        // Stack objects stay.
+        (
+            "stack:\n  - { id: 0, size: 8, alignment: 4 }\nbody: |\n  bb.0:\n    liveins: $x10\n\n    PseudoRET implicit $x10\n",
+            "stack:\n  - { id: 0, size: 8, alignment: 4 }\nbody:             |\n  bb.0:\n    liveins: $x10\n\n    PseudoRET implicit $x10\n...\n",
+        ),
+        // A block without a return, and one without an instruction.
+        (
+            "body: |\n  bb.0:\n    %0:gprb(s32) = G_CONSTANT i32 1\n    $x10 = COPY %0\n",
+            "body:             |\n  bb.0:\n    %0:gpr = ADDI $x0, 1\n    $x10 = COPY %0\n...\n",
+        ),
+        ("body: |\n  bb.0:\n", "body:             |\n  bb.0:\n...\n"),
+        // A function without a block.
+        ("body: |\n", "body:             |\n...\n"),
+    ] {
+        let mut text = BANKED.as_bytes().to_vec(alloc)?;
+        text.extend_from_slice(body.as_bytes())?;
+        let answered = run(alloc, &WORDS, text, &[], &[])?;
+        let mut wanted = String::from_str(
+            alloc,
+            "---\nname:            f\nlegalized:       true\nregBankSelected: true\nselected:        true\ntracksRegLiveness: true\n",
+        )?;
+        wanted.push_str(printed)?;
+        assert_eq!(rt; answered.out.as_slice(), wanted.as_bytes());
+        assert!(rt; answered.err.is_empty());
+        assert_eq!(rt; answered.status, 0);
+    }
+    Ok(())
+}
+
+#[test]
+fn selects_several_functions(rt: HostRuntime) -> Result<(), Fail> {
+    let alloc = rt.alloc();
+    let mut text = Vec::new(alloc);
+    for _ in 0..2 {
+        text.extend_from_slice(HEAD.as_bytes())?;
+        text.extend_from_slice(SUM.as_bytes())?;
+    }
+    let answered = run(alloc, &WORDS, text, &[], &[])?;
+    let printed =
+        "    %0:gpr = COPY $x10\n    %1:gpr = COPY $x11\n    %2:gpr = ADD %0, %1\n    $x10 = COPY %2\n    PseudoRET implicit $x10\n...\n";
+    let mut wanted = Vec::new(alloc);
+    for _ in 0..2 {
+        wanted.extend_from_slice(PRINTED_HEAD.as_bytes())?;
+        wanted.extend_from_slice(printed.as_bytes())?;
+    }
+    assert_eq!(rt; answered.out.as_slice(), wanted.as_slice());
+    assert_eq!(rt; answered.status, 0);
+    let answered = run(alloc, &WORDS, Vec::new(alloc), &[], &[])?;
+    assert!(rt; answered.out.is_empty());
+    assert_eq!(rt; answered.status, 0);
+    Ok(())
+}
+
+#[test]
+fn leaves_what_has_another_shape(rt: HostRuntime) -> Result<(), Fail> {
+    let alloc = rt.alloc();
+    for (body, err) in [
+        (
+            "body: |\n  bb.0:\n    liveins: $x10, $x11\n\n    %0:gprb(s32) = COPY $x10\n    %1:gprb(s32) = COPY $x11\n    %2:gprb(s32) = G_SUB %0, %1\n    $x10 = COPY %2(s32)\n    PseudoRET implicit $x10\n",
+            "gisel: line 11: not built G_SUB\n",
+        ),
+        (
+            "body: |\n  bb.0:\n    liveins: $x10\n\n    %0:gprb(s32) = COPY $x10\n    %1:gprb(s32) = nsw G_ADD %0, %0\n    %2:gprb(s32) = G_CONSTANT i32 2048\n    PseudoRET implicit $x10\n",
+            "gisel: line 10: not built G_ADD\n",
+        ),
+        (
+            "body: |\n  bb.0:\n    liveins: $x10\n\n    %0:gprb(s32) = COPY $x10\n    %1:gprb(s32) = G_CONSTANT i32 2048\n    PseudoRET implicit $x10\n",
+            "gisel: line 10: not built G_CONSTANT\n",
+        ),
+        (
+            "body: |\n  bb.0:\n    liveins: $x5, $x10\n\n    %0:gprb(s32) = COPY $x10\n    $x17 = COPY %0\n    $x18 = COPY %0\n    PseudoRET implicit $x10\n",
+            "gisel: line 11: not built COPY\n",
+        ),
+        (
+            "body: |\n  bb.0:\n    liveins: $x10\n\n    %0:gprb(p0) = COPY $x10\n    PseudoRET implicit $x10\n",
+            "gisel: line 9: not built COPY\n",
+        ),
+        (
+            "body: |\n  bb.0:\n    liveins: $x10, $x11\n\n    PseudoRET implicit $x10, implicit $x11\n",
+            "gisel: line 9: not built PseudoRET\n",
+        ),
+        // Of several blocks the last instruction.
+        (
+            "body: |\n  bb.0:\n    liveins: $x10\n\n    %0:gprb(s32) = COPY $x10\n  bb.1:\n    %1:gprb(s32) = G_ADD %0, %0\n  bb.2:\n",
+            "gisel: line 11: not built G_ADD\n",
+        ),
+        (
+            "body: |\n  bb.0:\n  bb.1:\n",
+            "gisel: line 1: not built instruction-select\n",
+        ),
+    ] {
+        let mut text = BANKED.as_bytes().to_vec(alloc)?;
+        text.extend_from_slice(body.as_bytes())?;
+        let answered = run(alloc, &WORDS, text, &[], &[])?;
+        assert_eq!(rt; answered.err.as_slice(), err.as_bytes());
+        assert!(rt; answered.out.is_empty());
+        assert_eq!(rt; answered.status, 1);
     }
     Ok(())
 }

@@ -1,14 +1,15 @@
-//! Runs that end with their start: no pass is run, and the module is printed as it was read.
+//! Which runs are built: selection on RV32, and runs that end with their start, in which no pass is run.
 
-ghost use Rattle.std.specs.Prelude.{◌≡◌, ◌<◌, IfErr, None, OnOk, Some, length, nat_lt};
-ghost use Rattle.std.specs.List.{list_all, list_any};
-ghost use Rattle.gi_mir.specs.Edit.{block_at};
-ghost use Rattle.gi_spelling.specs.There.{is_block_within, is_there_in, names_blocks_there, names_there};
+ghost use Rattle.std.specs.Prelude.{◌≡◌, IfErr, None, OnOk, Some};
+ghost use Rattle.std.specs.List.{list_any};
 ghost use Rattle.gi_observe.specs.Passes.{word_of};
-ghost use Rattle.gisel.specs.Messages.{Tells, at_line, not_built};
-ghost use Rattle.gisel.specs.Unrun.{first_of, is_later, is_other_definition, later_in, later_in_blocks, later_in_instrs, later_line, later_message, runs_none, unbuilt, unprinted};
+ghost use Rattle.gisel.specs.Messages.{Tells, at_line, not_built, unbuilt_line};
+ghost use Rattle.gisel.specs.Unrun.{first_of, is_later, is_other_definition, later_in, later_in_blocks, later_in_instrs, later_line, runs_none, selects, unbuilt, unprinted};
+ghost use Rattle.gisel.specs.Unselected.{blank_message, unselected};
 
+use crate::machine::Machine;
 use crate::messages::{Refused, not_built, not_built_at};
+use crate::unselected::{any_blank, unselected_in};
 use gi_mir::block::Numbered;
 use gi_mir::function::Function;
 use gi_mir::instr::Instr;
@@ -17,6 +18,19 @@ use gi_mir::operand::Operand;
 use gi_mir::stage::Stage;
 use gi_observe::Pass;
 use std::alloc::Global;
+
+/// Whether the passes are built that are asked for: selection on RV32.
+pub fn selects(start: Pass, stop: Pass, machine: Machine) -> bool
+    ensures { result ≡ selects start stop machine }
+{
+    match start {
+        Pass::RegBankSelect => match stop {
+            Pass::Select => matches!(machine, Machine::Riscv32),
+            _ => false,
+        },
+        _ => false,
+    }
+}
 
 /// Whether no pass is run, behind one of the first two.
 fn runs_none(start: Pass, stop: Pass) -> bool
@@ -100,73 +114,6 @@ fn later_in(functions: &[Function]) -> Option<(u32, Opcode)>
     None
 }
 
-/// Whether the block that an operand names is there, of so many.
-fn is_there(count: u32, operand: Operand) -> bool
-    ensures { result ≡ is_there_in count operand }
-{
-    match operand {
-        Operand::Block(place) => place < count,
-        _ => true,
-    }
-}
-
-/// Whether the blocks that an instruction names are there.
-fn names_there(count: u32, numbered: &Numbered) -> bool
-    ensures { result ≡ names_there count numbered.now }
-{
-    numbered
-        .instr
-        .operands
-        .as_slice()
-        .iter()
-        .all(|operand| is_there(count, *operand))
-}
-
-/// Whether the blocks are there that the instructions of a block name.
-fn all_name_there(count: u32, instrs: &[Numbered]) -> bool
-    ensures { result ≡ list_all (names_there count) instrs.now }
-{
-    instrs.iter().all(|numbered| names_there(count, numbered))
-}
-
-/// Whether these places are those of blocks.
-fn are_places(count: u32, places: &[u32]) -> bool
-    ensures { result ≡ list_all (λ place. nat_lt place count) places.now }
-{
-    places.iter().all(|place| *place < count)
-}
-
-/// Whether the blocks are there that a block and its instructions name.
-fn is_block_within(function: &Function, block: u32) -> bool
-    requires { block < length function.now.blocks }
-    ensures { result ≡ is_block_within (length function.now.blocks) (block_at function.now block) }
-{
-    let count = function.block_count();
-    are_places(count, function.block(block).successors.as_slice())
-        && all_name_there(count, function.instrs(block))
-}
-
-/// Whether the blocks are there that a function names.
-fn names_blocks_there(function: &Function) -> bool
-    ensures { result ≡ names_blocks_there function.now }
-{
-    for block in 0..function.block_count() {
-        if !is_block_within(function, block) {
-            return false;
-        }
-    }
-    true
-}
-
-/// Whether the blocks are there that these functions name.
-fn all_name_blocks_there(functions: &[Function]) -> bool
-    ensures { result ≡ list_all names_blocks_there functions.now }
-{
-    functions
-        .iter()
-        .all(|function| names_blocks_there(function))
-}
-
 /// The first pass that is to be run: the one after the start, or the start where the run ends with it.
 fn first_of(start: Pass, stop: Pass) -> Pass
     ensures { result ≡ first_of start stop }
@@ -188,9 +135,9 @@ fn refused_pass(alloc: Global, pass: Pass) -> Refused
     }
 }
 
-/// What is said of an instruction of a later stage.
+/// What is said of an instruction that isn't built.
 fn refused_line(alloc: Global, line: u32, op: Opcode) -> Refused
-    ensures { Tells result (λ message. message ≡ later_message (line, op)) }
+    ensures { Tells result (λ message. message ≡ unbuilt_line (line, op)) }
 {
     match not_built_at(alloc, line, op.word()) {
         Ok(message) => Refused::Message(message),
@@ -208,10 +155,34 @@ fn check_printed(
     ensures built { OnOk result (unprinted start stop functions.now ≡ None) }
     ensures refused { IfErr result (λ why. Tells why (λ message. unprinted start stop functions.now ≡ Some message)) }
 {
-    if !runs_none(start, stop) || !all_name_blocks_there(functions) {
+    if !runs_none(start, stop) {
         return Err(refused_pass(alloc, first_of(start, stop)));
     }
     match later_in(functions) {
+        Some((line, op)) => Err(refused_line(alloc, line, op)),
+        None => Ok(()),
+    }
+}
+
+/// What is said of a function of several blocks without an instruction.
+fn refused_blank(alloc: Global) -> Refused
+    ensures { Tells result (λ message. message ≡ blank_message) }
+{
+    match not_built_at(alloc, 1, Pass::Select.word()) {
+        Ok(message) => Refused::Message(message),
+        Err(_) => Refused::Memory,
+    }
+}
+
+/// Refuses functions that aren't selected.
+fn check_selected(alloc: Global, functions: &[Function]) -> Result<(), Refused>
+    ensures built { OnOk result (unselected functions.now ≡ None) }
+    ensures refused { IfErr result (λ why. Tells why (λ message. unselected functions.now ≡ Some message)) }
+{
+    if any_blank(functions) {
+        return Err(refused_blank(alloc));
+    }
+    match unselected_in(functions) {
         Some((line, op)) => Err(refused_line(alloc, line, op)),
         None => Ok(()),
     }
@@ -222,13 +193,15 @@ pub fn check_built(
     alloc: Global,
     start: Pass,
     stop: Pass,
+    machine: Machine,
     functions: &[Function],
 ) -> Result<(), Refused>
-    ensures built { OnOk result (unbuilt start stop functions.now ≡ None) }
-    ensures refused { IfErr result (λ why. Tells why (λ message. unbuilt start stop functions.now ≡ Some message)) }
+    ensures built { OnOk result (unbuilt start stop machine functions.now ≡ None) }
+    ensures refused { IfErr result (λ why. Tells why (λ message. unbuilt start stop machine functions.now ≡ Some message)) }
 {
     match functions {
         [] => Ok(()),
+        [_, ..] if selects(start, stop, machine) => check_selected(alloc, functions),
         [_, ..] => check_printed(alloc, start, stop, functions),
     }
 }

@@ -1,23 +1,22 @@
-use Rattle.std.proofs.Common.{rules, ◌≡◌, None, subst}
-use Rattle.std.specs.Prelude.{IfSome}
-use Rattle.gi_mir.specs.Numbering.{numbered_module}
-use Rattle.gi_spelling.specs.Printed.{printed}
-use Rattle.gisel.specs.Machine.{width_of}
-use Rattle.gisel.specs.Promise.{Compiles, IsCompiled}
-use Rattle.gisel.specs.Unrun.{unbuilt}
-use Rattle.gisel.proofs.AnswerLemmas.{each_right, its_compiled}
-use Rattle.gisel.proofs.PrintedLaws.{kept}
+use Rattle.std.proofs.Common.{◌≡◌, sym, ◌∙◌}
+use Rattle.gisel.specs.Answers.{IsAnswer, IsTextOf}
+use Rattle.gisel.specs.Promise.{IsCompiled}
+use Rattle.gisel.specs.Unrun.{selects}
+use Rattle.gisel.proofs.AnswerLemmas.{each_right, its_answer, its_selectable, its_text_compiles}
 use Rattle.gisel.proofs.answer.passed.Goals as goal
 
-pub returns-in-Some-clause-compiled : goal.returns-in-Some-clause-compiled
-returns-in-Some-clause-compiled c =
-    its_compiled c.args.options.now c.args.text.now c.in-Some.written.items c.args.start c.args.machine c.args.m.now c.requires.passes
-    (subst (λ found. IfSome found (λ written. Compiles (width_of c.args.machine) c.args.text.now written.items)) c.in-Some.is c.in_ok-written.ensures.compiled)
+pub text_of-requires : goal.text_of-requires
+text_of-requires c = λ so.
+    its_selectable c.args.options.now c.args.text.now c.args.start c.args.machine c.args.m c.requires.passes c.in_ok-check_built.ensures.built (sym c.selects.ensures ∙ so)
 
 pub returns-clause-compiled : goal.returns-clause-compiled
 returns-clause-compiled c =
-    let built : unbuilt c.args.start c.args.options.now.stop c.args.m.now.functions ≡ None = search rules in
-    each_right (λ text. text.items ≡ printed (numbered_module c.args.m.now)) (λ written. IsCompiled c.args.options.now c.args.text.now written.items) c.printed.result
-    (λ text same. its_compiled c.args.options.now c.args.text.now text.items c.args.start c.args.machine c.args.m.now c.requires.passes
-    (kept (width_of c.args.machine) c.args.text.now text.items c.args.start c.args.options.now.stop c.args.m.now c.requires.passes.reads built same))
-    c.printed.ensures.text
+    each_right (λ text. IsTextOf c.selects.result c.args.m text.items) (λ written. IsCompiled c.args.options.now c.args.text.now written.items) c.text_of.result
+    (λ text same. its_text_compiles c.args.options.now c.args.text.now text.items c.args.start c.args.machine c.args.m c.requires.passes c.in_ok-check_built.ensures.built
+    c.selects.result c.selects.ensures same) c.text_of.ensures.text
+
+pub returns-clause-answer : goal.returns-clause-answer
+returns-clause-answer c =
+    each_right (λ text. IsTextOf c.selects.result c.args.m text.items) (λ written. IsAnswer c.args.options.now c.args.text.now written.items) c.text_of.result
+    (λ text same. its_answer c.args.options.now c.args.text.now text.items c.args.start c.args.machine c.args.m c.requires.within c.requires.passes c.in_ok-check_built.ensures.built
+    c.selects.result c.selects.ensures same) c.text_of.ensures.text

@@ -1,0 +1,14 @@
+pub mod Joined
+pub mod KnownBound
+pub mod KnownFacts
+pub mod KnownRule
+pub mod KnownTypes
+pub mod Using
+pub mod UsingElsewhere
+pub mod UsingFresh
+pub mod UsingInputs
+pub mod UsingKept
+pub mod UsingKinds
+pub mod UsingPlaced
+pub mod UsingRefines
+pub mod UsingTests

@@ -1,0 +1,137 @@
+//! What follows for a sound rule where it fits in a valid function.
+
+ghost use Rattle.std.specs.Prelude.{◌≡◌, ◌⊎◌, List, Some, false, true, ℕ};
+ghost use Rattle.gi_mir.specs.Data.{FunctionData, InstrData};
+ghost use Rattle.gi_mir.specs.Edit.{IsLive, home_of, instr_of};
+ghost use Rattle.gi_mir.specs.Formed.{is_formed};
+ghost use Rattle.gi_mir.specs.Ids.{AreOwnIds};
+ghost use Rattle.gi_mir.specs.declared.operand.Flags.{Flags};
+ghost use Rattle.gi_meaning.specs.Runs.{after_phis, is_phi, setting_of};
+ghost use Rattle.gi_meaning.specs.State.{IsWorld, State, World};
+ghost use Rattle.gi_refine.specs.Lifting.{IsKnown};
+ghost use Rattle.gi_refine.specs.Reached.{IsReached};
+ghost use Rattle.gi_refine.specs.Refinement.{IsRefinement};
+ghost use Rattle.gi_pattern.specs.Applying.{applied};
+ghost use Rattle.gi_pattern.specs.Data.{MakeData, MatchData};
+ghost use Rattle.gi_pattern.specs.Examples.{difference_of_same, difference_with_constant, product_by_power, remainder_by_power, sum_with_short_constant, sum_with_zero, truncated_extension, unmerged_pair};
+ghost use Rattle.gi_pattern.specs.Fitting.{binding_at};
+ghost use Rattle.gi_pattern.specs.declared.binding.Binding.{Binding};
+ghost use Rattle.gi_pattern.specs.declared.rule.Test.{Test};
+ghost use Rattle.gi_lifting.specs.Placed.{types_in};
+ghost use Rattle.gi_lifting.specs.Sound.{IsSoundRule, Suits};
+ghost use Rattle.gi_lifting.specs.Uses.{IsUsed, front_of, on_values, placing_of, rule_of, rule_with};
+ghost use Rattle.gi_soundness.specs.Rules.{HasHadAll};
+ghost use Rattle.gi_valid.specs.Typing.{Phase, Typed};
+ghost use Rattle.gi_valid.specs.Valid.{IsValid};
+ghost use Rattle.gi_refining.specs.Usable.{is_new_in, is_usable};
+ghost use Rattle.gi_refine.specs.Fitting.{blocks_fit};
+ghost use Rattle.gi_refining.specs.Known.{FitsBefore, are_sized, flags_found, knows_inputs};
+ghost use Rattle.gi_refining.specs.KnownTypes.{fills_rows, have_types};
+
+/// A rule that meets the condition on its own list is used wherever it fits in a valid function, at an instruction that is
+/// formed: what is asked besides is what is known of the states that runs reach before it. The two functions share the
+/// registers that the old one has had.
+pub fn usable_rule_is_used()
+    ensures { (x : ℕ) (phase : Phase) (names : List (List ℕ)) (f : FunctionData) (name : ℕ) (root : MatchData) (definitions : List MatchData) (tests : List Test) (makes : List MakeData) (b : Binding) (id : ℕ) (instr : InstrData) (flags : ℕ → Flags)
+        → is_usable (rule_of name root definitions tests makes) ≡ true
+        → IsValid x phase f → AreOwnIds f.blocks f.next_id → HasHadAll f → IsLive f id
+        → binding_at f (rule_of name root definitions tests makes) id ≡ Some b
+        → instr_of f id ≡ Some instr → is_formed instr ≡ true → instr.flags ≡ flags 0
+        → ((w : World) → IsWorld x w → (state : State) → IsReached (setting_of x names f) w f.blocks (home_of f id) (after_phis (front_of f id)) state
+        → IsKnown (setting_of x names f) w (on_values x f (rule_of name root definitions tests makes) b flags) (placing_of f (rule_of name root definitions tests makes) b root).inputs state)
+        → IsUsed x names f (rule_of name root definitions tests makes) root b id instr flags (is_new_in f) }
+{}
+
+/// So a sound rule that meets the condition refines each valid function in which it fits, where besides its types meet the rows,
+/// its tests pass, and this much is known of reached states.
+pub fn usable_rule_refines()
+    ensures { (x : ℕ) (phase : Phase) (names : List (List ℕ)) (f : FunctionData) (name : ℕ) (root : MatchData) (definitions : List MatchData) (tests : List Test) (makes : List MakeData) (b : Binding) (id : ℕ) (instr : InstrData) (flags : ℕ → Flags)
+        → (x ≡ 32) ⊎ (x ≡ 64)
+        → IsSoundRule (rule_of name root definitions tests makes)
+        → Suits x (rule_of name root definitions tests makes) (types_in x f b) b
+        → is_usable (rule_of name root definitions tests makes) ≡ true
+        → IsValid x phase f → AreOwnIds f.blocks f.next_id → HasHadAll f → IsLive f id
+        → binding_at f (rule_of name root definitions tests makes) id ≡ Some b
+        → instr_of f id ≡ Some instr → is_formed instr ≡ true → instr.flags ≡ flags 0
+        → ((w : World) → IsWorld x w → (state : State) → IsReached (setting_of x names f) w f.blocks (home_of f id) (after_phis (front_of f id)) state
+        → IsKnown (setting_of x names f) w (on_values x f (rule_of name root definitions tests makes) b flags) (placing_of f (rule_of name root definitions tests makes) b root).inputs state)
+        → IsRefinement x names f (applied x (rule_of name root definitions tests makes) b id f) }
+{}
+
+/// These example rules meet the condition.
+pub fn usable_rules()
+    ensures difference_of_same { is_usable difference_of_same ≡ true }
+    ensures product_by_power { is_usable product_by_power ≡ true }
+    ensures difference_with_constant { is_usable difference_with_constant ≡ true }
+    ensures remainder_by_power { is_usable remainder_by_power ≡ true }
+    ensures sum_with_short_constant { is_usable sum_with_short_constant ≡ true }
+{}
+
+/// Where a rule that meets the condition fits in a valid function, what it takes for known holds in each state that runs reach
+/// there: each input that its root doesn't read has a value, values fit, and its definitions hold, with the flags that they have.
+pub fn fitting_rule_is_known()
+    ensures { (x : ℕ) (phase : Phase) (names : List (List ℕ)) (f : FunctionData) (name : ℕ) (root : MatchData) (definitions : List MatchData) (tests : List Test) (replaces : List (ℕ × ℕ)) (makes : List MakeData) (b : Binding) (id : ℕ) (instr : InstrData)
+        → IsValid x phase f → AreOwnIds f.blocks f.next_id → IsLive f id → instr_of f id ≡ Some instr
+        → binding_at f (rule_with name root definitions tests replaces makes) id ≡ Some b
+        → knows_inputs (rule_with name root definitions tests replaces makes) ≡ true
+        → are_sized x f ≡ true → FitsBefore x names f id
+        → (w : World) → IsWorld x w → (state : State) → IsReached (setting_of x names f) w f.blocks (home_of f id) (after_phis (front_of f id)) state
+        → IsKnown (setting_of x names f) w (on_values x f (rule_with name root definitions tests replaces makes) b (flags_found f b instr definitions))
+        (placing_of f (rule_with name root definitions tests replaces makes) b root).inputs state }
+{}
+
+/// Where a rule of generic instructions fits in a valid function whose registers have types, these and the numbers that it found
+/// suit it: types meet the rows of its matches, its tests pass, and a constant has the width of its register.
+pub fn fitting_rule_suits()
+    ensures { (x : ℕ) (f : FunctionData) (name : ℕ) (root : MatchData) (definitions : List MatchData) (tests : List Test) (replaces : List (ℕ × ℕ)) (makes : List MakeData) (b : Binding) (id : ℕ) (instr : InstrData)
+        → IsValid x Typed f → AreOwnIds f.blocks f.next_id → IsLive f id → instr_of f id ≡ Some instr
+        → binding_at f (rule_with name root definitions tests replaces makes) id ≡ Some b
+        → fills_rows (rule_with name root definitions tests replaces makes) ≡ true
+        → are_sized x f ≡ true → have_types f ≡ true
+        → Suits x (rule_with name root definitions tests replaces makes) (types_in x f b) b }
+{}
+
+/// In a function that passes the test of sizes, values fit before each instruction that is no phi.
+pub fn tested_values_fit()
+    ensures { (x : ℕ) (names : List (List ℕ)) (f : FunctionData) (id : ℕ) (i : InstrData)
+        → blocks_fit (setting_of x names f) f.blocks ≡ true → IsLive f id → instr_of f id ≡ Some i → is_phi i ≡ false → FitsBefore x names f id }
+{}
+
+/// The example rules meet the condition of what is known.
+pub fn example_rules_know()
+    ensures sum_with_zero { knows_inputs sum_with_zero ≡ true }
+    ensures difference_of_same { knows_inputs difference_of_same ≡ true }
+    ensures product_by_power { knows_inputs product_by_power ≡ true }
+    ensures difference_with_constant { knows_inputs difference_with_constant ≡ true }
+    ensures remainder_by_power { knows_inputs remainder_by_power ≡ true }
+    ensures truncated_extension { knows_inputs truncated_extension ≡ true }
+    ensures unmerged_pair { knows_inputs unmerged_pair ≡ true }
+    ensures sum_with_short_constant { knows_inputs sum_with_short_constant ≡ true }
+{}
+
+/// The example rules are of generic instructions, as their rows have them.
+pub fn example_rules_fill_rows()
+    ensures sum_with_zero { fills_rows sum_with_zero ≡ true }
+    ensures difference_of_same { fills_rows difference_of_same ≡ true }
+    ensures product_by_power { fills_rows product_by_power ≡ true }
+    ensures difference_with_constant { fills_rows difference_with_constant ≡ true }
+    ensures remainder_by_power { fills_rows remainder_by_power ≡ true }
+    ensures truncated_extension { fills_rows truncated_extension ≡ true }
+    ensures unmerged_pair { fills_rows unmerged_pair ≡ true }
+    ensures sum_with_short_constant { fills_rows sum_with_short_constant ≡ true }
+{}
+
+/// Together: a sound rule that meets these conditions on its own list refines each valid function of generic code in which it
+/// fits, where constants are as wide as their registers and values fit before the root.
+pub fn fitting_rule_refines()
+    ensures { (x : ℕ) (names : List (List ℕ)) (f : FunctionData) (name : ℕ) (root : MatchData) (definitions : List MatchData) (tests : List Test) (makes : List MakeData) (b : Binding) (id : ℕ) (instr : InstrData)
+        → (x ≡ 32) ⊎ (x ≡ 64)
+        → IsSoundRule (rule_of name root definitions tests makes)
+        → is_usable (rule_of name root definitions tests makes) ≡ true
+        → knows_inputs (rule_of name root definitions tests makes) ≡ true
+        → fills_rows (rule_of name root definitions tests makes) ≡ true
+        → IsValid x Typed f → AreOwnIds f.blocks f.next_id → HasHadAll f → are_sized x f ≡ true → have_types f ≡ true
+        → IsLive f id → binding_at f (rule_of name root definitions tests makes) id ≡ Some b
+        → instr_of f id ≡ Some instr → is_formed instr ≡ true → FitsBefore x names f id
+        → IsRefinement x names f (applied x (rule_of name root definitions tests makes) b id f) }
+{}

@@ -1,0 +1,10 @@
+use Rattle.std.proofs.Common.{◌≡◌, ◌-◌, find}
+use Rattle.std.specs.List.{range_with_len}
+use Rattle.gi_valid.specs.Faults.{goes_across}
+use Rattle.gi_verify.proofs.physical.first_across.Given as goal
+
+-- none of the registers passed is one
+abbrev pub invariant-loop-n : goal.invariant-loop-n
+invariant-loop-n l =
+    find (goes_across l.function (record { block = l.b; before = l.front; instr = l.numbered.1; after = l.after })) (range_with_len 0 l.end)
+    ≡ find (goes_across l.function (record { block = l.b; before = l.front; instr = l.numbered.1; after = l.after })) (range_with_len l.n (l.end - l.n))

@@ -1,0 +1,23 @@
+use Rattle.std.proofs.Common.{◌+◌, ◌<◌, ◌≤◌, length, subst, take}
+use Rattle.gi_mir.specs.Edit.{block_at}
+use Rattle.gi_valid.specs.Typing.{phase_of}
+use Rattle.gi_verify.specs.Passed.{IsPassed}
+use Rattle.gi_verify.specs.Sets.{IsTold}
+use Rattle.gi_verify.proofs.Told.{none_told, one_told, all_told}
+use Rattle.gi_verify.proofs.site.push_block.Goals as goal
+
+pub loop-k-init : goal.loop-k-init
+loop-k-init c =
+    (none_told c.args.target.xlen (phase_of c.args.stage) c.args.function.now c.args.b (block_at c.args.function.now c.args.b).instrs c.args.out.now.items, c.nothing-passed.ensures)
+
+pub loop-k-preserved : goal.loop-k-preserved
+loop-k-preserved c =
+    (one_told c.args.target.xlen (phase_of c.args.stage) c.args.function.now c.args.b (block_at c.args.function.now c.args.b).instrs c.loop-k.k (subst (λ l. c.loop-k.k < length l) c.instrs-instrs.ensures c.loop-k-test.true)
+    c.args.out.now.items c.loop-k.out.items c.push_site.new.out.items c.loop-k.invariant.0
+    (subst (λ l. IsTold c.args.target.xlen (phase_of c.args.stage) c.args.function.now c.args.b l c.loop-k.k c.loop-k.out.items c.push_site.new.out.items) c.instrs-instrs.ensures c.in_ok-push_site.ensures),
+    subst (λ l. IsPassed (take (c.loop-k.k + 1) l) c.passed_with-passed.result) c.instrs-instrs.ensures c.passed_with-passed.ensures)
+
+pub returns : goal.returns
+returns c =
+    all_told c.args.target.xlen (phase_of c.args.stage) c.args.function.now c.args.b (block_at c.args.function.now c.args.b).instrs c.loop-k.k (subst (λ l. length l ≤ c.loop-k.k) c.instrs-instrs.ensures c.loop-k-test.false)
+    c.args.out.now.items c.loop-k.out.items c.loop-k.invariant.0

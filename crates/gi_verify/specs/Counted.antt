@@ -1,0 +1,32 @@
+-- How often registers were defined, as it is kept.
+use Rattle.std.specs.Prelude.{◌≡◌, ℕ, zero, suc, Bool, true, false, List, Option, Some, None, nat_eq}
+use Rattle.indexmap.specs.IndexMap.{get}
+use Rattle.gi_valid.specs.Faults.{times}
+use Rattle.gi_verify.specs.declared.definitions.Counted.{Counted}
+use Rattle.gi_verify.specs.declared.definitions.Times.{Times}
+use Rattle.gi_verify.specs.declared.definitions.Times.TheVariants.{Once, Often}
+
+-- what is kept of a register
+abbrev pub counted : Counted → ℕ → Option Times
+counted kept r = get nat_eq kept.times r
+
+-- what is kept of one that was defined so often
+abbrev pub kept_of : (times : ℕ) → Option Times
+kept_of zero = None
+kept_of (suc zero) = Some Once
+kept_of (suc (suc n)) = Some Often
+
+-- with one more definition
+abbrev pub once_more : Option Times → Times
+once_more None = Once
+once_more (Some times) = Often
+
+-- whether it is one definition
+abbrev pub is_once : Option Times → Bool
+is_once None = false
+is_once (Some Once) = true
+is_once (Some Often) = false
+
+-- of each register it is kept how often these define it
+pub record AreCounted (before : List (ℕ × ℕ)) (kept : Counted) : Type 0 where
+  pub each : (r : ℕ) → counted kept r ≡ kept_of (times r before)

@@ -1,0 +1,6 @@
+pub mod Counted
+pub mod Named
+pub mod Passed
+pub mod Refusal
+pub mod Sets
+pub mod Settled

@@ -1,0 +1,36 @@
+-- The blocks that name each block as a successor, as they are kept.
+use Rattle.std.specs.Prelude.{◌≡◌, ◌≢◌, ℕ, Bool, not, ◌&&◌, ◌==◌, List, [], ◌∷◌, ◌++◌, take, nat_eq, if◌then◌else◌}
+use Rattle.std.specs.Option.{option_map_or}
+use Rattle.indexmap.specs.IndexMap.{get}
+use Rattle.gi_mir.specs.Data.{FunctionData}
+use Rattle.gi_meaning.specs.Runs.{is_among}
+use Rattle.gi_valid.specs.Available.{naming, predecessors}
+use Rattle.gi_verify.specs.declared.predecessors.Predecessors.{Predecessors}
+
+-- the blocks that are kept as naming one
+abbrev pub names : Predecessors → ℕ → List ℕ
+names all b = option_map_or (λ v. v.items) (get nat_eq all.lists b) []
+
+-- one block, in a list of its own, where that is so
+abbrev pub only_if : Bool → ℕ → List ℕ
+only_if t a = if t then a ∷ [] else []
+
+-- one more block names one
+pub record IsGrown (old new : Predecessors) (b a : ℕ) : Type 0 where
+  pub here : names new b ≡ names old b ++ a ∷ []
+  pub others : (q : ℕ) → q ≢ b → names new q ≡ names old q
+
+-- one more block names one, unless it is among those that it named before
+pub record IsNamedOnce (old new : Predecessors) (a : ℕ) (front : List ℕ) (b : ℕ) : Type 0 where
+  pub each : (q : ℕ) → names new q ≡ names old q ++ only_if ((q == b) && not (is_among b front)) a
+
+-- one more block names these
+pub record AreNamed (old new : Predecessors) (a : ℕ) (successors : List ℕ) : Type 0 where
+  pub each : (q : ℕ) → names new q ≡ names old q ++ only_if (is_among q successors) a
+
+-- the blocks below one are kept where they name it, and all are
+pub record AreNamedBelow (f : FunctionData) (end : ℕ) (all : Predecessors) : Type 0 where
+  pub each : (q : ℕ) → names all q ≡ naming q 0 (take end f.blocks)
+
+pub record ArePredecessors (f : FunctionData) (all : Predecessors) : Type 0 where
+  pub each : (q : ℕ) → names all q ≡ predecessors f q

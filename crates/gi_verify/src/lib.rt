@@ -1,0 +1,28 @@
+//! Whether a function is valid, and the fault that is told of one that isn't.
+#![tactic(auto)]
+
+mod available;
+mod blocks;
+mod definitions;
+mod dominators;
+mod ends;
+mod laws;
+mod lowest;
+mod mismatch;
+mod operands;
+mod passed;
+mod physical;
+mod predecessors;
+mod reached;
+mod registers;
+mod settled;
+mod site;
+#[cfg(test)]
+mod tests;
+mod tree;
+mod typing;
+mod uses;
+mod verifying;
+
+pub use laws::one_fault_is_told;
+pub use verifying::{VerifyError, verify};

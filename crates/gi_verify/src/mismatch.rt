@@ -1,0 +1,176 @@
+//! The register with whose type the row of an instruction can't be met, and instructions that may come to be calls.
+
+ghost use Rattle.std.specs.Prelude.{◌≡◌, ◌++◌, ◌∷◌, ◌≤◌, ◌⊎◌, [], ℕ, Some, None, IfOk, length, map, option_map, nat_lt, ◌&&◌, false};
+ghost use Rattle.gi_llt.specs.Llt.{width_of};
+ghost use Rattle.gi_mir.specs.Data.{reg_of};
+ghost use Rattle.gi_valid.specs.declared.invalid.Invalid.TheVariants as Invalid;
+ghost use Rattle.std.specs.Option.{option_map_or};
+ghost use Rattle.gi_valid.specs.Faults as faults;
+ghost use Rattle.gi_valid.specs.Typing as typings;
+
+use crate::registers::{count_results, first_unmet, registers_of, results_in, type_in, types_of};
+use gi_llt::{Llt, Memory, Target, width};
+use gi_mir::function::Function;
+use gi_mir::instr::Instr;
+use gi_mir::opcode::Opcode;
+use gi_mir::operand::{Operand, Reg};
+use gi_mir::stage::Stage;
+use gi_mir::typing::Typing;
+use gi_valid::Invalid;
+use std::alloc::Global;
+
+/// The register with whose type a row with this typing can't be met.
+fn unmet(
+    alloc: Global,
+    x: u16,
+    stage: Stage,
+    function: &Function,
+    typing: Option<Typing>,
+    operands: &[Operand],
+) -> Result<Option<u32>, Memory>
+    requires { x ≤ 64 }
+    ensures { IfOk result (λ found. found ≡ typings.unmet x (typings.type_in (typings.phase_of stage) function.now) typing operands.now) }
+{
+    match typing {
+        Some(typing) => {
+            let registers = registers_of(alloc, operands)?;
+            let types = types_of(alloc, stage, function, registers.as_slice())?;
+            let results = count_results(operands);
+            first_unmet(
+                alloc,
+                x,
+                &typing,
+                results,
+                registers.as_slice(),
+                types.as_slice(),
+            )
+        }
+        None => Ok(None),
+    }
+}
+
+/// The register with whose type the row of an instruction can't be met.
+#[tactic(auto, using(crate::proofs::Unmet::joins_none))]
+fn mismatch(
+    alloc: Global,
+    x: u16,
+    stage: Stage,
+    function: &Function,
+    instr: &Instr,
+) -> Result<Option<u32>, Memory>
+    requires { x ≤ 64 }
+    ensures { IfOk result (λ found. found ≡ typings.mismatch x (typings.phase_of stage) function.now instr.now) }
+{
+    unmet(
+        alloc,
+        x,
+        stage,
+        function,
+        instr.op.typing(),
+        instr.operands.as_slice(),
+    )
+}
+
+/// The fault of a register, where there is one.
+fn told_mismatch(found: Option<u32>) -> Option<Invalid>
+    ensures { result ≡ option_map (λ r. Invalid.TypeMismatch (reg_of r)) found }
+{
+    match found {
+        Some(r) => Some(Invalid::TypeMismatch(Reg(r))),
+        None => None,
+    }
+}
+
+/// The fault of types that don't meet the row.
+pub(crate) fn type_mismatch(
+    alloc: Global,
+    x: u16,
+    stage: Stage,
+    function: &Function,
+    instr: &Instr,
+) -> Result<Option<Invalid>, Memory>
+    requires { x ≤ 64 }
+    ensures { IfOk result (λ found. found ≡ option_map (λ r. Invalid.TypeMismatch (reg_of r)) (typings.mismatch x (typings.phase_of stage) function.now instr.now)) }
+{
+    let found = mismatch(alloc, x, stage, function, instr)?;
+    Ok(told_mismatch(found))
+}
+
+/// Whether this is a generic division or remainder.
+fn is_division(op: Opcode) -> bool
+    ensures { result ≡ faults.is_division op }
+{
+    matches!(
+        op,
+        Opcode::GenericUnsignedDivide
+            | Opcode::GenericSignedDivide
+            | Opcode::GenericUnsignedRemainder
+            | Opcode::GenericSignedRemainder
+    )
+}
+
+/// Whether this is a generic product.
+fn is_product(op: Opcode) -> bool
+    ensures { result ≡ faults.is_product op }
+{
+    matches!(op, Opcode::GenericMultiply)
+}
+
+/// Whether a type is wider than a register.
+fn is_wide(target: Target, ty: Option<Llt>) -> bool
+    requires { (target.xlen ≡ 32) ⊎ (target.xlen ≡ 64) }
+    ensures { result ≡ option_map_or (λ t. nat_lt target.xlen (width_of target.xlen t)) ty false }
+{
+    match ty {
+        Some(ty) => target.xlen < width(ty, target),
+        None => false,
+    }
+}
+
+/// Whether the first of these registers is wider than a word.
+fn is_wider(target: Target, stage: Stage, function: &Function, registers: &[u32]) -> bool
+    requires { (target.xlen ≡ 32) ⊎ (target.xlen ≡ 64) }
+    ensures { result ≡ faults.is_wider target.xlen (typings.phase_of stage) function.now registers.now }
+{
+    match registers {
+        [] => false,
+        [first, ..] => is_wide(target, type_in(stage, function, *first)),
+    }
+}
+
+/// Whether a product is wider than a word.
+fn is_wide_product(
+    alloc: Global,
+    target: Target,
+    stage: Stage,
+    function: &Function,
+    instr: &Instr,
+) -> Result<bool, Memory>
+    requires { (target.xlen ≡ 32) ⊎ (target.xlen ≡ 64) }
+    ensures { IfOk result (λ t. t ≡ (faults.is_product (instr.now).op && faults.is_wider target.xlen (typings.phase_of stage) function.now (typings.results_in (instr.now).operands))) }
+{
+    if is_product(instr.op) {
+        let registers = results_in(alloc, instr.operands.as_slice())?;
+        Ok(is_wider(target, stage, function, registers.as_slice()))
+    } else {
+        Ok(false)
+    }
+}
+
+/// Whether an instruction may come to be a call.
+pub(crate) fn may_call(
+    alloc: Global,
+    target: Target,
+    stage: Stage,
+    function: &Function,
+    instr: &Instr,
+) -> Result<bool, Memory>
+    requires { (target.xlen ≡ 32) ⊎ (target.xlen ≡ 64) }
+    ensures { IfOk result (λ t. t ≡ faults.may_call target.xlen (typings.phase_of stage) function.now instr.now) }
+{
+    if instr.op.is_call() || is_division(instr.op) {
+        Ok(true)
+    } else {
+        is_wide_product(alloc, target, stage, function, instr)
+    }
+}

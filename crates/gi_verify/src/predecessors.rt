@@ -1,0 +1,124 @@
+//! The predecessors of each block.
+
+ghost use Rattle.std.specs.Prelude.{◌≡◌, ◌<◌, ◌∷◌, ◌++◌, ℕ, [], OnOk, IfOk, take, length, nat_lt};
+ghost use Rattle.gi_valid.specs.Available as available;
+ghost use Rattle.gi_verify.specs.Named.{AreNamed, ArePredecessors, IsGrown, IsNamedOnce, names};
+
+use crate::available::is_listed;
+use gi_llt::Memory;
+use gi_mir::function::Function;
+use indexmap::IndexMap;
+use std::alloc::Global;
+
+/// Of each block that is named as a successor, the blocks that name it, in layout order.
+#[derive(Drop)]
+pub(crate) struct Predecessors {
+    lists: IndexMap<u32, Vec<u32>>,
+}
+
+/// Puts a block at the end of a list.
+fn push(blocks: &mut Vec<u32>, b: u32) -> Result<(), Memory>
+    ensures { OnOk result (blocks.new.items ≡ blocks.old.items ++ b ∷ []) }
+{
+    match blocks.push(b) {
+        Ok(()) => Ok(()),
+        Err(_) => Err(Memory),
+    }
+}
+
+/// The blocks in front of one.
+fn in_front(blocks: &[u32], k: usize) -> &[u32]
+    requires { k < length blocks.now }
+    ensures { result.now ≡ take k blocks.now }
+{
+    &blocks[..k]
+}
+
+impl Predecessors {
+    /// Of no block.
+    fn new(alloc: Global) -> Predecessors
+        ensures { (b : ℕ) → names result b ≡ [] }
+    {
+        Predecessors {
+            lists: IndexMap::new(alloc),
+        }
+    }
+
+    /// The predecessors of a block.
+    pub(crate) fn of(&self, b: u32) -> &[u32]
+        ensures { result.now ≡ names self.now b }
+    {
+        match self.lists.get(&b) {
+            Some(blocks) => blocks.as_slice(),
+            None => &[],
+        }
+    }
+
+    /// The first predecessor of a block.
+    fn begin(&mut self, b: u32, a: u32) -> Result<(), Memory>
+        requires { names self.old b ≡ [] }
+        ensures { OnOk result (IsGrown self.old self.new b a) }
+    {
+        let mut blocks = Vec::new(*self.lists.allocator());
+        push(&mut blocks, a)?;
+        match self.lists.insert(b, blocks) {
+            Ok(_) => Ok(()),
+            Err(_) => Err(Memory),
+        }
+    }
+
+    /// One more predecessor of a block.
+    fn add(&mut self, b: u32, a: u32) -> Result<(), Memory>
+        ensures { OnOk result (IsGrown self.old self.new b a) }
+    {
+        match self.lists.get_mut(&b) {
+            Some(blocks) => push(blocks, a),
+            None => self.begin(b, a),
+        }
+    }
+
+    /// A block that another one names behind others.
+    #[tactic(auto, using(crate::proofs::Naming::named_again, crate::proofs::Naming::named_first))]
+    fn name_one(&mut self, a: u32, front: &[u32], b: u32) -> Result<(), Memory>
+        ensures { OnOk result (IsNamedOnce self.old self.new a front.now b) }
+    {
+        if is_listed(b, front) {
+            Ok(())
+        } else {
+            self.add(b, a)
+        }
+    }
+
+    /// The blocks that another one names.
+    #[tactic(auto, using(crate::proofs::Naming::named_none))]
+    fn name_all(&mut self, a: u32, successors: &[u32]) -> Result<(), Memory>
+        ensures { OnOk result (AreNamed self.old self.new a successors.now) }
+    {
+        for k in 0..successors.len() {
+            let front = in_front(successors, k);
+            self.name_one(a, front, successors[k])?;
+        }
+        Ok(())
+    }
+}
+
+/// The predecessors of each block of a function.
+#[tactic(auto, using(crate::proofs::Naming::named_from, crate::proofs::Naming::named_below, crate::proofs::Naming::all_named))]
+pub(crate) fn predecessors_of(alloc: Global, function: &Function) -> Result<Predecessors, Memory>
+    ensures { IfOk result (λ all. ArePredecessors function.now all) }
+{
+    let mut all = Predecessors::new(alloc);
+    for a in 0..function.block_count() {
+        all.name_all(a, function.block(a).successors.as_slice())?;
+    }
+    Ok(all)
+}
+
+/// Whether the first block has a predecessor.
+pub(crate) fn has_way_back(function: &Function, all: &Predecessors) -> bool
+    requires { ArePredecessors function.now all.now }
+    ensures { result ≡ nat_lt 0 (length (available.predecessors function.now 0)) }
+{
+    let _ = function;
+    0 < all.of(0).len()
+}

@@ -1,0 +1,324 @@
+//! Uses of registers that aren't available.
+
+ghost use Rattle.std.specs.Prelude.{◌≡◌, ◌<◌, ◌||◌, ◌&&◌, ◌∷◌, ℕ, not, [], true, Some, None, Option, IfOk, length, find, nat_lt, option_map};
+ghost use Rattle.gi_mir.specs.Data.{reg_of};
+ghost use Rattle.gi_mir.specs.Edit.{block_at};
+ghost use Rattle.gi_mir.specs.declared.operand.Operand.TheVariants as Operand;
+ghost use Rattle.gi_meaning.specs.Runs.{entry_of, is_phi};
+ghost use Rattle.gi_valid.specs.Available as available;
+ghost use Rattle.gi_valid.specs.Available.{Extent};
+ghost use Rattle.gi_valid.specs.Faults as faults;
+ghost use Rattle.gi_valid.specs.Valid.{IsGreatest};
+ghost use Rattle.gi_valid.specs.declared.invalid.Invalid.TheVariants as Invalid;
+ghost use Rattle.gi_verify.specs.Sets.{AreReachedBlocks, IsAnswer, IsMissing, IsThere};
+ghost use Rattle.gi_verify.specs.Settled.{IsOrderOf, IsPlaced};
+
+use crate::available::is_available;
+use crate::ends::is_phi;
+use crate::physical::is_physical_there;
+use crate::settled::{Order, comes_sooner, comes_within};
+use gi_llt::Memory;
+use gi_mir::block::{InstrId, Numbered};
+use gi_mir::function::Function;
+use gi_mir::operand::{Operand, Reg};
+use gi_valid::Invalid;
+use std::alloc::Global;
+
+/// The id of an instruction.
+fn id_of(numbered: &Numbered) -> InstrId
+    ensures { result.0 ≡ (numbered.now).0 }
+{
+    numbered.id
+}
+
+/// Whether a register is found to be available behind the front of a block, since its definition comes sooner.
+fn is_sooner(
+    function: &Function,
+    order: &Order,
+    r: u32,
+    b: u32,
+    front: &[Numbered],
+    numbered: &Numbered,
+) -> bool
+    requires order { IsOrderOf function.now order.now }
+    requires within { b < length function.now.blocks }
+    requires placed { IsPlaced function.now b front.now numbered.now }
+    ensures { result ≡ true → IsAnswer function.now r b front.now true }
+{
+    let _ = front;
+    let id = id_of(numbered);
+    comes_sooner(function, order, r, b, id)
+}
+
+/// Whether a register is found to be available at the end of a block, since its definition comes sooner.
+fn is_within(function: &Function, order: &Order, r: u32, b: u32) -> bool
+    requires order { IsOrderOf function.now order.now }
+    requires within { b < length function.now.blocks }
+    ensures { result ≡ true → IsAnswer function.now r b (block_at function.now b).instrs true }
+{
+    comes_within(function, order, r, b)
+}
+
+/// Whether what an operand uses is available.
+fn is_there(
+    alloc: Global,
+    function: &Function,
+    reached: &[bool],
+    order: &Order,
+    way_back: bool,
+    b: u32,
+    front: &[Numbered],
+    numbered: &Numbered,
+    operand: Operand,
+) -> Result<bool, Memory>
+    requires reached { AreReachedBlocks function.now reached.now }
+    requires order { IsOrderOf function.now order.now }
+    requires within { b < length function.now.blocks }
+    requires placed { IsPlaced function.now b front.now numbered.now }
+    requires way_back { way_back ≡ nat_lt 0 (length (available.predecessors function.now 0)) }
+    ensures { IfOk result (λ t. IsThere function.now b front.now operand t) }
+{
+    match operand {
+        Operand::Use(r) => {
+            is_use_there(alloc, function, reached, order, b, front, numbered, r.0)
+        }
+        Operand::Phys(n) | Operand::ImplicitUse(n) => {
+            Ok(is_physical_there(function, way_back, b, front, n))
+        }
+        _ => Ok(true),
+    }
+}
+
+/// Whether a virtual register is.
+fn is_use_there(
+    alloc: Global,
+    function: &Function,
+    reached: &[bool],
+    order: &Order,
+    b: u32,
+    front: &[Numbered],
+    numbered: &Numbered,
+    r: u32,
+) -> Result<bool, Memory>
+    requires reached { AreReachedBlocks function.now reached.now }
+    requires order { IsOrderOf function.now order.now }
+    requires within { b < length function.now.blocks }
+    requires placed { IsPlaced function.now b front.now numbered.now }
+    ensures { IfOk result (λ t. IsThere function.now b front.now (Operand.Use (reg_of r)) t) }
+{
+    if is_sooner(function, order, r, b, front, numbered) {
+        return Ok(true);
+    }
+    let there = is_available(alloc, function, reached, r, b, front)?;
+    Ok(there)
+}
+
+/// The fault of the first of these operands whose register isn't available.
+fn missing_among(
+    alloc: Global,
+    function: &Function,
+    reached: &[bool],
+    order: &Order,
+    way_back: bool,
+    b: u32,
+    front: &[Numbered],
+    numbered: &Numbered,
+    operands: &[Operand],
+) -> Result<Option<Invalid>, Memory>
+    requires reached { AreReachedBlocks function.now reached.now }
+    requires order { IsOrderOf function.now order.now }
+    requires within { b < length function.now.blocks }
+    requires placed { IsPlaced function.now b front.now numbered.now }
+    requires way_back { way_back ≡ nat_lt 0 (length (available.predecessors function.now 0)) }
+    ensures { IfOk result (λ found. IsMissing function.now b front.now operands.now found) }
+{
+    for k in 0..operands.len() {
+        let operand = operands[k];
+        if !is_there(
+            alloc, function, reached, order, way_back, b, front, numbered, operand,
+        )? {
+            return Ok(Some(Invalid::NotAvailable(operand)));
+        }
+    }
+    Ok(None)
+}
+
+/// The fault of the first operand whose register isn't available.
+fn missing_use(
+    alloc: Global,
+    function: &Function,
+    reached: &[bool],
+    order: &Order,
+    way_back: bool,
+    b: u32,
+    front: &[Numbered],
+    numbered: &Numbered,
+) -> Result<Option<Invalid>, Memory>
+    requires reached { AreReachedBlocks function.now reached.now }
+    requires order { IsOrderOf function.now order.now }
+    requires within { b < length function.now.blocks }
+    requires placed { IsPlaced function.now b front.now numbered.now }
+    requires way_back { way_back ≡ nat_lt 0 (length (available.predecessors function.now 0)) }
+    ensures { IfOk result (λ found. IsMissing function.now b front.now ((numbered.now).1).operands found) }
+{
+    let found = missing_among(
+        alloc,
+        function,
+        reached,
+        order,
+        way_back,
+        b,
+        front,
+        numbered,
+        numbered.instr.operands.as_slice(),
+    )?;
+    Ok(found)
+}
+
+/// Whether a register is available at the end of a block.
+fn is_at_end(
+    alloc: Global,
+    function: &Function,
+    reached: &[bool],
+    order: &Order,
+    r: u32,
+    b: u32,
+) -> Result<bool, Memory>
+    requires reached { AreReachedBlocks function.now reached.now }
+    requires order { IsOrderOf function.now order.now }
+    requires within { b < length function.now.blocks }
+    ensures { (extents : ℕ → Extent) → ((q : ℕ) → IsGreatest function.now q (extents q)) → IfOk result (λ t. t ≡ available.at_end function.now r (extents r) b) }
+{
+    if is_within(function, order, r, b) {
+        return Ok(true);
+    }
+    let there = is_available(alloc, function, reached, r, b, function.instrs(b))?;
+    Ok(there)
+}
+
+/// Whether an entry of a phi is there, where there is its block.
+fn is_entry_there(
+    alloc: Global,
+    function: &Function,
+    reached: &[bool],
+    order: &Order,
+    r: u32,
+    b: u32,
+) -> Result<bool, Memory>
+    requires reached { AreReachedBlocks function.now reached.now }
+    requires order { IsOrderOf function.now order.now }
+    ensures { (extents : ℕ → Extent) → ((q : ℕ) → IsGreatest function.now q (extents q)) → IfOk result (λ t. t ≡ (not (nat_lt b (length function.now.blocks)) || available.at_end function.now r (extents r) b)) }
+{
+    if b < function.block_count() {
+        let there = is_at_end(alloc, function, reached, order, r, b)?;
+        Ok(there)
+    } else {
+        Ok(true)
+    }
+}
+
+/// The fault of an entry of a phi, where there is an entry and it isn't there.
+fn missing_entry(
+    alloc: Global,
+    function: &Function,
+    reached: &[bool],
+    order: &Order,
+    entry: Option<(u32, u32)>,
+) -> Result<Option<Invalid>, Memory>
+    requires reached { AreReachedBlocks function.now reached.now }
+    requires order { IsOrderOf function.now order.now }
+    ensures { (extents : ℕ → Extent) → ((q : ℕ) → IsGreatest function.now q (extents q)) → IfOk result (λ found. found ≡ faults.missing_entry function.now extents entry) }
+{
+    match entry {
+        Some((r, b)) => {
+            if is_entry_there(alloc, function, reached, order, r, b)? {
+                Ok(None)
+            } else {
+                Ok(Some(Invalid::NotAvailable(Operand::Use(Reg(r)))))
+            }
+        }
+        None => Ok(None),
+    }
+}
+
+/// A register and the block that it comes from, where operands begin with the two.
+fn entry_of(operands: &[Operand]) -> Option<(u32, u32)>
+    ensures { result ≡ entry_of operands.now }
+{
+    match operands {
+        [first, second, ..] => entry_of_two(*first, *second),
+        _ => None,
+    }
+}
+
+/// The register and the block of two operands.
+fn entry_of_two(first: Operand, second: Operand) -> Option<(u32, u32)>
+    ensures { result ≡ entry_of (first ∷ second ∷ []) }
+{
+    if let Operand::Use(r) = first {
+        if let Operand::Block(b) = second {
+            return Some((r.0, b));
+        }
+    }
+    None
+}
+
+/// The fault of the first entry of a phi that isn't there.
+fn missing_entries(
+    alloc: Global,
+    function: &Function,
+    reached: &[bool],
+    order: &Order,
+    operands: &[Operand],
+) -> Result<Option<Invalid>, Memory>
+    requires reached { AreReachedBlocks function.now reached.now }
+    requires order { IsOrderOf function.now order.now }
+    ensures { (extents : ℕ → Extent) → ((q : ℕ) → IsGreatest function.now q (extents q)) → IfOk result (λ found. found ≡ faults.missing_entries function.now extents operands.now) }
+{
+    for k in 0..operands.len() {
+        let found = missing_entry(alloc, function, reached, order, entry_of(&operands[k..]))?;
+        if found.is_some() {
+            return Ok(found);
+        }
+    }
+    Ok(None)
+}
+
+/// Whether an instruction is a phi.
+fn is_phi_at(numbered: &Numbered) -> bool
+    ensures { result ≡ is_phi (numbered.now).1 }
+{
+    is_phi(&numbered.instr)
+}
+
+/// The fault of a use that isn't available.
+pub(crate) fn not_available(
+    alloc: Global,
+    function: &Function,
+    reached: &[bool],
+    order: &Order,
+    way_back: bool,
+    b: u32,
+    front: &[Numbered],
+    numbered: &Numbered,
+    after: &[Numbered],
+) -> Result<Option<Invalid>, Memory>
+    requires reached { AreReachedBlocks function.now reached.now }
+    requires order { IsOrderOf function.now order.now }
+    requires within { b < length function.now.blocks }
+    requires placed { IsPlaced function.now b front.now numbered.now }
+    requires way_back { way_back ≡ nat_lt 0 (length (available.predecessors function.now 0)) }
+    ensures { (extents : ℕ → Extent) → ((r : ℕ) → IsGreatest function.now r (extents r)) → IfOk result (λ found. found ≡ faults.not_available function.now extents (record { block = b; before = front.now; instr = (numbered.now).1; after = after.now })) }
+{
+    let _ = after;
+    if is_phi_at(numbered) {
+        let operands = numbered.instr.operands.as_slice();
+        let found = missing_entries(alloc, function, reached, order, operands)?;
+        Ok(found)
+    } else {
+        let found = missing_use(
+            alloc, function, reached, order, way_back, b, front, numbered,
+        )?;
+        Ok(found)
+    }
+}
