@@ -8,6 +8,7 @@ pub mod Settling
 pub mod Single
 pub mod Sited
 pub mod Stepping
+pub mod Suited
 pub mod Telling
 pub mod Trials
 pub mod Valid

@@ -1,6 +1,6 @@
 -- Small functions, valid and invalid, and the sets of their registers.
 use Rattle.std.specs.Prelude.{ℕ, pos, false, ◌&&◌, ◌==◌, if◌then◌else◌, List, [], ◌∷◌, None}
-use Rattle.gi_llt.specs.declared.Llt.TheVariants.{Scalar}
+use Rattle.gi_llt.specs.declared.Llt.TheVariants.{Scalar, Pointer}
 use Rattle.gi_mir.specs.Data.{InstrData, BlockData, FunctionData, reg_of, no_flags}
 use Rattle.gi_mir.specs.declared.opcode.Opcode.{Opcode}
 use Rattle.gi_mir.specs.declared.opcode.Opcode.TheVariants as op
@@ -99,6 +99,14 @@ defines_twice = one_block (10 ∷ []) (copy_in 7 0 10 ∷ constant 8 0 32 1 ∷ 
 
 abbrev pub adds_a_byte : FunctionData
 adds_a_byte = one_block (10 ∷ []) (copy_in 7 0 10 ∷ constant 8 1 8 1 ∷ of_two 9 op.GenericAdd 2 0 1 ∷ return_of 10 10 ∷ [])
+
+-- a byte in a register of 32 bits
+abbrev pub widens_a_constant : FunctionData
+widens_a_constant = one_block (10 ∷ []) (on 7 op.GenericConstant (def_of 0 32 ∷ Constant 8 5 ∷ []) ∷ return_of 8 10 ∷ [])
+
+-- a pointer is as wide as a register
+abbrev pub points_to_zero : FunctionData
+points_to_zero = one_block (10 ∷ []) (on 7 op.GenericConstant (Def (reg_of 0) (Generic Pointer) ∷ Constant 32 0 ∷ []) ∷ return_of 8 10 ∷ [])
 
 abbrev pub goes_nowhere : FunctionData
 goes_nowhere = one_block (10 ∷ []) (copy_in 7 0 10 ∷ jump_to 8 65540 ∷ [])

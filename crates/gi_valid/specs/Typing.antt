@@ -2,6 +2,8 @@
 -- (Generic Opcodes; Machine IR's target-independent opcodes.)
 use Rattle.std.specs.Prelude.{ℕ, ◌*◌, ◌%◌, Bool, true, false, ◌&&◌, nat_lt, nat_le, ◌==◌, List, [], ◌∷◌, ◌++◌, Option, Some, None, length, map, replicate, take, drop, if◌then◌else◌}
 use Rattle.std.specs.List.{list_all, list_any}
+use Rattle.std.specs.Option.{option_or}
+use Rattle.gi_llt.specs.Llt.{width_of}
 use Rattle.gi_llt.specs.declared.Llt.{Llt}
 use Rattle.gi_mir.specs.Accepted.{letters, is_letter, class_of, are_one, is_sum}
 use Rattle.gi_mir.specs.Data.{InstrData, FunctionData}
@@ -10,6 +12,8 @@ use Rattle.gi_mir.specs.Row.{typing_of}
 use Rattle.gi_mir.specs.Types.{scalar_bits}
 use Rattle.gi_mir.specs.Typings.{TypingData}
 use Rattle.gi_mir.specs.Formed.{is_use}
+use Rattle.gi_mir.specs.declared.opcode.Opcode.{Opcode}
+use Rattle.gi_mir.specs.declared.opcode.Opcode.TheVariants as op
 use Rattle.gi_mir.specs.declared.operand.Operand.{Operand}
 use Rattle.gi_mir.specs.declared.operand.Operand.TheVariants as operand
 use Rattle.gi_mir.specs.declared.stage.Stage.{Stage}
@@ -118,6 +122,29 @@ abbrev pub unmet : (x : ℕ) → (type_of : ℕ → Option Llt) → Option Typin
 unmet x type_of None os = None
 unmet x type_of (Some typing) os = first_unmet x type_of typing (length (results_in os)) [] (results_in os ++ sources_in os)
 
--- the register with whose type the row of an instruction can't be met
+-- ══ A constant ══
+
+-- `%d:A = G_CONSTANT iN V`
+abbrev pub is_constant_op : Opcode → Bool
+is_constant_op op.GenericConstant = true
+is_constant_op _ = false
+
+-- a type is so many bits wide, where it is known
+abbrev pub is_as_wide : (x bits : ℕ) → Option Llt → Bool
+is_as_wide x bits None = true
+is_as_wide x bits (Some ty) = width_of x ty == bits
+
+-- the register of a constant, where it isn't as wide as the constant
+abbrev pub unsized : (x : ℕ) → (type_of : ℕ → Option Llt) → List Operand → Option ℕ
+unsized x type_of (operand.Def r kind ∷ operand.Constant bits value ∷ []) = if is_as_wide x bits (type_of r.0) then None else Some r.0
+unsized x type_of _ = None
+
+-- ══ All ══
+
+-- the register with whose type the row of an instruction can't be met, or that isn't as wide as the instruction's constant
+abbrev pub unsuited : (x : ℕ) → (type_of : ℕ → Option Llt) → InstrData → Option ℕ
+unsuited x type_of i =
+    option_or (unmet x type_of (typing_of i.op) i.operands) (if is_constant_op i.op then unsized x type_of i.operands else None)
+
 abbrev pub mismatch : (x : ℕ) → Phase → FunctionData → InstrData → Option ℕ
-mismatch x phase f i = if joins_any phase i then None else unmet x (type_in phase f) (typing_of i.op) i.operands
+mismatch x phase f i = if joins_any phase i then None else unsuited x (type_in phase f) i

@@ -9,7 +9,7 @@ pub enum Invalid {
     DoubleDefinition(Reg),
     /// A register is used where it isn't available.
     NotAvailable(Operand),
-    /// With the type of this register, no types of the later ones meet the row.
+    /// With the type of this register, no types of the later ones meet the row, or a constant isn't as wide as this register.
     TypeMismatch(Reg),
     /// A block is named that isn't there.
     UnknownBlock(u32),

@@ -2,7 +2,7 @@ use Rattle.std.proofs.Common.{◌≡◌, ℕ, true, [], ◌∷◌, ⊎_elim, ref
 use Rattle.gi_mir.specs.Data.{FunctionData}
 use Rattle.gi_meaning.specs.Runs.{is_among}
 use Rattle.gi_valid.specs.Definitions.{IsComputedFrom}
-use Rattle.gi_valid.specs.Examples.{extents_of, adds_a_byte, defines_twice, divides_between, goes_nowhere, goes_on_behind, joins_at_start, returns_nothing_there, returns_twice}
+use Rattle.gi_valid.specs.Examples.{extents_of, adds_a_byte, defines_twice, divides_between, goes_nowhere, goes_on_behind, joins_at_start, returns_nothing_there, returns_twice, widens_a_constant}
 use Rattle.gi_valid.proofs.Trials.{alone_greatest, nothing_computed, among_one, among_two}
 use Rattle.gi_valid.proofs.examples.examples_are_invalid.Goals as goal
 
@@ -23,6 +23,9 @@ returns-clause-mismatch c = record {
   greatest = alone_greatest (2 ∷ []) (0 ∷ 1 ∷ []) adds_a_byte refl refl (sum_computed adds_a_byte (record { others = 0; over = refl }) (record { others = 0; over = refl }));
   told = refl;
 }
+
+pub returns-clause-width : goal.returns-clause-width
+returns-clause-width c = record { extents = extents_of [] [] []; greatest = alone_greatest [] [] widens_a_constant refl refl (nothing_computed widens_a_constant); told = refl }
 
 pub returns-clause-nowhere : goal.returns-clause-nowhere
 returns-clause-nowhere c = record { extents = extents_of [] [] []; greatest = alone_greatest [] [] goes_nowhere refl refl (nothing_computed goes_nowhere); told = refl }
