@@ -1,6 +1,7 @@
-//! The register with whose type the row of an instruction can't be met, and instructions that may come to be calls.
+//! The register with whose type the row of an instruction can't be met, or that isn't as wide as the instruction's constant;
+//! and instructions that may come to be calls.
 
-ghost use Rattle.std.specs.Prelude.{◌≡◌, ◌++◌, ◌∷◌, ◌≤◌, ◌⊎◌, [], ℕ, Some, None, IfOk, length, map, option_map, nat_lt, ◌&&◌, false};
+ghost use Rattle.std.specs.Prelude.{◌≡◌, ◌++◌, ◌∷◌, ◌≤◌, ◌⊎◌, [], ℕ, Some, None, IfOk, length, map, option_map, nat_lt, ◌&&◌, false, if◌then◌else◌};
 ghost use Rattle.gi_llt.specs.Llt.{width_of};
 ghost use Rattle.gi_mir.specs.Data.{reg_of};
 ghost use Rattle.gi_valid.specs.declared.invalid.Invalid.TheVariants as Invalid;
@@ -49,26 +50,93 @@ fn unmet(
     }
 }
 
-/// The register with whose type the row of an instruction can't be met.
+/// Whether this is a constant.
+fn is_constant(op: Opcode) -> bool
+    ensures { result ≡ typings.is_constant_op op }
+{
+    matches!(op, Opcode::GenericConstant)
+}
+
+/// Whether a type is so many bits wide, where it is known.
+fn is_as_wide(target: Target, bits: u16, ty: Option<Llt>) -> bool
+    requires { (target.xlen ≡ 32) ⊎ (target.xlen ≡ 64) }
+    ensures { result ≡ typings.is_as_wide target.xlen bits ty }
+{
+    match ty {
+        Some(ty) => width(ty, target) == bits,
+        None => true,
+    }
+}
+
+/// This register, where it isn't so many bits wide.
+fn unless_as_wide(
+    target: Target,
+    stage: Stage,
+    function: &Function,
+    r: u32,
+    bits: u16,
+) -> Option<u32>
+    requires { (target.xlen ≡ 32) ⊎ (target.xlen ≡ 64) }
+    ensures { result ≡ (if typings.is_as_wide target.xlen bits (typings.type_in (typings.phase_of stage) function.now r) then None else Some r) }
+{
+    if is_as_wide(target, bits, type_in(stage, function, r)) {
+        None
+    } else {
+        Some(r)
+    }
+}
+
+/// The register that a constant's operands define, where it isn't as wide as the constant.
+fn unsized_in(
+    target: Target,
+    stage: Stage,
+    function: &Function,
+    operands: &[Operand],
+) -> Option<u32>
+    requires { (target.xlen ≡ 32) ⊎ (target.xlen ≡ 64) }
+    ensures { result ≡ typings.unsized target.xlen (typings.type_in (typings.phase_of stage) function.now) operands.now }
+{
+    match operands {
+        [Operand::Def(r, _), Operand::Constant(bits, _)] => {
+            unless_as_wide(target, stage, function, r.0, *bits)
+        }
+        _ => None,
+    }
+}
+
+/// The register of a constant, where it isn't as wide as the constant.
+fn unsized_constant(target: Target, stage: Stage, function: &Function, instr: &Instr) -> Option<u32>
+    requires { (target.xlen ≡ 32) ⊎ (target.xlen ≡ 64) }
+    ensures { result ≡ (if typings.is_constant_op (instr.now).op then typings.unsized target.xlen (typings.type_in (typings.phase_of stage) function.now) (instr.now).operands else None) }
+{
+    if is_constant(instr.op) {
+        unsized_in(target, stage, function, instr.operands.as_slice())
+    } else {
+        None
+    }
+}
+
+/// The register with whose type the row of an instruction can't be met, or that isn't as wide as the instruction's constant.
 #[tactic(auto, using(crate::proofs::Unmet::joins_none))]
 fn mismatch(
     alloc: Global,
-    x: u16,
+    target: Target,
     stage: Stage,
     function: &Function,
     instr: &Instr,
 ) -> Result<Option<u32>, Memory>
-    requires { x ≤ 64 }
-    ensures { IfOk result (λ found. found ≡ typings.mismatch x (typings.phase_of stage) function.now instr.now) }
+    requires { (target.xlen ≡ 32) ⊎ (target.xlen ≡ 64) }
+    ensures { IfOk result (λ found. found ≡ typings.mismatch target.xlen (typings.phase_of stage) function.now instr.now) }
 {
-    unmet(
+    let found = unmet(
         alloc,
-        x,
+        target.xlen,
         stage,
         function,
         instr.op.typing(),
         instr.operands.as_slice(),
-    )
+    )?;
+    Ok(found.or(unsized_constant(target, stage, function, instr)))
 }
 
 /// The fault of a register, where there is one.
@@ -84,15 +152,15 @@ fn told_mismatch(found: Option<u32>) -> Option<Invalid>
 /// The fault of types that don't meet the row.
 pub(crate) fn type_mismatch(
     alloc: Global,
-    x: u16,
+    target: Target,
     stage: Stage,
     function: &Function,
     instr: &Instr,
 ) -> Result<Option<Invalid>, Memory>
-    requires { x ≤ 64 }
-    ensures { IfOk result (λ found. found ≡ option_map (λ r. Invalid.TypeMismatch (reg_of r)) (typings.mismatch x (typings.phase_of stage) function.now instr.now)) }
+    requires { (target.xlen ≡ 32) ⊎ (target.xlen ≡ 64) }
+    ensures { IfOk result (λ found. found ≡ option_map (λ r. Invalid.TypeMismatch (reg_of r)) (typings.mismatch target.xlen (typings.phase_of stage) function.now instr.now)) }
 {
-    let found = mismatch(alloc, x, stage, function, instr)?;
+    let found = mismatch(alloc, target, stage, function, instr)?;
     Ok(told_mismatch(found))
 }
 

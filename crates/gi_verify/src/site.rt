@@ -96,7 +96,7 @@ fn others_in(
     requires passed { IsPassed front.now passed }
     ensures { IfOk result (λ found. found ≡ faults.others_in target.xlen (typings.phase_of stage) function.now (record { block = b; before = front.now; instr = (numbered.now).1; after = after.now })) }
 {
-    let types = type_mismatch(alloc, target.xlen, stage, function, &numbered.instr)?;
+    let types = type_mismatch(alloc, target, stage, function, &numbered.instr)?;
     let blocks = unknown_block(alloc, function, &numbered.instr)?;
     let entries = phi_entries(alloc, function, all, b, passed, front, &numbered.instr, after)?;
     let late = late_in(

@@ -153,6 +153,32 @@ fn types(rt: HostRuntime) -> Result<(), Fail> {
     Ok(())
 }
 
+/// What is told of a constant of so many bits in a register of this kind, on line 8.
+fn told_constant(alloc: Global, kind: Kind, bits: u16) -> Result<Result<(), VerifyError>, Fail> {
+    let mut function = begun(alloc, &[])?;
+    let operands = [Operand::Def(Reg(1), kind), Operand::Constant(bits, 5)];
+    put(
+        alloc,
+        &mut function,
+        0,
+        8,
+        Opcode::GenericConstant,
+        &operands,
+    )?;
+    Ok(told(alloc, &function))
+}
+
+#[test]
+fn constants(rt: HostRuntime) -> Result<(), Fail> {
+    let alloc = rt.alloc();
+    let mismatch = Invalid::TypeMismatch(Reg(1));
+    assert!(rt; told_constant(alloc, Kind::Generic(Llt::Scalar(32)), 8)? == at(8, mismatch));
+    assert!(rt; told_constant(alloc, Kind::Generic(Llt::Pointer), 64)? == at(8, mismatch));
+    assert!(rt; told_constant(alloc, Kind::Generic(Llt::Pointer), 32)? == Ok(()));
+    assert!(rt; told_constant(alloc, Kind::Class, 8)? == Ok(()));
+    Ok(())
+}
+
 #[test]
 fn ends(rt: HostRuntime) -> Result<(), Fail> {
     let alloc = rt.alloc();
