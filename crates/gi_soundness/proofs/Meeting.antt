@@ -1,5 +1,5 @@
 -- Rules whose types meet their rows.
-use Rattle.std.proofs.Common.{◌≡◌, ℕ, suc, ◌+◌, ◌≤◌, Bool, true, false, cond, not, ◌&&◌, ◌==◌, nat_le, List, [], ◌∷◌, ◌++◌, Option, Some, None, is_none, length, refl, sym, ap, ap₂, ◌∙◌, arith, true≢false, leb-true}
+use Rattle.std.proofs.Common.{◌≡◌, ℕ, suc, ◌+◌, ◌≤◌, Bool, true, false, cond, not, ◌&&◌, ◌==◌, nat_le, List, [], ◌∷◌, ◌++◌, Option, Some, None, is_none, length, refl, sym, ap, ◌∙◌, arith, true≢false, leb-true}
 use Rattle.std.proofs.lemmas.Bool.{and_parts, and_from, eqb-true, eq-eqb, not-true}
 use Rattle.std.specs.List.{list_any, list_all}
 use Rattle.std.specs.Option.{option_and_then, option_map_or}
@@ -11,6 +11,8 @@ use Rattle.gi_mir.specs.Formed.{is_use}
 use Rattle.gi_mir.specs.Registers.{kind_of, type_of_kind}
 use Rattle.gi_mir.specs.Row.{typing_of}
 use Rattle.gi_mir.specs.Typings.{TypingData}
+use Rattle.gi_mir.specs.declared.opcode.Opcode.{Opcode}
+use Rattle.gi_mir.specs.declared.opcode.Opcode.TheVariants as op
 use Rattle.gi_mir.specs.declared.operand.Reg.{Reg}
 use Rattle.gi_pattern.specs.Applying.{applied, line_of, made_at, uses_replaced}
 use Rattle.gi_pattern.specs.Binding.{empty_binding, register_at}
@@ -24,8 +26,9 @@ use Rattle.gi_pattern.specs.declared.binding.Binding.{Binding}
 use Rattle.gi_pattern.specs.declared.rule.MakeSlot.{MakeSlot}
 use Rattle.gi_pattern.specs.declared.rule.MakeSlot.TheVariants as make
 use Rattle.gi_valid.specs.Definitions.{is_copy}
-use Rattle.gi_valid.specs.Typing.{Phase, Typed, Selecting, Untyped, joins_any, mismatch, type_in, unmet}
+use Rattle.gi_valid.specs.Typing.{Phase, Typed, Selecting, Untyped, is_constant_op, joins_any, mismatch, type_in, unmet}
 use Rattle.gi_valid.specs.Valid.{IsValid}
+use Rattle.gi_valid.proofs.Suited.{no_mismatch}
 use Rattle.gi_soundness.specs.Applying.{rewriting_of}
 use Rattle.gi_soundness.specs.Conditions.{MeetsRows}
 use Rattle.gi_soundness.specs.Rules.{KeepsFunctionsValid, asks_no_types, is_untyped, keeps_valid}
@@ -49,8 +52,16 @@ keeps_functions rule keeps meets = record {
 untyped_met : (x : ℕ) (phase : Phase) (g : FunctionData) (i : InstrData) → is_untyped i.op ≡ true → mismatch x phase g i ≡ None
 untyped_met x phase g i h =
     let both : (is_none (typing_of i.op) ≡ true) × (not (is_copy i.op) ≡ true) = and_parts (is_none (typing_of i.op)) (not (is_copy i.op)) h in
-    ap₂ (λ t o. cond t None (unmet x (type_in phase g) o i.operands)) (no_join phase (not-true (is_copy i.op) both.1)) (none_of (typing_of i.op) both.0)
+    let no_row : typing_of i.op ≡ None = none_of (typing_of i.op) both.0 in
+    no_mismatch x phase g i (no_join phase (not-true (is_copy i.op) both.1)) (record {
+      row = ap (λ o. unmet x (type_in phase g) o i.operands) no_row;
+      sized = λ constant. absurd (true≢false (sym constant ∙ no_constant i.op no_row));
+    })
   where
+    no_constant : (o : Opcode) → typing_of o ≡ None → is_constant_op o ≡ false
+    no_constant op.GenericConstant h = cc
+    no_constant _ h = refl
+
     none_of : (o : Option TypingData) → is_none o ≡ true → o ≡ None
     none_of None h = refl
     none_of (Some t) h = cc

@@ -6,7 +6,7 @@ use Rattle.gi_mir.specs.Data.{InstrData, FunctionData, reg_of}
 use Rattle.gi_mir.specs.Edit.{IsLive, all_instrs, defines, instr_of}
 use Rattle.gi_mir.specs.Formed.{is_use}
 use Rattle.gi_mir.specs.Ids.{AreOwnIds}
-use Rattle.gi_mir.specs.Registers.{type_of_kind}
+use Rattle.gi_mir.specs.Registers.{kind_of, type_of_kind}
 use Rattle.gi_mir.specs.Row.{typing_of}
 use Rattle.gi_mir.specs.Typings.{TypingData, two_alike, no_sources}
 use Rattle.gi_mir.specs.declared.opcode.Opcode.{Opcode}
@@ -26,8 +26,9 @@ use Rattle.gi_pattern.specs.declared.binding.Binding.{Binding}
 use Rattle.gi_pattern.specs.declared.rule.Slot.TheVariants.{Def, Use}
 use Rattle.gi_pattern.proofs.Standing.{instr-live}
 use Rattle.gi_valid.specs.Definitions.{is_copy}
-use Rattle.gi_valid.specs.Typing.{Phase, Typed, Selecting, Untyped, joins_any, mismatch, type_in, unmet, first_unmet}
+use Rattle.gi_valid.specs.Typing.{Phase, Typed, Selecting, Untyped, is_constant_op, joins_any, mismatch, type_in, unmet, first_unmet}
 use Rattle.gi_valid.specs.Valid.{IsValid}
+use Rattle.gi_valid.proofs.Suited.{no_mismatch, suited}
 use Rattle.gi_soundness.specs.Applying.{rewriting_of}
 use Rattle.gi_soundness.specs.Rewriting.{IsOneOf, IsRewritten}
 use Rattle.gi_soundness.specs.Rules.{HasHadAll, KeepsFunctionsValid, is_in, keeps_valid, origins_in}
@@ -73,6 +74,7 @@ record IsScaled (name : ℕ) (old new : Opcode) (ms : List MatchData) (tests : L
   new_row : typing_of new ≡ Some (two_alike class.Scalar)
   old_no_copy : is_copy old ≡ false
   new_no_copy : is_copy new ≡ false
+  new_no_constant : is_constant_op new ≡ false
   origin : is_in 1 (origins_in (scaled name old new ms tests value).matches) ≡ true
 
 no_copy_joins : (phase : Phase) (i : InstrData) → is_copy i.op ≡ false → joins_any phase i ≡ false
@@ -82,11 +84,13 @@ no_copy_joins Selecting i h = ap (λ t. t && list_any is_use i.operands) h
 
 met_row : (x : ℕ) (phase : Phase) (f : FunctionData) (i : InstrData) (typing : TypingData) → is_copy i.op ≡ false → typing_of i.op ≡ Some typing → mismatch x phase f i ≡ None → unmet x (type_in phase f) (Some typing) i.operands ≡ None
 met_row x phase f i typing no_copy row met =
-    subst (λ o. unmet x (type_in phase f) o i.operands ≡ None) row (sym (ap (λ t. cond t None (unmet x (type_in phase f) (typing_of i.op) i.operands)) (no_copy_joins phase i no_copy)) ∙ met)
+    subst (λ o. unmet x (type_in phase f) o i.operands ≡ None) row (suited x phase f i (no_copy_joins phase i no_copy) met).row
 
-row_mismatch : (x : ℕ) (phase : Phase) (f : FunctionData) (i : InstrData) (typing : TypingData) → is_copy i.op ≡ false → typing_of i.op ≡ Some typing → unmet x (type_in phase f) (Some typing) i.operands ≡ None → mismatch x phase f i ≡ None
-row_mismatch x phase f i typing no_copy row met =
-    ap (λ t. cond t None (unmet x (type_in phase f) (typing_of i.op) i.operands)) (no_copy_joins phase i no_copy) ∙ subst (λ o. unmet x (type_in phase f) o i.operands ≡ None) (sym row) met
+row_mismatch : (x : ℕ) (phase : Phase) (f : FunctionData) (i : InstrData) (typing : TypingData) → is_copy i.op ≡ false → is_constant_op i.op ≡ false → typing_of i.op ≡ Some typing → unmet x (type_in phase f) (Some typing) i.operands ≡ None → mismatch x phase f i ≡ None
+row_mismatch x phase f i typing no_copy no_constant row met = no_mismatch x phase f i (no_copy_joins phase i no_copy) (record {
+  row = subst (λ o. unmet x (type_in phase f) o i.operands ≡ None) (sym row) met;
+  sized = λ constant. absurd (true≢false (sym constant ∙ no_constant));
+})
 
 turned_back : (os : List Operand) (r : Reg) (k : Kind) (q s : Reg) → exchanged os ≡ operand.Def r k ∷ operand.Use q ∷ operand.Use s ∷ [] → os ≡ operand.Def r k ∷ operand.Use s ∷ operand.Use q ∷ []
 turned_back [] r k q s h = cc
@@ -103,8 +107,8 @@ scaled_keeps name old new ms tests value i = record { valid = λ x phase f id b 
     by x phase f id b own had live fits valid root at =
         rule_stays_valid x phase (scaled name old new ms tests value) f id root b i.keeps own had live at fits (record {
           replaced = λ r so. absurd (true≢false (sym (sym (ap not (eq-eqb r r refl)) ∙ so)));
-          made = λ p inside. ⊎_elim (λ same. ap (λ (q : ℕ × InstrData). mismatch x phase (applied x (scaled name old new ms tests value) b id f) q.1) same ∙ constant_mismatch x phase (applied x (scaled name old new ms tests value) b id f) (line_of f id) (reg_of f.next_reg) _ _ _ constant_row)
-              (λ later. ⊎_elim (λ same. ap (λ (q : ℕ × InstrData). mismatch x phase (applied x (scaled name old new ms tests value) b id f) q.1) same ∙ row_mismatch x phase (applied x (scaled name old new ms tests value) b id f) _ (two_alike class.Scalar) i.new_no_copy i.new_row new_row) (λ none. absurd none) later)
+          made = λ p inside. ⊎_elim (λ same. ap (λ (q : ℕ × InstrData). mismatch x phase (applied x (scaled name old new ms tests value) b id f) q.1) same ∙ constant_mismatch x phase (applied x (scaled name old new ms tests value) b id f) (line_of f id) (reg_of f.next_reg) (kind_made x f b (Of 2)) _ new_kind constant_row)
+              (λ later. ⊎_elim (λ same. ap (λ (q : ℕ × InstrData). mismatch x phase (applied x (scaled name old new ms tests value) b id f) q.1) same ∙ row_mismatch x phase (applied x (scaled name old new ms tests value) b id f) _ (two_alike class.Scalar) i.new_no_copy i.new_no_constant i.new_row new_row) (λ none. absurd none) later)
               (subst (λ l. IsOneOf p l) made_same inside);
         }) valid
       where
@@ -190,19 +194,20 @@ scaled_keeps name old new ms tests value i = record { valid = λ x phase f id b 
             (ap type_of_kind (kind_kept (rewriting_of x rule b id root f) f (applied x rule b id f) is (register_or b 1).0 (other_alike (rewriting_of x rule b id root f) (register_or b 1).0 apart not_made)))
             ∙ ap (type_in phase f) is1
 
-        type2 : type_in phase (applied x rule b id f) f.next_reg ≡ type_in phase f shape.right.0
-        type2 =
-            let kind : Kind = kind_made x f b (Of 2) in
+        new_kind : kind_of (applied x rule b id f) f.next_reg ≡ kind_made x f b (Of 2)
+        new_kind =
             let made_kind : kind_in_instrs f.next_reg (rewriting_of x rule b id root f).made ≡ Some (kind_made x f b (Of 2)) =
             ap (kind_in_instrs f.next_reg) made_same ∙ ap (λ t. first_there (first_there (cond t (Some (kind_made x f b (Of 2))) None) None) (kind_in_instrs f.next_reg (with_ids (f.next_id + 1) (plain new (operands_made x f b b b f.next_reg (make.Def 0 (Of 0) ∷ make.Use 1 ∷ make.Fresh value (Of 2) ∷ [])) (line_of f id) ∷ [])))) (eq-eqb f.next_reg f.next_reg refl) in
             let none : list_any (defines f.next_reg) (all_instrs f.blocks) ≡ false = false_from_ne_true (list_any (defines f.next_reg) (all_instrs f.blocks)) (λ some. over (had.defined f.next_reg some)) in
-            type_alike phase f (applied x rule b id f) f.next_reg (register_or b 2).0
-            (ap type_of_kind (kind_new (rewriting_of x rule b id root f) f (applied x rule b id f) is f.next_reg (kind_made x f b (Of 2)) made_kind (no_kind_in f.next_reg (all_instrs f.blocks) none)
-            ∙ kind_of_place x f b 2 (some_of b 2 shape.right.0 (bound_on first.middle b 2 shape.right.0 on shape.at_right))))
-            ∙ ap (type_in phase f) is2
+            kind_new (rewriting_of x rule b id root f) f (applied x rule b id f) is f.next_reg (kind_made x f b (Of 2)) made_kind (no_kind_in f.next_reg (all_instrs f.blocks) none)
           where
             over : f.next_reg < f.next_reg → ⊥
             over less = omega (arith, less)
+
+        type2 : type_in phase (applied x rule b id f) f.next_reg ≡ type_in phase f shape.right.0
+        type2 =
+            type_alike phase f (applied x rule b id f) f.next_reg (register_or b 2).0 (ap type_of_kind (new_kind ∙ kind_of_place x f b 2 (some_of b 2 shape.right.0 (bound_on first.middle b 2 shape.right.0 on shape.at_right))))
+            ∙ ap (type_in phase f) is2
 
         constant_row : first_unmet x (type_in phase (applied x rule b id f)) (no_sources class.Any) 1 [] (f.next_reg ∷ []) ≡ None
         constant_row = constant_met x (type_in phase (applied x rule b id f)) f.next_reg
@@ -217,10 +222,10 @@ scaled_keeps name old new ms tests value i = record { valid = λ x phase f id b 
             ∙ ap (λ t. are_alike x (type_in phase f shape.result.0) (type_in phase f shape.left.0) t) type2 ∙ alike)
 
 pub product_keeps : KeepsFunctionsValid product_by_power
-product_keeps = scaled_keeps 12 op.GenericMultiply op.GenericShiftLeft _ _ _ (record { keeps = refl; old_row = refl; new_row = refl; old_no_copy = refl; new_no_copy = refl; origin = refl })
+product_keeps = scaled_keeps 12 op.GenericMultiply op.GenericShiftLeft _ _ _ (record { keeps = refl; old_row = refl; new_row = refl; old_no_copy = refl; new_no_copy = refl; new_no_constant = refl; origin = refl })
 
 pub difference_keeps : KeepsFunctionsValid difference_with_constant
-difference_keeps = scaled_keeps 14 op.GenericSubtract op.GenericAdd _ _ _ (record { keeps = refl; old_row = refl; new_row = refl; old_no_copy = refl; new_no_copy = refl; origin = refl })
+difference_keeps = scaled_keeps 14 op.GenericSubtract op.GenericAdd _ _ _ (record { keeps = refl; old_row = refl; new_row = refl; old_no_copy = refl; new_no_copy = refl; new_no_constant = refl; origin = refl })
 
 pub remainder_keeps : KeepsFunctionsValid remainder_by_power
-remainder_keeps = scaled_keeps 15 op.GenericUnsignedRemainder op.GenericAnd _ _ _ (record { keeps = refl; old_row = refl; new_row = refl; old_no_copy = refl; new_no_copy = refl; origin = refl })
+remainder_keeps = scaled_keeps 15 op.GenericUnsignedRemainder op.GenericAnd _ _ _ (record { keeps = refl; old_row = refl; new_row = refl; old_no_copy = refl; new_no_copy = refl; new_no_constant = refl; origin = refl })

@@ -2,19 +2,21 @@
 use Rattle.std.proofs.Common.{◌≡◌, ℕ, suc, Bool, true, false, cond, not, ◌&&◌, ◌||◌, ◌==◌, List, [], ◌∷◌, ◌++◌, Option, Some, None, length, replicate, take, drop, ⊎_elim, refl, sym, ap, ◌∙◌, subst, true≢false}
 use Rattle.std.proofs.lemmas.Bool.{or_cases, or_left, or_right, and_parts, eqb-true, eq-eqb}
 use Rattle.std.specs.List.{list_any, list_all}
+use Rattle.gi_llt.specs.Llt.{width_of}
 use Rattle.gi_llt.specs.declared.Llt.{Llt}
 use Rattle.gi_mir.specs.Accepted.{are_one, letters, class_of}
 use Rattle.gi_mir.specs.Data.{InstrData, FunctionData}
 use Rattle.gi_mir.specs.Edit.{IsLive, all_instrs, defines, instr_of, is_def_of}
 use Rattle.gi_mir.specs.Formed.{is_use}
 use Rattle.gi_mir.specs.Ids.{AreOwnIds}
-use Rattle.gi_mir.specs.Registers.{type_of_kind}
+use Rattle.gi_mir.specs.Registers.{kind_of, type_of_kind}
 use Rattle.gi_mir.specs.Row.{typing_of}
 use Rattle.gi_mir.specs.Types.{is_scalar, is_pointer}
 use Rattle.gi_mir.specs.Typings.{TypingData, two_alike, no_sources}
 use Rattle.gi_mir.specs.declared.opcode.Opcode.{Opcode}
 use Rattle.gi_mir.specs.declared.opcode.Opcode.TheVariants as op
 use Rattle.gi_mir.specs.declared.operand.Kind.{Kind}
+use Rattle.gi_mir.specs.declared.operand.Kind.TheVariants as kinds
 use Rattle.gi_mir.specs.declared.operand.Reg.{Reg}
 use Rattle.gi_mir.specs.declared.operand.Operand.{Operand}
 use Rattle.gi_mir.specs.declared.operand.Operand.TheVariants as operand
@@ -26,16 +28,19 @@ use Rattle.gi_pattern.specs.Data.{MatchData}
 use Rattle.gi_pattern.specs.Examples.{difference_of_same}
 use Rattle.gi_pattern.specs.Fitting.{binding_at, found}
 use Rattle.gi_pattern.specs.InPlace.{with_ids}
-use Rattle.gi_pattern.specs.Making.{plain, register_or}
+use Rattle.gi_pattern.specs.Making.{bits_of_kind, kind_made, plain, register_or}
 use Rattle.gi_pattern.specs.declared.binding.Binding.{Binding}
 use Rattle.gi_pattern.specs.declared.rule.Slot.TheVariants.{Def, Use}
+use Rattle.gi_pattern.specs.declared.rule.TypeExpr.TheVariants.{Of}
 use Rattle.gi_pattern.proofs.Standing.{instr-live}
 use Rattle.gi_valid.specs.Definitions.{is_copy}
-use Rattle.gi_valid.specs.Typing.{Phase, Typed, Selecting, Untyped, joins_any, mismatch, type_in, unmet, first_unmet, is_met, meets, known, places_of_letter, results_in, sources_in, may_relate}
+use Rattle.gi_valid.specs.Typing.{Phase, Typed, Selecting, Untyped, joins_any, mismatch, type_in, unmet, first_unmet, is_as_wide, is_met, meets, known, places_of_letter, results_in, sources_in, may_relate}
 use Rattle.gi_valid.specs.Valid.{IsValid}
+use Rattle.gi_valid.proofs.Suited.{no_mismatch, suited}
 use Rattle.gi_soundness.specs.Applying.{rewriting_of}
 use Rattle.gi_soundness.specs.Rewriting.{IsOneOf}
 use Rattle.gi_soundness.specs.Rules.{HasHadAll, KeepsFunctionsValid, is_in}
+use Rattle.gi_soundness.proofs.KeptKinds.{kind_of_place}
 use Rattle.gi_soundness.proofs.Made.{IsOfPlace, all_bound, made_is}
 use Rattle.gi_soundness.proofs.Matching.{FoundFirst, found_first}
 use Rattle.gi_soundness.proofs.Placed.{applied_is, found_by_id}
@@ -92,11 +97,30 @@ no_join Typed i h = refl
 no_join Untyped i h = refl
 no_join Selecting i h = ap (λ k. is_copy k && list_any is_use i.operands) h
 
-pub constant_mismatch : (x : ℕ) (phase : Phase) (g : FunctionData) (line : ℕ) (r : Reg) (kind : Kind) (bits value : ℕ) → first_unmet x (type_in phase g) (no_sources class.Any) 1 [] (r.0 ∷ []) ≡ None
-    → mismatch x phase g (plain op.GenericConstant (operand.Def r kind ∷ operand.Constant bits value ∷ []) line) ≡ None
-constant_mismatch x Typed g line r kind bits value h = h
-constant_mismatch x Untyped g line r kind bits value h = h
-constant_mismatch x Selecting g line r kind bits value h = h
+-- a constant in a register of a kind is as wide as it
+wide_kind : (x : ℕ) (kind : Kind) → is_as_wide x (bits_of_kind x kind) (type_of_kind kind) ≡ true
+wide_kind x (kinds.Generic ty) = eq-eqb (width_of x ty) (width_of x ty) refl
+wide_kind x (kinds.Banked ty) = eq-eqb (width_of x ty) (width_of x ty) refl
+wide_kind x kinds.Class = refl
+
+wide_in : (x : ℕ) (phase : Phase) (g : FunctionData) (r : ℕ) (kind : Kind) → kind_of g r ≡ kind → is_as_wide x (bits_of_kind x kind) (type_in phase g r) ≡ true
+wide_in x Typed g r kind is = ap (λ k. is_as_wide x (bits_of_kind x kind) (type_of_kind k)) is ∙ wide_kind x kind
+wide_in x Selecting g r kind is = ap (λ k. is_as_wide x (bits_of_kind x kind) (type_of_kind k)) is ∙ wide_kind x kind
+wide_in x Untyped g r kind is = refl
+
+-- so a constant of its kind's bits has types that meet its row, where its register's type is of the row's
+pub constant_mismatch : (x : ℕ) (phase : Phase) (g : FunctionData) (line : ℕ) (r : Reg) (kind : Kind) (value : ℕ) → kind_of g r.0 ≡ kind → first_unmet x (type_in phase g) (no_sources class.Any) 1 [] (r.0 ∷ []) ≡ None
+    → mismatch x phase g (plain op.GenericConstant (operand.Def r kind ∷ operand.Constant (bits_of_kind x kind) value ∷ []) line) ≡ None
+constant_mismatch x phase g line r kind value is h =
+    no_mismatch x phase g (plain op.GenericConstant (operand.Def r kind ∷ operand.Constant (bits_of_kind x kind) value ∷ []) line) (alone phase) (record {
+      row = h;
+      sized = λ constant. ap (λ t. cond t None (Some r.0)) (wide_in x phase g r.0 kind is);
+    })
+  where
+    alone : (phase : Phase) → joins_any phase (plain op.GenericConstant (operand.Def r kind ∷ operand.Constant (bits_of_kind x kind) value ∷ []) line) ≡ false
+    alone Typed = refl
+    alone Untyped = refl
+    alone Selecting = refl
 
 abbrev root_match : MatchData
 root_match = record { op = op.GenericSubtract; slots = Def 0 ∷ Use 1 ∷ Use 1 ∷ [] }
@@ -106,7 +130,7 @@ root_scalar : (x : ℕ) (phase : Phase) (f : FunctionData) (root : InstrData) (r
     → (ty : Llt) → type_in phase f r ≡ Some ty → is_scalar x ty ≡ true
 root_scalar x phase f root r is met only own ty so =
     let (rest, results) = first_is r root.operands only own in
-    let typed : unmet x (type_in phase f) (typing_of root.op) root.operands ≡ None = sym (ap (λ t. cond t None (unmet x (type_in phase f) (typing_of root.op) root.operands)) (no_join phase root is)) ∙ met in
+    let typed : unmet x (type_in phase f) (typing_of root.op) root.operands ≡ None = (suited x phase f root (no_join phase root is) met).row in
     let row : first_unmet x (type_in phase f) (two_alike class.Scalar) (length (results_in root.operands)) [] (results_in root.operands ++ sources_in root.operands) ≡ None =
     subst (λ o. unmet x (type_in phase f) (typing_of o) root.operands ≡ None) is typed in
     scalar_first x (type_in phase f) r rest (rest ++ sources_in root.operands)
@@ -120,7 +144,7 @@ same_keeps = record { valid = λ x phase f id b own had live fits valid. let (ro
     by x phase f id b own had live fits valid root at =
         rule_stays_valid x phase difference_of_same f id root b refl own had live at fits (record {
           replaced = λ r so. absurd (true≢false (sym (sym (ap not (eq-eqb r r refl)) ∙ so)));
-          made = λ p there. ⊎_elim (λ same. ap (λ (q : ℕ × InstrData). mismatch x phase g q.1) same ∙ constant_mismatch x phase g (line_of f id) (register_or b 0) _ _ _ row) (λ none. absurd none) (subst (λ l. IsOneOf p l) made_same there);
+          made = λ p there. ⊎_elim (λ same. ap (λ (q : ℕ × InstrData). mismatch x phase g q.1) same ∙ constant_mismatch x phase g (line_of f id) (register_or b 0) (kind_made x f b (Of 0)) _ own_kind row) (λ none. absurd none) (subst (λ l. IsOneOf p l) made_same there);
         }) valid
       where
         g : FunctionData
@@ -158,12 +182,17 @@ same_keeps = record { valid = λ x phase f id b own had live fits valid. let (ro
         defined : defines (register_or b 0).0 (id, root) ≡ true
         defined = c.defined 0 refl
 
-        same_type : type_in phase (applied x difference_of_same b id f) (register_or b 0).0 ≡ type_in phase f (register_or b 0).0
-        same_type =
+        same_kind : kind_of (applied x difference_of_same b id f) (register_or b 0).0 ≡ kind_of f (register_or b 0).0
+        same_kind =
             let made_there : list_any (defines (register_or b 0).0) (rewriting_of x difference_of_same b id root f).made ≡ true =
             ap (list_any (defines (register_or b 0).0)) made_same ∙ or_left ((register_or b 0).0 == (register_or b 0).0 || false) false (or_left ((register_or b 0).0 == (register_or b 0).0) false (eq-eqb (register_or b 0).0 (register_or b 0).0 refl)) in
-            type_alike phase f (applied x difference_of_same b id f) (register_or b 0).0 (register_or b 0).0
-            (ap type_of_kind (kind_kept (rewriting_of x difference_of_same b id root f) f (applied x difference_of_same b id f) (applied_is x difference_of_same b id f root own live at) (register_or b 0).0 (all.kinds (register_or b 0).0 made_there defined)))
+            kind_kept (rewriting_of x difference_of_same b id root f) f (applied x difference_of_same b id f) (applied_is x difference_of_same b id f root own live at) (register_or b 0).0 (all.kinds (register_or b 0).0 made_there defined)
+
+        own_kind : kind_of (applied x difference_of_same b id f) (register_or b 0).0 ≡ kind_made x f b (Of 0)
+        own_kind = same_kind ∙ sym (kind_of_place x f b 0 (c.bound 0 refl))
+
+        same_type : type_in phase (applied x difference_of_same b id f) (register_or b 0).0 ≡ type_in phase f (register_or b 0).0
+        same_type = type_alike phase f (applied x difference_of_same b id f) (register_or b 0).0 (register_or b 0).0 (ap type_of_kind same_kind)
 
         only : (q : ℕ) → list_any (is_def_of q) root.operands ≡ true → q ≡ (register_or b 0).0
         only q h = let one : IsOfPlace b q (0 ∷ []) = c.placed q h in sym one.is ∙ ap (λ p. (register_or b p).0) (only_place one.place one.inside)

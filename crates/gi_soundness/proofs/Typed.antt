@@ -17,10 +17,11 @@ use Rattle.gi_mir.specs.declared.operand.Operand.TheVariants as operand
 use Rattle.gi_pattern.specs.InPlace.{operand_renamed, entry_renamed}
 use Rattle.gi_valid.specs.Definitions.{is_copy, is_pure, definition, uses_purely, IsComputedOver, IsComputedFrom}
 use Rattle.gi_valid.specs.Faults.{sites, told, definitions, times, type_mismatch}
-use Rattle.gi_valid.specs.Typing.{Phase, Typed, Selecting, Untyped, type_in, meets, results_in, sources_in, is_met, first_unmet, joins_any, unmet, mismatch}
+use Rattle.gi_valid.specs.Typing.{Phase, Typed, Selecting, Untyped, type_in, meets, results_in, sources_in, is_met, first_unmet, joins_any, unmet, is_as_wide, unsized, unsuited, mismatch}
 use Rattle.gi_valid.specs.declared.invalid.Invalid.TheVariants.{TypeMismatch}
 use Rattle.gi_valid.proofs.Single.{IsIn, one_definition}
 use Rattle.gi_valid.proofs.Sited.{site_of}
+use Rattle.gi_valid.proofs.Suited.{IsSuited, none_unsuited, suited_of}
 use Rattle.gi_valid.proofs.Valid.{nothing_mapped}
 use Rattle.gi_soundness.specs.Conditions.{IsNew, DefinesAnew, is_replaced, AccountsForResults, KeepsTypes}
 use Rattle.gi_soundness.specs.Rewriting.{Rewriting, standing_for, rewritten, IsOneOf, IsRewritten}
@@ -244,18 +245,29 @@ unmet_left x tf tg rename os results sources (Some typing) none =
     ap (λ rs. first_unmet x tg typing (length rs) [] (rs ++ now)) left
     ∙ still_unmet x tf tg typing (length (results_in os)) [] [] (results_in os ++ sources_in os) (results_in os ++ now) refl types none
 
+unsized_left : (x : ℕ) (tf tg : ℕ → Option Llt) (rename : ℕ → ℕ) (os : List Operand) → ((r : ℕ) → list_any (is_def_of r) os ≡ true → tg r ≡ tf r) → unsized x tf os ≡ None → unsized x tg (map (operand_renamed rename) os) ≡ None
+unsized_left x tf tg rename (operand.Def r kind ∷ operand.Constant bits value ∷ []) results none =
+    ap (λ t. cond (is_as_wide x bits t) None (Some r.0)) (results r.0 (or_left (r.0 == r.0) (list_any (is_def_of r.0) (operand.Constant bits value ∷ [])) (eq-eqb r.0 r.0 refl))) ∙ none
+unsized_left x tf tg rename _ results none = refl
+
+unsuited_left : (x : ℕ) (tf tg : ℕ → Option Llt) (rename : ℕ → ℕ) (p : ℕ × InstrData) → ((r : ℕ) → defines r p ≡ true → tg r ≡ tf r) → ((r : ℕ) → uses r p ≡ true → tg (rename r) ≡ tf r)
+    → unsuited x tf p.1 ≡ None → unsuited x tg (entry_renamed rename p).1 ≡ None
+unsuited_left x tf tg rename p results sources none =
+    let old : IsSuited x tf p.1 = suited_of x tf p.1 none in
+    none_unsuited x tg (entry_renamed rename p).1 (record {
+      row = unmet_left x tf tg rename p.1.operands results sources (typing_of p.1.op) old.row;
+      sized = λ constant. unsized_left x tf tg rename p.1.operands results (old.sized constant);
+    })
+
 mismatch_left : (x : ℕ) (phase : Phase) (f g : FunctionData) (rename : ℕ → ℕ) (p : ℕ × InstrData) → ((r : ℕ) → defines r p ≡ true → type_in phase g r ≡ type_in phase f r) → ((r : ℕ) → uses r p ≡ true → type_in phase g (rename r) ≡ type_in phase f r)
     → mismatch x phase f p.1 ≡ None → mismatch x phase g (entry_renamed rename p).1 ≡ None
 mismatch_left x phase f g rename p results sources none = by (joins_any phase p.1) refl
   where
-    now : List Operand
-    now = map (operand_renamed rename) p.1.operands
-
     by : (t : Bool) → joins_any phase p.1 ≡ t → mismatch x phase g (entry_renamed rename p).1 ≡ None
-    by true so = ap (λ t. cond t None (unmet x (type_in phase g) (typing_of p.1.op) now)) (joins_left phase rename p ∙ so)
+    by true so = ap (λ t. cond t None (unsuited x (type_in phase g) (entry_renamed rename p).1)) (joins_left phase rename p ∙ so)
     by false so =
-        ap (λ t. cond t None (unmet x (type_in phase g) (typing_of p.1.op) now)) (joins_left phase rename p ∙ so)
-        ∙ unmet_left x (type_in phase f) (type_in phase g) rename p.1.operands results sources (typing_of p.1.op) (sym (ap (λ t. cond t None (unmet x (type_in phase f) (typing_of p.1.op) p.1.operands)) so) ∙ none)
+        ap (λ t. cond t None (unsuited x (type_in phase g) (entry_renamed rename p).1)) (joins_left phase rename p ∙ so)
+        ∙ unsuited_left x (type_in phase f) (type_in phase g) rename p results sources (sym (ap (λ t. cond t None (unsuited x (type_in phase f) p.1)) so) ∙ none)
 
 -- ══ All instructions ══
 
