@@ -38,6 +38,7 @@ use Rattle.gi_pattern.specs.declared.rule.Test.TheVariants as test
 use Rattle.gi_refine.specs.RuleUse.{width_in}
 use Rattle.gi_valid.specs.Typing.{Phase, Typed, first_unmet, is_met, known, may_relate, meets, mismatch, places_of_letter, places_with, results_in, sources_in, type_in, unmet}
 use Rattle.gi_valid.specs.Valid.{IsValid}
+use Rattle.gi_valid.proofs.Suited.{suited}
 use Rattle.gi_lifting.specs.OnValues.{results_of, sources_of, width_at}
 use Rattle.gi_lifting.specs.Placed.{type_or_word, types_in}
 use Rattle.gi_lifting.specs.Sound.{AllRead, IsRead, ReadsConstant, Suits, is_typed, passes_on}
@@ -388,7 +389,7 @@ one_suits x f s b m p there same order rowed = record { typed = by (typing_of m.
     sized = subst (λ o. is_sized (width_in x f) o p.1.operands ≡ true) same (one_passes (λ q. is_sized (width_in x f) q.1.op q.1.operands) p (all_instrs f.blocks) s.sized there)
 
     met : unmet x (type_of_register f) (typing_of m.op) p.1.operands ≡ None
-    met = subst (λ o. unmet x (type_of_register f) (typing_of o) p.1.operands ≡ None) same (instr_met x Typed f s.valid p there)
+    met = subst (λ o. unmet x (type_of_register f) (typing_of o) p.1.operands ≡ None) same (suited x Typed f p.1 refl (instr_met x Typed f s.valid p there)).row
 
     reads : AreInOrder b m p.1 → ReadsConstant x (types_in x f b) b m.op m.slots
     reads (inl are) = reads_constant x f b m.op m.slots p.1.operands are sized

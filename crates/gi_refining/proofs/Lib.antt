@@ -3,6 +3,7 @@ pub mod KnownBound
 pub mod KnownFacts
 pub mod KnownRule
 pub mod KnownTypes
+pub mod Sized
 pub mod Using
 pub mod UsingElsewhere
 pub mod UsingFresh

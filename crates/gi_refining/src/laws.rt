@@ -1,8 +1,9 @@
 //! What follows for a sound rule where it fits in a valid function.
 
 ghost use Rattle.std.specs.Prelude.{◌≡◌, ◌⊎◌, List, Some, false, true, ℕ};
+ghost use Rattle.std.specs.List.{list_all};
 ghost use Rattle.gi_mir.specs.Data.{FunctionData, InstrData};
-ghost use Rattle.gi_mir.specs.Edit.{IsLive, home_of, instr_of};
+ghost use Rattle.gi_mir.specs.Edit.{IsLive, all_instrs, home_of, instr_of};
 ghost use Rattle.gi_mir.specs.Formed.{is_formed};
 ghost use Rattle.gi_mir.specs.Ids.{AreOwnIds};
 ghost use Rattle.gi_mir.specs.declared.operand.Flags.{Flags};
@@ -134,4 +135,13 @@ pub fn fitting_rule_refines()
         → IsLive f id → binding_at f (rule_of name root definitions tests makes) id ≡ Some b
         → instr_of f id ≡ Some instr → is_formed instr ≡ true → FitsBefore x names f id
         → IsRefinement x names f (applied x (rule_of name root definitions tests makes) b id f) }
+{}
+
+/// In a valid function of formed instructions whose registers have types, constants are in range and as wide as their
+/// registers.
+pub fn valid_constants_fit()
+    ensures { (x : ℕ) (f : FunctionData)
+        → (x ≡ 32) ⊎ (x ≡ 64)
+        → IsValid x Typed f → list_all (λ p. is_formed p.1) (all_instrs f.blocks) ≡ true → have_types f ≡ true
+        → are_sized x f ≡ true }
 {}
