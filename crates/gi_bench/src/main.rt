@@ -97,8 +97,7 @@ fn chain_of(alloc: Global, count: u32) -> Result<String, AllocError>
     let mut text = String::from_str(alloc, HEAD)?;
     for last in 0..count.saturating_sub(1) {
         let number = last + 1;
-        let block = format!(
-            in alloc;
+        let block = format!(in alloc;
             "    G_BR %bb.{number}\n\n  bb.{number}:\n    %{number}:_(s32) = G_ADD %{last}, %{last}\n"
         )?;
         text.push_str(block.as_str())?;

@@ -172,11 +172,7 @@ fn push_second(out: &mut Vec<Fault>, is_second: bool, line: u32, r: u32) -> Resu
 }
 
 /// Puts the faults of second definitions at the end of a list.
-fn push_seconds(
-    alloc: Global,
-    out: &mut Vec<Fault>,
-    all: &[(u32, u32)],
-) -> Result<(), Memory>
+fn push_seconds(alloc: Global, out: &mut Vec<Fault>, all: &[(u32, u32)]) -> Result<(), Memory>
     ensures { OnOk result (out.new.items ≡ out.old.items ++ faults.seconds [] all.now) }
 {
     let mut counted = Counted::new(alloc);

@@ -19,8 +19,8 @@ use crate::ends::{phi_entries, terminator};
 use crate::mismatch::type_mismatch;
 use crate::passed::{Passed, nothing, passed_with};
 use crate::physical::physical_across;
-use crate::settled::Order;
 use crate::predecessors::Predecessors;
+use crate::settled::Order;
 use crate::uses::not_available;
 use gi_llt::{Memory, Target};
 use gi_mir::block::Numbered;
@@ -98,7 +98,16 @@ fn others_in(
 {
     let types = type_mismatch(alloc, target, stage, function, &numbered.instr)?;
     let blocks = unknown_block(alloc, function, &numbered.instr)?;
-    let entries = phi_entries(alloc, function, all, b, passed, front, &numbered.instr, after)?;
+    let entries = phi_entries(
+        alloc,
+        function,
+        all,
+        b,
+        passed,
+        front,
+        &numbered.instr,
+        after,
+    )?;
     let late = late_in(
         alloc, target, stage, function, way_back, b, passed, front, numbered, after,
     )?;
@@ -240,7 +249,8 @@ fn push_block(
     let mut passed = nothing();
     for k in 0..instrs.len() {
         push_site(
-            alloc, target, stage, function, reached, order, all, way_back, b, passed, instrs, k, out,
+            alloc, target, stage, function, reached, order, all, way_back, b, passed, instrs, k,
+            out,
         )?;
         passed = passed_with(passed, instrs, k);
     }

@@ -11,11 +11,12 @@ loop-k-init c =
     (none_told c.args.target.xlen (phase_of c.args.stage) c.args.function.now c.args.b (block_at c.args.function.now c.args.b).instrs c.args.out.now.items, c.nothing-passed.ensures)
 
 pub loop-k-preserved : goal.loop-k-preserved
-loop-k-preserved c =
-    (one_told c.args.target.xlen (phase_of c.args.stage) c.args.function.now c.args.b (block_at c.args.function.now c.args.b).instrs c.loop-k.k (subst (λ l. c.loop-k.k < length l) c.instrs-instrs.ensures c.loop-k-test.true)
-    c.args.out.now.items c.loop-k.out.items c.push_site.new.out.items c.loop-k.invariant.0
-    (subst (λ l. IsTold c.args.target.xlen (phase_of c.args.stage) c.args.function.now c.args.b l c.loop-k.k c.loop-k.out.items c.push_site.new.out.items) c.instrs-instrs.ensures c.in_ok-push_site.ensures),
-    subst (λ l. IsPassed (take (c.loop-k.k + 1) l) c.passed_with-passed.result) c.instrs-instrs.ensures c.passed_with-passed.ensures)
+loop-k-preserved c = (
+  one_told c.args.target.xlen (phase_of c.args.stage) c.args.function.now c.args.b (block_at c.args.function.now c.args.b).instrs c.loop-k.k (subst (λ l. c.loop-k.k < length l) c.instrs-instrs.ensures c.loop-k-test.true)
+      c.args.out.now.items c.loop-k.out.items c.push_site.new.out.items c.loop-k.invariant.0
+      (subst (λ l. IsTold c.args.target.xlen (phase_of c.args.stage) c.args.function.now c.args.b l c.loop-k.k c.loop-k.out.items c.push_site.new.out.items) c.instrs-instrs.ensures c.in_ok-push_site.ensures),
+  subst (λ l. IsPassed (take (c.loop-k.k + 1) l) c.passed_with-passed.result) c.instrs-instrs.ensures c.passed_with-passed.ensures,
+)
 
 pub returns : goal.returns
 returns c =

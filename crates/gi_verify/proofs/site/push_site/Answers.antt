@@ -1,6 +1,16 @@
+use Rattle.std.proofs.Common.{sym, subst}
 use Rattle.gi_valid.specs.Typing.{phase_of}
+use Rattle.gi_verify.specs.Passed.{IsPassed}
+use Rattle.gi_verify.proofs.Ordering.{placed_from}
 use Rattle.gi_verify.proofs.Told.{site_told}
 use Rattle.gi_verify.proofs.site.push_site.Goals as goal
+
+pub fault_in-requires-clause-placed : goal.fault_in-requires-clause-placed
+fault_in-requires-clause-placed c =
+    placed_from c.args.function.now c.args.b c.args.instrs.now c.args.k c.index-instrs-k.result c.requires.instrs c.requires.here c.index-instrs-k.is c.in_front-front.result.now c.in_front-front.ensures
+
+pub fault_in-requires-clause-passed : goal.fault_in-requires-clause-passed
+fault_in-requires-clause-passed c = subst (λ l. IsPassed l c.args.passed) (sym c.in_front-front.ensures) c.requires.passed
 
 pub returns : goal.returns
 returns c =
