@@ -3,6 +3,12 @@ pub mod KnownBound
 pub mod KnownFacts
 pub mod KnownRule
 pub mod KnownTypes
+pub mod ReplacedPlaced
+pub mod ReplacedRoot
+pub mod ReplacedSteps
+pub mod ReplacedUses
+pub mod ReplacedValues
+pub mod ReplacedWidths
 pub mod Using
 pub mod UsingElsewhere
 pub mod UsingFresh
@@ -11,4 +17,5 @@ pub mod UsingKept
 pub mod UsingKinds
 pub mod UsingPlaced
 pub mod UsingRefines
+pub mod UsingRoot
 pub mod UsingTests

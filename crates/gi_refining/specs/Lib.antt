@@ -1,3 +1,4 @@
 pub mod Known
 pub mod KnownTypes
+pub mod Replacing
 pub mod Usable

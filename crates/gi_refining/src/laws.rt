@@ -18,11 +18,13 @@ ghost use Rattle.gi_pattern.specs.Fitting.{binding_at};
 ghost use Rattle.gi_pattern.specs.declared.binding.Binding.{Binding};
 ghost use Rattle.gi_pattern.specs.declared.rule.Test.{Test};
 ghost use Rattle.gi_lifting.specs.Placed.{types_in};
-ghost use Rattle.gi_lifting.specs.Sound.{IsSoundRule, Suits};
+ghost use Rattle.gi_lifting.specs.Replaces.{replacing_of};
+ghost use Rattle.gi_lifting.specs.Sound.{IsCertainRule, IsSoundRule, Suits};
 ghost use Rattle.gi_lifting.specs.Uses.{IsUsed, front_of, on_values, placing_of, rule_of, rule_with};
 ghost use Rattle.gi_soundness.specs.Rules.{HasHadAll};
 ghost use Rattle.gi_valid.specs.Typing.{Phase, Typed};
 ghost use Rattle.gi_valid.specs.Valid.{IsValid};
+ghost use Rattle.gi_refining.specs.Replacing.{ReplacesAsWide, is_replacing};
 ghost use Rattle.gi_refining.specs.Usable.{is_new_in, is_usable};
 ghost use Rattle.gi_refine.specs.Fitting.{blocks_fit};
 ghost use Rattle.gi_refining.specs.Known.{FitsBefore, are_sized, flags_found, knows_inputs};
@@ -122,7 +124,7 @@ pub fn example_rules_fill_rows()
 {}
 
 /// Together: a sound rule that meets these conditions on its own list refines each valid function of generic code in which it
-/// fits, where constants are as wide as their registers and values fit before the root.
+/// fits, where constants are as wide as their registers and the function passes the test of sizes.
 pub fn fitting_rule_refines()
     ensures { (x : ℕ) (names : List (List ℕ)) (f : FunctionData) (name : ℕ) (root : MatchData) (definitions : List MatchData) (tests : List Test) (makes : List MakeData) (b : Binding) (id : ℕ) (instr : InstrData)
         → (x ≡ 32) ⊎ (x ≡ 64)
@@ -132,6 +134,54 @@ pub fn fitting_rule_refines()
         → fills_rows (rule_of name root definitions tests makes) ≡ true
         → IsValid x Typed f → AreOwnIds f.blocks f.next_id → HasHadAll f → are_sized x f ≡ true → have_types f ≡ true
         → IsLive f id → binding_at f (rule_of name root definitions tests makes) id ≡ Some b
-        → instr_of f id ≡ Some instr → is_formed instr ≡ true → FitsBefore x names f id
+        → instr_of f id ≡ Some instr → is_formed instr ≡ true → blocks_fit (setting_of x names f) f.blocks ≡ true
         → IsRefinement x names f (applied x (rule_of name root definitions tests makes) b id f) }
+{}
+
+/// A sound and certain rule that makes nothing, and meets the condition of those that replace, refines each valid function in which
+/// it fits: wherever runs use what it replaces, that has the value of what replaces it.
+pub fn replaced_rule_refines()
+    ensures { (x : ℕ) (phase : Phase) (names : List (List ℕ)) (f : FunctionData) (name : ℕ) (root : MatchData) (definitions : List MatchData) (tests : List Test) (replaces : List (ℕ × ℕ)) (b : Binding) (id : ℕ) (instr : InstrData)
+        → (x ≡ 32) ⊎ (x ≡ 64)
+        → IsSoundRule (replacing_of name root definitions tests replaces)
+        → IsCertainRule (replacing_of name root definitions tests replaces)
+        → ReplacesAsWide (replacing_of name root definitions tests replaces)
+        → Suits x (replacing_of name root definitions tests replaces) (types_in x f b) b
+        → is_replacing (replacing_of name root definitions tests replaces) ≡ true
+        → knows_inputs (replacing_of name root definitions tests replaces) ≡ true
+        → IsValid x phase f → AreOwnIds f.blocks f.next_id → HasHadAll f → are_sized x f ≡ true → blocks_fit (setting_of x names f) f.blocks ≡ true
+        → IsLive f id → binding_at f (replacing_of name root definitions tests replaces) id ≡ Some b
+        → instr_of f id ≡ Some instr → is_formed instr ≡ true
+        → IsRefinement x names f (applied x (replacing_of name root definitions tests replaces) b id f) }
+{}
+
+/// These example rules meet the condition of those that replace.
+pub fn replacing_rules()
+    ensures sum_with_zero { is_replacing sum_with_zero ≡ true }
+    ensures truncated_extension { is_replacing truncated_extension ≡ true }
+    ensures unmerged_pair { is_replacing unmerged_pair ≡ true }
+{}
+
+/// What replaces a register by them is as wide.
+pub fn replacements_are_as_wide()
+    ensures sum_with_zero { ReplacesAsWide sum_with_zero }
+    ensures truncated_extension { ReplacesAsWide truncated_extension }
+    ensures unmerged_pair { ReplacesAsWide unmerged_pair }
+{}
+
+/// Together: such a rule refines each valid function of generic code in which it fits, with the same premises as a rule that makes
+/// instructions.
+pub fn fitting_replacement_refines()
+    ensures { (x : ℕ) (names : List (List ℕ)) (f : FunctionData) (name : ℕ) (root : MatchData) (definitions : List MatchData) (tests : List Test) (replaces : List (ℕ × ℕ)) (b : Binding) (id : ℕ) (instr : InstrData)
+        → (x ≡ 32) ⊎ (x ≡ 64)
+        → IsSoundRule (replacing_of name root definitions tests replaces)
+        → IsCertainRule (replacing_of name root definitions tests replaces)
+        → ReplacesAsWide (replacing_of name root definitions tests replaces)
+        → is_replacing (replacing_of name root definitions tests replaces) ≡ true
+        → knows_inputs (replacing_of name root definitions tests replaces) ≡ true
+        → fills_rows (replacing_of name root definitions tests replaces) ≡ true
+        → IsValid x Typed f → AreOwnIds f.blocks f.next_id → HasHadAll f → are_sized x f ≡ true → have_types f ≡ true → blocks_fit (setting_of x names f) f.blocks ≡ true
+        → IsLive f id → binding_at f (replacing_of name root definitions tests replaces) id ≡ Some b
+        → instr_of f id ≡ Some instr → is_formed instr ≡ true
+        → IsRefinement x names f (applied x (replacing_of name root definitions tests replaces) b id f) }
 {}
