@@ -3,12 +3,14 @@ pub mod KnownBound
 pub mod KnownFacts
 pub mod KnownRule
 pub mod KnownTypes
+pub mod Numbered
 pub mod ReplacedPlaced
 pub mod ReplacedRoot
 pub mod ReplacedSteps
 pub mod ReplacedUses
 pub mod ReplacedValues
 pub mod ReplacedWidths
+pub mod Trials
 pub mod Using
 pub mod UsingElsewhere
 pub mod UsingFresh

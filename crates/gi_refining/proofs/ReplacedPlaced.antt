@@ -1,6 +1,6 @@
 -- A rule that makes nothing replaces what it replaces wherever it fits in a valid function, and refines it.
-use Rattle.std.proofs.Common.{◌≡◌, ◌⊎◌, ℕ, zero, suc, ◌+◌, ◌≤◌, Bool, true, false, cond, not, ◌&&◌, ◌||◌, ◌==◌, List, [], ◌∷◌, ◌++◌, Some, map, slice_get, inl, inr, ⊎_elim, refl, sym, ap, ◌∙◌, subst, arith, append_assoc, append-nil, eqb-true, eq-eqb, true≢false}
-use Rattle.std.proofs.lemmas.Bool.{and_from, and_parts, false_from_ne_true, or_cases, or_from, or_left, or_right}
+use Rattle.std.proofs.Common.{◌≡◌, ◌⊎◌, ℕ, zero, suc, ◌+◌, ◌≤◌, Bool, true, false, cond, ◌&&◌, ◌||◌, ◌==◌, List, [], ◌∷◌, ◌++◌, Some, map, slice_get, inl, inr, ⊎_elim, refl, sym, ap, ◌∙◌, subst, arith, append_assoc, append-nil, eqb-true, eq-eqb, true≢false}
+use Rattle.std.proofs.lemmas.Bool.{and_from, and_parts, false_from_ne_true, not-false, or_cases, or_from, or_left, or_right}
 use Rattle.std.specs.List.{list_all, list_any}
 use Rattle.gi_mir.specs.Data.{InstrData, BlockData, FunctionData}
 use Rattle.gi_mir.specs.Edit.{IsLive, all_instrs, defines, home_block, home_of, instr_of, is_def_of, place_in_block}
@@ -119,12 +119,8 @@ stand_in_shown u c q = by (is_replaced (rewriting (fitting u)) q) refl
     by : (t : Bool) → is_replaced (rewriting (fitting u)) q ≡ t → defines (stand_in u q) (u.id, u.instr) ≡ false
     by true so = c.all.results.apart q so
     by false so =
-        let same : stand_in u q ≡ q = eqb-true (stand_in u q) q (kept (stand_in u q == q) so) in
+        let same : stand_in u q ≡ q = eqb-true (stand_in u q) q (not-false (stand_in u q == q) so) in
         subst (λ k. defines k (u.id, u.instr) ≡ false) (sym same) (false_from_ne_true (defines q (u.id, u.instr)) (λ result. true≢false (sym (c.all.results.covered q result so))))
-      where
-        kept : (t : Bool) → not t ≡ false → t ≡ true
-        kept true h = refl
-        kept false h = cc
 
 accounted : (u : Replacing) → IsHere (fitting u) → IsAccounted (rewriting (fitting u)) u.f (after (fitting u))
 accounted u c = record { is = c.is; anew = c.all.anew; results = c.all.results; once = c.known.once }

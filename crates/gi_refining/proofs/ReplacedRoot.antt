@@ -1,5 +1,5 @@
 -- Where a result of the root is available, it has the value of what replaces it.
-use Rattle.std.proofs.Common.{◌≡◌, ◌⊎◌, ℕ, Bool, true, false, not, ◌&&◌, ◌||◌, ◌==◌, List, [], ◌∷◌, ◌++◌, Some, length, map, refl, sym, ap, ◌∙◌, subst, eqb-true}
+use Rattle.std.proofs.Common.{◌≡◌, ◌⊎◌, ℕ, Bool, true, false, not, ◌&&◌, ◌==◌, List, [], ◌∷◌, ◌++◌, Some, length, map, refl, sym, ap, ◌∙◌, subst, eqb-true}
 use Rattle.std.proofs.lemmas.Bool.{and_from, and_parts, not-false}
 use Rattle.std.specs.List.{list_all, list_any}
 use Rattle.gi_mir.specs.Data.{InstrData, FunctionData}
@@ -12,11 +12,8 @@ use Rattle.gi_meaning.specs.Runs.{Executes, On, is_phi, setting_of}
 use Rattle.gi_meaning.specs.State.{State, World}
 use Rattle.gi_pattern.specs.Binding.{empty_binding}
 use Rattle.gi_pattern.specs.Data.{MatchData}
-use Rattle.gi_pattern.specs.Fitting.{is_commutative}
 use Rattle.gi_pattern.specs.InPlace.{renamed}
 use Rattle.gi_pattern.specs.declared.binding.Binding.{Binding}
-use Rattle.gi_pattern.specs.declared.rule.Slot.{Slot}
-use Rattle.gi_pattern.specs.declared.rule.Slot.TheVariants as slot
 use Rattle.gi_pattern.specs.declared.rule.Test.{Test}
 use Rattle.gi_refine.specs.Fitting.{blocks_fit}
 use Rattle.gi_refine.specs.Kept.{HasSameValue}
@@ -43,9 +40,9 @@ use Rattle.gi_soundness.proofs.Matching.{found_extends, match_says}
 use Rattle.gi_soundness.proofs.Staying.{origin_here}
 use Rattle.gi_soundness.proofs.Valid.{great_of}
 use Rattle.gi_pattern.specs.Fitting.{definition_at}
-use Rattle.gi_refining.specs.Known.{are_sized, flags_found, gives_results, is_of_two, is_ordered}
+use Rattle.gi_refining.specs.Known.{are_sized, flags_found, gives_results}
 use Rattle.gi_refining.specs.Replacing.{is_by_input}
-use Rattle.gi_refining.specs.Usable.{binds_either, input_names, is_binary}
+use Rattle.gi_refining.specs.Usable.{input_names}
 use Rattle.gi_refining.proofs.KnownBound.{First}
 use Rattle.gi_refining.proofs.KnownRule.{IsHere as IsBoundHere, Knows, Moment, ahead, computing_anyhow, fixed_found, known_at, whole}
 use Rattle.gi_refining.proofs.ReplacedSteps.{all_virtual, stays_put}
@@ -104,14 +101,6 @@ same_instr u names o = some_alike u.instr (o.first).instr (o.first).there
     some_alike : (i j : InstrData) → Some i ≡ Some j → i ≡ j
     some_alike i j h = cc
 
-two_alike : (ss : List Slot) → is_binary ss ≡ is_of_two ss
-two_alike [] = refl
-two_alike (slot.Def d ∷ slot.Use l ∷ slot.Use r ∷ []) = refl
-two_alike _ = refl
-
-ordered : (m : MatchData) → binds_either m ≡ true → is_ordered m ≡ true
-ordered m h = sym (ap (λ t. not (is_commutative m.op) || t) (two_alike m.slots)) ∙ h
-
 pub computing : (u : Replacing) (names : List (List ℕ)) → IsOwed u names → is_computing (meaning_of u.instr.flags u.instr.op) ≡ true
 computing u names o = computing_anyhow u.instr.flags u.instr.op ∙ ap gives_results (o.here).op ∙ o.gives
 
@@ -126,7 +115,7 @@ steady u names o =
 
     fixed : list_all is_fixed u.instr.operands ≡ true
     fixed =
-        subst (λ (i : InstrData). list_all is_fixed i.operands ≡ true) (sym (same_instr u names o)) (fixed_found (o.first).middle u.root (o.first).instr looked (ordered u.root (o.here).usable.either) (o.first).order)
+        subst (λ (i : InstrData). list_all is_fixed i.operands ≡ true) (sym (same_instr u names o)) (fixed_found (o.first).middle u.root (o.first).instr looked (o.here).usable.either (o.first).order)
 
 is_defined : (u : Replacing) (names : List (List ℕ)) → IsOwed u names → (r : ℕ) → defines r (u.id, u.instr) ≡ true → definition u.f r ≡ Some (u.id, u.instr)
 is_defined u names o r result = is_definition u.f (o.here).known.once r (u.id, u.instr) (o.here).there result
@@ -181,7 +170,7 @@ pairs_there u names o w state t r result there =
 
     all : AllSame state.values (all_grown (registers_at u.b (inputs_of (u.root ∷ u.definitions))) (registers_at u.b (results_of u.root.slots) ∷ [])) (on_values u.x u.f (rule (fitting u)) u.b (flags_there u)).kept
     all =
-        all_same_on runs.0.values state.values runs.2 (all_grown (registers_at u.b (inputs_of (u.root ∷ u.definitions))) (registers_at u.b (results_of u.root.slots) ∷ [])) (on_values u.x u.f (rule (fitting u)) u.b (flags_there u)).kept
+        all_same_on (runs.0).values state.values runs.2 (all_grown (registers_at u.b (inputs_of (u.root ∷ u.definitions))) (registers_at u.b (results_of u.root.slots) ∷ [])) (on_values u.x u.f (rule (fitting u)) u.b (flags_there u)).kept
         (root-same u.x names u.f u.name u.root u.definitions u.tests u.replaces [] u.b u.id u.instr (flags_there u) o.at w (o.certain.by u.x w (types_in u.x u.f u.b) u.b (flags_there u) o.size o.suits) state runs.0 known runs.1)
 
     kept : AllSame state.values (registers_at u.b (inputs_of (u.root ∷ u.definitions)) ++ registers_at u.b (results_of u.root.slots))

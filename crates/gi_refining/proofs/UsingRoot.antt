@@ -48,7 +48,8 @@ use Rattle.gi_soundness.proofs.Placed.{applied_is, found_by_id}
 use Rattle.gi_soundness.proofs.Rule.{IsFit, MeetsAll, fit_of, keeps_parts, meets_all}
 use Rattle.gi_soundness.proofs.Typed.{in_list}
 use Rattle.gi_soundness.proofs.Valid.{great_of, known_of}
-use Rattle.gi_refining.specs.Usable.{binds_either, is_binary, is_usable, is_without_memory}
+use Rattle.gi_refining.specs.Known.{is_of_two, is_ordered}
+use Rattle.gi_refining.specs.Usable.{is_usable, is_without_memory}
 use Rattle.gi_refining.proofs.UsingFresh.{fresh_from}
 use Rattle.gi_refining.proofs.UsingInputs.{IsInput, all_as_wide, among_places, input_of, same_results, some_place}
 use Rattle.gi_refining.proofs.UsingTests.{IsUsable, no_memory, pure_alike, usable_parts}
@@ -63,16 +64,16 @@ all_in test p (q ∷ ps) all inside =
 
 -- ══ The root ══
 
-binary_shape : (slots : List Slot) → is_binary slots ≡ true → (result : ℕ) × (left : ℕ) × (right : ℕ) × (slots ≡ slot.Def result ∷ slot.Use left ∷ slot.Use right ∷ [])
+binary_shape : (slots : List Slot) → is_of_two slots ≡ true → (result : ℕ) × (left : ℕ) × (right : ℕ) × (slots ≡ slot.Def result ∷ slot.Use left ∷ slot.Use right ∷ [])
 binary_shape [] h = cc
 binary_shape (slot.Def result ∷ slot.Use left ∷ slot.Use right ∷ []) h = (result, left, right, refl)
 binary_shape _ h = cc
 
 -- its operands are bound in one of the ways in which a use asks for it
-root_bound : (b : Binding) (root : MatchData) (instr : InstrData) → binds_either root ≡ true → AreBoundTo b root.slots instr.operands ⊎ ((is_commutative root.op ≡ true) × AreBoundTo b root.slots (exchanged instr.operands)) → IsBound b root instr
-root_bound b root instr either bound = ⊎_elim (λ written. inl written) (λ other. turned other.0 other.1 (or_cases (not (is_commutative root.op)) (is_binary root.slots) either)) bound
+root_bound : (b : Binding) (root : MatchData) (instr : InstrData) → is_ordered root ≡ true → AreBoundTo b root.slots instr.operands ⊎ ((is_commutative root.op ≡ true) × AreBoundTo b root.slots (exchanged instr.operands)) → IsBound b root instr
+root_bound b root instr either bound = ⊎_elim (λ written. inl written) (λ other. turned other.0 other.1 (or_cases (not (is_commutative root.op)) (is_of_two root.slots) either)) bound
   where
-    turned : is_commutative root.op ≡ true → AreBoundTo b root.slots (exchanged instr.operands) → (not (is_commutative root.op) ≡ true) ⊎ (is_binary root.slots ≡ true) → IsBound b root instr
+    turned : is_commutative root.op ≡ true → AreBoundTo b root.slots (exchanged instr.operands) → (not (is_commutative root.op) ≡ true) ⊎ (is_of_two root.slots ≡ true) → IsBound b root instr
     turned commutes other (inl apart) = absurd (true≢false (sym commutes ∙ not-true (is_commutative root.op) apart))
     turned commutes other (inr shape) =
         let (result, left, right, slots) = binary_shape root.slots shape in inr (record { result = result; left = left; right = right; slots = slots; commutes = commutes; bound = other })

@@ -1,4 +1,6 @@
+pub mod Examples
 pub mod Known
 pub mod KnownTypes
+pub mod Numbered
 pub mod Replacing
 pub mod Usable

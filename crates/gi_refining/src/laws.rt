@@ -1,6 +1,6 @@
 //! What follows for a sound rule where it fits in a valid function.
 
-ghost use Rattle.std.specs.Prelude.{◌≡◌, ◌⊎◌, List, Some, false, true, ℕ};
+ghost use Rattle.std.specs.Prelude.{◌≡◌, ◌⊎◌, List, Some, [], false, true, ℕ};
 ghost use Rattle.gi_mir.specs.Data.{FunctionData, InstrData};
 ghost use Rattle.gi_mir.specs.Edit.{IsLive, home_of, instr_of};
 ghost use Rattle.gi_mir.specs.Formed.{is_formed};
@@ -24,9 +24,11 @@ ghost use Rattle.gi_lifting.specs.Uses.{IsUsed, front_of, on_values, placing_of,
 ghost use Rattle.gi_soundness.specs.Rules.{HasHadAll};
 ghost use Rattle.gi_valid.specs.Typing.{Phase, Typed};
 ghost use Rattle.gi_valid.specs.Valid.{IsValid};
+ghost use Rattle.gi_refining.specs.Numbered.{is_numbered};
 ghost use Rattle.gi_refining.specs.Replacing.{ReplacesAsWide, is_replacing};
 ghost use Rattle.gi_refining.specs.Usable.{is_new_in, is_usable};
 ghost use Rattle.gi_refine.specs.Fitting.{blocks_fit};
+ghost use Rattle.gi_refining.specs.Examples.{adds_zero, adds_zero_bound, takes_five, takes_five_bound};
 ghost use Rattle.gi_refining.specs.Known.{FitsBefore, are_sized, flags_found, knows_inputs};
 ghost use Rattle.gi_refining.specs.KnownTypes.{fills_rows, have_types};
 
@@ -184,4 +186,21 @@ pub fn fitting_replacement_refines()
         → IsLive f id → binding_at f (replacing_of name root definitions tests replaces) id ≡ Some b
         → instr_of f id ≡ Some instr → is_formed instr ≡ true
         → IsRefinement x names f (applied x (replacing_of name root definitions tests replaces) b id f) }
+{}
+
+/// The numbers of a function are tested: each id has one instruction, and the function has had the registers that it mentions.
+pub fn tested_numbers_hold()
+    ensures own { (f : FunctionData) → is_numbered f ≡ true → AreOwnIds f.blocks f.next_id }
+    ensures had { (f : FunctionData) → is_numbered f ≡ true → HasHadAll f }
+{}
+
+/// Example rules in whole functions that are valid: the difference with a constant becomes a sum, and the uses of a sum with zero are
+/// replaced, also in a phi that a run comes to in the next round of a loop. Each premise of the laws is computed.
+pub fn fitting_rules_are_used()
+    ensures valid { IsValid 32 Typed takes_five }
+    ensures fits { binding_at takes_five difference_with_constant 9 ≡ Some takes_five_bound }
+    ensures refines { IsRefinement 32 [] takes_five (applied 32 difference_with_constant takes_five_bound 9 takes_five) }
+    ensures loop_valid { IsValid 32 Typed adds_zero }
+    ensures loop_fits { binding_at adds_zero sum_with_zero 11 ≡ Some adds_zero_bound }
+    ensures loop_refines { IsRefinement 32 [] adds_zero (applied 32 sum_with_zero adds_zero_bound 11 adds_zero) }
 {}
