@@ -9,7 +9,7 @@ use Rattle.gi_mir.specs.Row.{is_terminator_op}
 use Rattle.gi_mir.specs.declared.operand.Operand.{Operand}
 use Rattle.gi_mir.specs.declared.operand.Operand.TheVariants as operand
 use Rattle.gi_meaning.specs.Act.{Act, Leaves, Results}
-use Rattle.gi_meaning.specs.Meaning.{Meaning, meaning_of}
+use Rattle.gi_meaning.specs.Meaning.{meaning_of}
 use Rattle.gi_meaning.specs.Runs.{After, Executes, Left, On, Over, Progress, Setting, Steps, StepsFrom, after_phis, going_on, phis_of, put_all, setting_of, width_of_place, written_places}
 use Rattle.gi_meaning.specs.State.{IsWorld, State, Virtual, World, outside_of, put}
 use Rattle.gi_refine.specs.Reached.{Arrives, GoesTo, IsReached, Passes}
@@ -53,9 +53,6 @@ all_virtual (o ∷ os) h =
 pub stays_put : (s : Setting) (w : World) (p : ℕ × InstrData) (state : State) → HoldsDefinition s w p.1 state → is_computing (meaning_of p.1.flags p.1.op) ≡ true → list_any is_physical_def p.1.operands ≡ false
     → (final : State) × Executes s w (p ∷ []) state (On final) × ((q : ℕ) → final.values q ≡ state.values q)
 stays_put s w p state holds computing virtual =
-    let i : InstrData = p.1 in
-    let m : Meaning = meaning_of p.1.flags p.1.op in
-    let base : State = record state { memory = (outside_of state).memory; taken = (outside_of state).taken } in
     let places : written_places (meaning_of p.1.flags p.1.op) p.1.operands ≡ map Virtual (results_in p.1.operands) = computed_places (meaning_of p.1.flags p.1.op) computing p.1.operands virtual in
     let (final, puts, same) = put_same state (results_in p.1.operands) holds.results (record state { memory = (outside_of state).memory; taken = (outside_of state).taken }) (λ q. refl) holds.held in
     let act : Act s.x w (meaning_of p.1.flags p.1.op) p.1.mem (map (width_of_place s) (written_places (meaning_of p.1.flags p.1.op) p.1.operands)) holds.arguments (outside_of state) (Results holds.results (outside_of state)) =

@@ -43,7 +43,7 @@ use Rattle.gi_refining.proofs.UsingInputs.{as_wide, same_results, same_widths, s
 use Rattle.gi_refining.proofs.UsingKept.{covered_from, kept_place, named_all, named_made}
 use Rattle.gi_refining.proofs.UsingKinds.{all_of_kind, made_kinds, made_wide, old_kind}
 use Rattle.gi_refining.proofs.UsingPlaced.{made_pure, placed_alike}
-use Rattle.gi_refining.proofs.UsingRoot.{Fitting, IsHere, IsKnownBefore, after, all_in, at_root, here_of, input_apart, input_old, input_places, input_registers, inputs_wide, is_result_there, result_place, rewriting, rule}
+use Rattle.gi_refining.proofs.UsingRoot.{Fitting, IsHere, IsKnownBefore, after, all_in, at_root, here_of, input_apart, input_old, input_places, input_registers, inputs_wide, is_result_there, result_below, result_place, rewriting, rule}
 
 -- ══ Lists ══
 

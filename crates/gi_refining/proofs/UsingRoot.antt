@@ -31,7 +31,7 @@ use Rattle.gi_pattern.specs.declared.rule.Test.{Test}
 use Rattle.gi_lifting.specs.Fits.{AreBoundTo, IsBound, is_plain, reads_alone}
 use Rattle.gi_lifting.specs.OnValues.{inputs_of, results_of, width_at}
 use Rattle.gi_lifting.specs.Placed.{types_in}
-use Rattle.gi_lifting.specs.Uses.{IsAt, front_of, on_values, placing_of, registers_at}
+use Rattle.gi_lifting.specs.Uses.{IsAt, front_of, on_values, placing_of, registers_at, rule_with}
 use Rattle.gi_lifting.proofs.Fits.{root-fits}
 use Rattle.gi_valid.specs.Typing.{Phase, results_in}
 use Rattle.gi_valid.specs.Valid.{IsValid}
