@@ -222,8 +222,7 @@ pairs_wide u c all (pair ∷ pairs) once inside wide =
     and_parts ((stands_for all pair.0 == pair.1) && is_named pair.1 (input_names (u.root ∷ u.definitions))) (list_all (λ other. (stands_for all other.0 == other.1) && is_named other.1 (input_names (u.root ∷ u.definitions))) pairs) once in
     let two = and_parts (is_in pair.0 (places_defined u.root.slots) && is_in pair.1 (origins_in (u.root ∷ u.definitions))) (list_all (λ other. is_in other.0 (places_defined u.root.slots) && is_in other.1 (origins_in (u.root ∷ u.definitions))) pairs) inside in
     let first : is_in pair.0 (places_defined u.root.slots) ≡ true = (and_parts (is_in pair.0 (places_defined u.root.slots)) (is_in pair.1 (origins_in (u.root ∷ u.definitions))) two.0).0 in
-    let second : is_named pair.1 (input_names (u.root ∷ u.definitions)) ≡ true = (and_parts (stands_for all pair.0 == pair.1) (is_named pair.1 (input_names (u.root ∷ u.definitions))) one.0).1 in
-    (
+    let second : is_named pair.1 (input_names (u.root ∷ u.definitions)) ≡ true = (and_parts (stands_for all pair.0 == pair.1) (is_named pair.1 (input_names (u.root ∷ u.definitions))) one.0).1 in (
       as_wide u.x u.f u.b pair.0 (c.fit.bound pair.0 first) ∙ wide.0 ∙ sym (as_wide u.x u.f u.b pair.1 (c.inputs pair.1 (named_in pair.1 (inputs_of (u.root ∷ u.definitions)) second)).bound),
       pairs_wide u c all pairs one.1 two.1 wide.1,
     )

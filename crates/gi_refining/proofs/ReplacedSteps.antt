@@ -1,5 +1,5 @@
 -- An instruction whose results are held already may run in place, and nothing changes; and where runs leave a block.
-use Rattle.std.proofs.Common.{◌≡◌, ℕ, ◌+◌, Bool, true, false, cond, ◌==◌, List, [], ◌∷◌, ◌++◌, Option, Some, map, slice_get, ⊎_elim, refl, sym, ap, ap₂, ◌∙◌, subst, append-nil, eqb-true, true≢false}
+use Rattle.std.proofs.Common.{◌≡◌, ℕ, Bool, true, false, cond, ◌==◌, List, [], ◌∷◌, ◌++◌, Option, Some, map, slice_get, ⊎_elim, refl, sym, ap, ap₂, ◌∙◌, subst, append-nil, eqb-true, true≢false}
 use Rattle.std.proofs.lemmas.Bool.{and_parts, or_from}
 use Rattle.std.specs.List.{list_all, list_any}
 use Rattle.gi_mir.specs.Data.{InstrData, BlockData, FunctionData}

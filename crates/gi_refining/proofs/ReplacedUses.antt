@@ -158,8 +158,7 @@ entries_from u names o w is_world a state e b body found front (i ∷ is) splits
     by true so rest =
         let unavailable : not_available u.f (great_of u.f) (site_of b front i is) ≡ None = at_site u.f (not_available u.f (great_of u.f)) (o.here).known.available b body found front i is splits in
         let none : missing_entries u.f (great_of u.f) i.1.operands ≡ None =
-        sym (ap (λ t. cond t (missing_entries u.f (great_of u.f) i.1.operands) (missing_use u.f (great_of u.f) (site_of b front i is))) so) ∙ unavailable in
-        (
+        sym (ap (λ t. cond t (missing_entries u.f (great_of u.f) i.1.operands) (missing_use u.f (great_of u.f) (site_of b front i is))) so) ∙ unavailable in (
           entry_holds u names o w is_world a state e (entry_for a i.1.operands)
               (entry_there u.f a (lt-ltb a (length u.f.blocks) (inside_of u.f.blocks a e.body e.there)) i.1.operands none),
           rest,

@@ -104,8 +104,7 @@ pairs_same values b all names before results origins are same (pair ∷ pairs) o
     let by : ((stands_for all pair.0 == pair.1) ≡ true) × (is_named pair.1 names ≡ true) = and_parts (stands_for all pair.0 == pair.1) (is_named pair.1 names) one.0 in
     let is : stands_for all pair.0 ≡ pair.1 = eqb-true (stands_for all pair.0) pair.1 by.0 in
     let there : slice_get (before ++ registers_at b results) (position (stands_for all pair.0) names) ≡ Some (register_or b (stands_for all pair.0)).0 =
-    subst (λ j. slice_get (before ++ registers_at b results) (position j names) ≡ Some (register_or b j).0) (sym is) (get-left before (registers_at b results) (position pair.1 names) (register_or b pair.1).0 (are.named pair.1 by.1)) in
-    (
+    subst (λ j. slice_get (before ++ registers_at b results) (position j names) ≡ Some (register_or b j).0) (sym is) (get-left before (registers_at b results) (position pair.1 names) (register_or b pair.1).0 (are.named pair.1 by.1)) in (
       subst (λ j. HasSameValue (values (register_or b pair.0).0) (values (register_or b j).0)) is
           (kept_same values b all names before results (length before) refl same pair.0 (and_parts (is_in pair.0 results) (is_in pair.1 origins) two.0).0 there),
       pairs_same values b all names before results origins are same pairs one.1 two.1,

@@ -1,5 +1,5 @@
 -- A usable rule is used wherever it fits in a valid function.
-use Rattle.std.proofs.Common.{◌≡◌, ◌⊎◌, ℕ, ◌+◌, ◌≤◌, ◌<◌, Bool, true, false, cond, not, ◌&&◌, ◌||◌, ◌==◌, List, [], ◌∷◌, ◌++◌, Some, length, inl, inr, ⊎_elim, refl, sym, ap, ◌∙◌, subst, arith, true≢false, le-leb, leb-false}
+use Rattle.std.proofs.Common.{◌≡◌, ◌⊎◌, ℕ, ◌≤◌, ◌<◌, Bool, true, false, cond, not, ◌&&◌, ◌||◌, ◌==◌, List, [], ◌∷◌, ◌++◌, Some, length, inl, inr, ⊎_elim, refl, sym, ap, ◌∙◌, subst, arith, true≢false, le-leb, leb-false}
 use Rattle.std.proofs.lemmas.Bool.{or_left, or_right, and_from, and_parts, eq-eqb, not-true, false_from_ne_true}
 use Rattle.std.specs.List.{list_all, list_any}
 use Rattle.gi_mir.specs.Data.{InstrData, FunctionData}
@@ -20,7 +20,7 @@ use Rattle.gi_refine.proofs.Covering.{covered_by}
 use Rattle.gi_pattern.specs.Applying.{line_of, made_at}
 use Rattle.gi_pattern.specs.Binding.{empty_binding}
 use Rattle.gi_pattern.specs.Data.{MakeData, MatchData}
-use Rattle.gi_pattern.specs.Fitting.{binding_at, found}
+use Rattle.gi_pattern.specs.Fitting.{binding_at}
 use Rattle.gi_pattern.specs.InPlace.{with_ids}
 use Rattle.gi_pattern.specs.Making.{register_or}
 use Rattle.gi_pattern.specs.declared.binding.Binding.{Binding}

@@ -257,4 +257,3 @@ at_root u c names flags live at formed same known = record {
   wide = (results_wide u c, tt);
   known = known;
 }
-
