@@ -22,7 +22,7 @@ use Rattle.gi_refining.specs.Known.{are_sized, flags_found, knows_inputs}
 use Rattle.gi_refining.specs.KnownTypes.{fills_rows, have_types}
 use Rattle.gi_refining.specs.Replacing.{ReplacesAsWide, is_replacing}
 use Rattle.gi_refining.specs.Usable.{is_usable}
-use Rattle.gi_refining.proofs.KnownRule.{fits_tested, fitting_known, fitting_other}
+use Rattle.gi_refining.proofs.KnownRule.{fits_before, fits_tested, fitting_known, fitting_other}
 use Rattle.gi_refining.proofs.KnownTypes.{fitting_suits}
 use Rattle.gi_refining.proofs.ReplacedPlaced.{replaced-refines}
 use Rattle.gi_refining.proofs.UsingRefines.{refines-law}
@@ -38,7 +38,7 @@ fitting-refines x names f name root definitions tests makes b id instr size soun
     (fitting_suits x f name root definitions tests [] makes b id instr valid own live at fits rows sized owned)
     usable valid own had live fits at formed refl
     (fitting_known x Typed names f name root definitions tests [] makes b id instr valid own live at fits knows sized
-    (fits_tested x names f id instr fit live at (fitting_other f name root definitions tests [] makes b id instr at fits knows)))
+    (fits_before x names f id instr (fits_tested x names f fit) live at (fitting_other f name root definitions tests [] makes b id instr at fits knows)))
 
 -- the same of a rule that makes nothing
 pub replacement-refines : (x : ℕ) (names : List (List ℕ)) (f : FunctionData) (name : ℕ) (root : MatchData) (definitions : List MatchData) (tests : List Test) (replaces : List (ℕ × ℕ)) (b : Binding) (id : ℕ) (instr : InstrData)
@@ -49,4 +49,4 @@ pub replacement-refines : (x : ℕ) (names : List (List ℕ)) (f : FunctionData)
     → IsRefinement x names f (applied x (replacing_of name root definitions tests replaces) b id f)
 replacement-refines x names f name root definitions tests replaces b id instr size sound certain wide replacing knowing rows valid own had sized owned fit live fits at formed =
     replaced-refines x Typed names f name root definitions tests replaces b id instr size sound certain wide (fitting_suits x f name root definitions tests replaces [] b id instr valid own live at fits rows sized owned)
-    replacing knowing valid own had sized fit live fits at formed
+    replacing knowing valid own had sized (fits_tested x names f fit) live fits at formed

@@ -52,7 +52,7 @@ use Rattle.gi_soundness.proofs.Sites.{IsSite}
 use Rattle.gi_soundness.proofs.Staying.{origin_here}
 use Rattle.gi_soundness.proofs.Typed.{found_there}
 use Rattle.gi_soundness.proofs.Valid.{great_of, known_of}
-use Rattle.gi_refining.specs.Known.{FitsBefore, are_named, are_sized, are_taken_or_told, are_told, flags_behind, flags_found, gives_results, is_of_two, is_ordered, is_sized, is_told, knows_from, knows_inputs, places_told, positions_taken}
+use Rattle.gi_refining.specs.Known.{FitsAnywhere, FitsBefore, are_named, are_sized, are_taken_or_told, are_told, flags_behind, flags_found, gives_results, is_of_two, is_ordered, is_sized, is_told, knows_from, knows_inputs, places_told, positions_taken}
 use Rattle.gi_refining.proofs.KnownBound.{AreInOrder, First, SlotsAre, Stays, first_found, found_stays, order_stays, stays_on}
 use Rattle.gi_refining.proofs.KnownFacts.{IsDefinedBy, OperandsFit, Stands, definition_fact, definition_there, in_either, inputs_stand, operands_fit, other_way, slots_turned, turned_looked, two_of}
 
@@ -294,11 +294,15 @@ root_there f id live = get-within f.blocks (home_of f id) empty_block (id_in-wit
 pub root_splits : (f : FunctionData) (id : ℕ) (i : InstrData) → IsLive f id → instr_of f id ≡ Some i → is_phi i ≡ false → after_phis (home_block f id).instrs ≡ after_phis (front_of f id) ++ (id, i) ∷ back_of f id
 root_splits f id i live is other = ap after_phis (split-at (home_block f id).instrs (place_in_block f id) (id, i) (entry-of f id i live is)) ∙ others_behind (front_of f id) (id, i) (back_of f id) other
 
--- in a function that passes the test, values fit before each instruction that is no phi
-pub fits_tested : (x : ℕ) (names : List (List ℕ)) (f : FunctionData) (id : ℕ) (i : InstrData) → blocks_fit (setting_of x names f) f.blocks ≡ true → IsLive f id → instr_of f id ≡ Some i → is_phi i ≡ false → FitsBefore x names f id
-fits_tested x names f id i fit live is other = record {
+-- in a function that passes the test, values fit
+pub fits_tested : (x : ℕ) (names : List (List ℕ)) (f : FunctionData) → blocks_fit (setting_of x names f) f.blocks ≡ true → FitsAnywhere x names f
+fits_tested x names f fit = record { by = λ w is_world b block before back there splits state reached. fit_where_reached x names f w is_world fit b block before back there splits state reached }
+
+-- and so they do before each instruction that is no phi
+pub fits_before : (x : ℕ) (names : List (List ℕ)) (f : FunctionData) (id : ℕ) (i : InstrData) → FitsAnywhere x names f → IsLive f id → instr_of f id ≡ Some i → is_phi i ≡ false → FitsBefore x names f id
+fits_before x names f id i fit live is other = record {
   by = λ w is_world state reached.
-      fit_where_reached x names f w is_world fit (home_of f id) (home_block f id) (after_phis (front_of f id)) ((id, i) ∷ back_of f id) (root_there f id live) (root_splits f id i live is other) state reached;
+      fit.by w is_world (home_of f id) (home_block f id) (after_phis (front_of f id)) ((id, i) ∷ back_of f id) (root_there f id live) (root_splits f id i live is other) state reached;
 }
 
 -- the state before the root

@@ -9,14 +9,13 @@ use Rattle.gi_mir.specs.Ids.{AreOwnIds, uses_among}
 use Rattle.gi_mir.specs.Registers.{kind_of}
 use Rattle.gi_mir.specs.declared.operand.Operand.{Operand}
 use Rattle.gi_mir.specs.declared.operand.Operand.TheVariants as operand
-use Rattle.gi_meaning.specs.Runs.{after_phis, is_among, is_phi, phis_of, setting_of, width_of_kind}
+use Rattle.gi_meaning.specs.Runs.{after_phis, is_among, is_phi, phis_of, width_of_kind}
 use Rattle.gi_pattern.specs.Applying.{applied}
 use Rattle.gi_pattern.specs.Binding.{empty_binding}
 use Rattle.gi_pattern.specs.Data.{MatchData}
 use Rattle.gi_pattern.specs.Fitting.{binding_at, found}
 use Rattle.gi_pattern.specs.declared.binding.Binding.{Binding}
 use Rattle.gi_pattern.specs.declared.rule.Test.{Test}
-use Rattle.gi_refine.specs.Fitting.{blocks_fit}
 use Rattle.gi_refine.specs.Lifting.{all_covered, all_grown, is_kept}
 use Rattle.gi_refine.specs.OnePlace.{only_virtual}
 use Rattle.gi_refine.specs.Refinement.{IsRefinement}
@@ -40,11 +39,11 @@ use Rattle.gi_soundness.proofs.Placed.{counted, uses_both, uses_first}
 use Rattle.gi_soundness.proofs.Sites.{IsSite}
 use Rattle.gi_soundness.proofs.Stepwise.{are_phis}
 use Rattle.gi_soundness.proofs.Typed.{IsAccounted, kind_kept, not_root, other_alike}
-use Rattle.gi_refining.specs.Known.{FitsBefore, are_sized, flags_found, knows_inputs}
+use Rattle.gi_refining.specs.Known.{FitsAnywhere, FitsBefore, are_sized, flags_found, knows_inputs}
 use Rattle.gi_refining.specs.Replacing.{AreAsWide, ReplacesAsWide, is_by_input, is_replacing, root_gives}
 use Rattle.gi_refining.specs.Usable.{input_names, is_usable}
 use Rattle.gi_refining.proofs.KnownBound.{first_found}
-use Rattle.gi_refining.proofs.KnownRule.{fits_tested, fitting_known, knows, root_splits, root_there}
+use Rattle.gi_refining.proofs.KnownRule.{fits_before, fitting_known, knows, root_splits, root_there}
 use Rattle.gi_refining.proofs.ReplacedRoot.{IsOwed, Replacing, fitting, flags_there, stand_in}
 use Rattle.gi_refining.proofs.ReplacedUses.{body_holds, phis_hold}
 use Rattle.gi_refining.proofs.ReplacedValues.{AreOfWidth, renamed_wide}
@@ -278,7 +277,7 @@ replaces_there u names o live at wide = record {
 pub replaced-refines : (x : ℕ) (phase : Phase) (names : List (List ℕ)) (f : FunctionData) (name : ℕ) (root : MatchData) (definitions : List MatchData) (tests : List Test) (replaces : List (ℕ × ℕ)) (b : Binding) (id : ℕ) (instr : InstrData)
     → (x ≡ 32) ⊎ (x ≡ 64) → IsSoundRule (replacing_of name root definitions tests replaces) → IsCertainRule (replacing_of name root definitions tests replaces) → ReplacesAsWide (replacing_of name root definitions tests replaces)
     → Suits x (replacing_of name root definitions tests replaces) (types_in x f b) b → is_replacing (replacing_of name root definitions tests replaces) ≡ true → knows_inputs (replacing_of name root definitions tests replaces) ≡ true
-    → IsValid x phase f → AreOwnIds f.blocks f.next_id → HasHadAll f → are_sized x f ≡ true → blocks_fit (setting_of x names f) f.blocks ≡ true
+    → IsValid x phase f → AreOwnIds f.blocks f.next_id → HasHadAll f → are_sized x f ≡ true → FitsAnywhere x names f
     → IsLive f id → binding_at f (replacing_of name root definitions tests replaces) id ≡ Some b → instr_of f id ≡ Some instr → is_formed instr ≡ true
     → IsRefinement x names f (applied x (replacing_of name root definitions tests replaces) b id f)
 replaced-refines x phase names f name root definitions tests replaces b id instr size sound certain wide suits replacing knowing valid own had sized fit live fits at formed =
@@ -300,7 +299,7 @@ replaced-refines x phase names f name root definitions tests replaces b id instr
     bound = sym (ap (λ o. found f tests (root ∷ definitions) o empty_binding) at) ∙ fits
 
     before : FitsBefore x names f id
-    before = fits_tested x names f id instr fit live at (pure_is_no_phi instr here.fit.pure.pure)
+    before = fits_before x names f id instr fit live at (pure_is_no_phi instr here.fit.pure.pure)
 
     owed : IsOwed u names
     owed = record {

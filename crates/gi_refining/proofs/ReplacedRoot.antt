@@ -15,10 +15,8 @@ use Rattle.gi_pattern.specs.Data.{MatchData}
 use Rattle.gi_pattern.specs.InPlace.{renamed}
 use Rattle.gi_pattern.specs.declared.binding.Binding.{Binding}
 use Rattle.gi_pattern.specs.declared.rule.Test.{Test}
-use Rattle.gi_refine.specs.Fitting.{blocks_fit}
 use Rattle.gi_refine.specs.Kept.{HasSameValue}
 use Rattle.gi_refine.specs.Lifting.{AllSame, IsKnown, all_grown}
-use Rattle.gi_refine.proofs.Fitted.{fit_where_reached}
 use Rattle.gi_valid.specs.Definitions.{definition, is_pure, uses_purely}
 use Rattle.gi_valid.specs.Facts.{HoldsDefinition, is_computing, is_fixed, is_steady}
 use Rattle.gi_valid.specs.Typing.{Phase}
@@ -40,7 +38,7 @@ use Rattle.gi_soundness.proofs.Matching.{found_extends, match_says}
 use Rattle.gi_soundness.proofs.Staying.{origin_here}
 use Rattle.gi_soundness.proofs.Valid.{great_of}
 use Rattle.gi_pattern.specs.Fitting.{definition_at}
-use Rattle.gi_refining.specs.Known.{are_sized, flags_found, gives_results}
+use Rattle.gi_refining.specs.Known.{FitsAnywhere, are_sized, flags_found, gives_results}
 use Rattle.gi_refining.specs.Replacing.{is_by_input}
 use Rattle.gi_refining.specs.Usable.{input_names}
 use Rattle.gi_refining.proofs.KnownBound.{First}
@@ -83,7 +81,7 @@ pub record IsOwed (u : Replacing) (names : List (List ℕ)) : Type 0 where
   pub valid : IsValid u.x u.phase u.f
   pub own : AreOwnIds u.f.blocks u.f.next_id
   pub sized : are_sized u.x u.f ≡ true
-  pub fit : blocks_fit (setting_of u.x names u.f) u.f.blocks ≡ true
+  pub fit : FitsAnywhere u.x names u.f
   pub gives : gives_results u.root.op ≡ true
   pub once : list_all (is_by_input (rule (fitting u))) u.replaces ≡ true
   pub knows : Knows (map (λ place. Some place) (inputs_of (u.root ∷ u.definitions))) u.root u.definitions
@@ -166,7 +164,7 @@ pairs_there u names o w state t r result there =
     known : IsKnown (setting_of u.x names u.f) w (on_values u.x u.f (rule (fitting u)) u.b (flags_there u)) (placing_of u.f (rule (fitting u)) u.b u.root).inputs state
     known =
         known_at u.x names u.f w state t u.name u.root u.definitions u.tests u.replaces [] u.b u.instr o.knows o.first (reads u names o w state t r result there)
-        (fit_where_reached u.x names u.f w t.is_world o.fit t.place t.body t.before t.back t.there t.splits state t.reached)
+        (o.fit.by w t.is_world t.place t.body t.before t.back t.there t.splits state t.reached)
 
     all : AllSame state.values (all_grown (registers_at u.b (inputs_of (u.root ∷ u.definitions))) (registers_at u.b (results_of u.root.slots) ∷ [])) (on_values u.x u.f (rule (fitting u)) u.b (flags_there u)).kept
     all =

@@ -29,7 +29,7 @@ ghost use Rattle.gi_refining.specs.Replacing.{ReplacesAsWide, is_replacing};
 ghost use Rattle.gi_refining.specs.Usable.{is_new_in, is_usable};
 ghost use Rattle.gi_refine.specs.Fitting.{blocks_fit};
 ghost use Rattle.gi_refining.specs.Examples.{adds_zero, adds_zero_bound, takes_five, takes_five_bound};
-ghost use Rattle.gi_refining.specs.Known.{FitsBefore, are_sized, flags_found, knows_inputs};
+ghost use Rattle.gi_refining.specs.Known.{FitsAnywhere, FitsBefore, are_sized, flags_found, knows_inputs};
 ghost use Rattle.gi_refining.specs.KnownTypes.{fills_rows, have_types};
 
 /// A rule that meets the condition on its own list is used wherever it fits in a valid function, at an instruction that is
@@ -95,10 +95,11 @@ pub fn fitting_rule_suits()
         → Suits x (rule_with name root definitions tests replaces makes) (types_in x f b) b }
 {}
 
-/// In a function that passes the test of sizes, values fit before each instruction that is no phi.
+/// In a function that passes the test of sizes, values fit wherever runs come, and so before each instruction that is no phi.
 pub fn tested_values_fit()
-    ensures { (x : ℕ) (names : List (List ℕ)) (f : FunctionData) (id : ℕ) (i : InstrData)
-        → blocks_fit (setting_of x names f) f.blocks ≡ true → IsLive f id → instr_of f id ≡ Some i → is_phi i ≡ false → FitsBefore x names f id }
+    ensures anywhere { (x : ℕ) (names : List (List ℕ)) (f : FunctionData) → blocks_fit (setting_of x names f) f.blocks ≡ true → FitsAnywhere x names f }
+    ensures before { (x : ℕ) (names : List (List ℕ)) (f : FunctionData) (id : ℕ) (i : InstrData)
+        → FitsAnywhere x names f → IsLive f id → instr_of f id ≡ Some i → is_phi i ≡ false → FitsBefore x names f id }
 {}
 
 /// The example rules meet the condition of what is known.
@@ -151,7 +152,7 @@ pub fn replaced_rule_refines()
         → Suits x (replacing_of name root definitions tests replaces) (types_in x f b) b
         → is_replacing (replacing_of name root definitions tests replaces) ≡ true
         → knows_inputs (replacing_of name root definitions tests replaces) ≡ true
-        → IsValid x phase f → AreOwnIds f.blocks f.next_id → HasHadAll f → are_sized x f ≡ true → blocks_fit (setting_of x names f) f.blocks ≡ true
+        → IsValid x phase f → AreOwnIds f.blocks f.next_id → HasHadAll f → are_sized x f ≡ true → FitsAnywhere x names f
         → IsLive f id → binding_at f (replacing_of name root definitions tests replaces) id ≡ Some b
         → instr_of f id ≡ Some instr → is_formed instr ≡ true
         → IsRefinement x names f (applied x (replacing_of name root definitions tests replaces) b id f) }
