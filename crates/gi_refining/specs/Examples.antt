@@ -21,6 +21,11 @@ takes_five_bound = record {
   pred = None;
 }
 
+-- after it: the sum with 2^32 - 5, a constant of its own, on the line of the difference
+abbrev pub adds_the_rest : FunctionData
+adds_the_rest = record (one_block (10 ∷ [])
+    (copy_in 7 0 10 ∷ constant 8 1 32 5 ∷ (99, (constant 9 9 32 4294967291).1) ∷ (100, (of_two 9 op.GenericAdd 2 0 9).1) ∷ copy_out 10 10 2 ∷ return_of 11 10 ∷ [])) { next_reg = 10; next_id = 101 }
+
 -- a loop in which 0 is added: the sum is used by the phi before it, in the next round
 abbrev pub adds_zero : FunctionData
 adds_zero = function_of
@@ -42,3 +47,10 @@ adds_zero_bound = record {
   values = Some (record { bits = 32; number = pos 0 }) ∷ None ∷ None ∷ None ∷ [];
   pred = None;
 }
+
+-- after it: the phi takes its own value in the next round
+abbrev pub goes_on : FunctionData
+goes_on = function_of
+    (block_of (1 ∷ []) (10 ∷ []) (copy_in 7 0 10 ∷ constant 8 1 32 0 ∷ jump_to 9 1 ∷ [])
+    ∷ block_of (1 ∷ []) [] (on 10 op.GenericPhi (def_of 3 32 ∷ use_of 0 ∷ Block 0 ∷ use_of 3 ∷ Block 1 ∷ []) ∷ jump_to 12 1 ∷ [])
+    ∷ [])

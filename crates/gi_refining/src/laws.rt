@@ -28,7 +28,7 @@ ghost use Rattle.gi_refining.specs.Numbered.{is_numbered};
 ghost use Rattle.gi_refining.specs.Replacing.{ReplacesAsWide, is_replacing};
 ghost use Rattle.gi_refining.specs.Usable.{is_new_in, is_usable};
 ghost use Rattle.gi_refine.specs.Fitting.{blocks_fit};
-ghost use Rattle.gi_refining.specs.Examples.{adds_zero, adds_zero_bound, takes_five, takes_five_bound};
+ghost use Rattle.gi_refining.specs.Examples.{adds_the_rest, adds_zero, adds_zero_bound, goes_on, takes_five, takes_five_bound};
 ghost use Rattle.gi_refining.specs.Known.{FitsAnywhere, FitsBefore, are_sized, flags_found, knows_inputs};
 ghost use Rattle.gi_refining.specs.KnownTypes.{fills_rows, have_types};
 
@@ -200,8 +200,10 @@ pub fn tested_numbers_hold()
 pub fn fitting_rules_are_used()
     ensures valid { IsValid 32 Typed takes_five }
     ensures fits { binding_at takes_five difference_with_constant 9 ≡ Some takes_five_bound }
-    ensures refines { IsRefinement 32 [] takes_five (applied 32 difference_with_constant takes_five_bound 9 takes_five) }
+    ensures becomes { applied 32 difference_with_constant takes_five_bound 9 takes_five ≡ adds_the_rest }
+    ensures refines { IsRefinement 32 [] takes_five adds_the_rest }
     ensures loop_valid { IsValid 32 Typed adds_zero }
     ensures loop_fits { binding_at adds_zero sum_with_zero 11 ≡ Some adds_zero_bound }
-    ensures loop_refines { IsRefinement 32 [] adds_zero (applied 32 sum_with_zero adds_zero_bound 11 adds_zero) }
+    ensures loop_becomes { applied 32 sum_with_zero adds_zero_bound 11 adds_zero ≡ goes_on }
+    ensures loop_refines { IsRefinement 32 [] adds_zero goes_on }
 {}

@@ -6,8 +6,10 @@ pub returns : goal.returns
 returns c = record {
   valid = takes_five_valid;
   fits = refl;
+  becomes = refl;
   refines = takes_five_refined;
   loop_valid = adds_zero_valid;
   loop_fits = refl;
+  loop_becomes = refl;
   loop_refines = adds_zero_refined;
 }
