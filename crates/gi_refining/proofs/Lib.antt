@@ -21,3 +21,4 @@ pub mod UsingPlaced
 pub mod UsingRefines
 pub mod UsingRoot
 pub mod UsingTests
+pub mod Whole

@@ -4,3 +4,4 @@ pub mod KnownTypes
 pub mod Numbered
 pub mod Replacing
 pub mod Usable
+pub mod Whole

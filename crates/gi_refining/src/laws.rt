@@ -12,7 +12,7 @@ ghost use Rattle.gi_refine.specs.Lifting.{IsKnown};
 ghost use Rattle.gi_refine.specs.Reached.{IsReached};
 ghost use Rattle.gi_refine.specs.Refinement.{IsRefinement};
 ghost use Rattle.gi_pattern.specs.Applying.{applied};
-ghost use Rattle.gi_pattern.specs.Data.{MakeData, MatchData};
+ghost use Rattle.gi_pattern.specs.Data.{MakeData, MatchData, RuleData};
 ghost use Rattle.gi_pattern.specs.Examples.{difference_of_same, difference_with_constant, product_by_power, remainder_by_power, sum_with_short_constant, sum_with_zero, truncated_extension, unmerged_pair};
 ghost use Rattle.gi_pattern.specs.Fitting.{binding_at};
 ghost use Rattle.gi_pattern.specs.declared.binding.Binding.{Binding};
@@ -26,6 +26,7 @@ ghost use Rattle.gi_valid.specs.Typing.{Phase, Typed};
 ghost use Rattle.gi_valid.specs.Valid.{IsValid};
 ghost use Rattle.gi_refining.specs.Numbered.{is_numbered};
 ghost use Rattle.gi_refining.specs.Replacing.{ReplacesAsWide, is_replacing};
+ghost use Rattle.gi_refining.specs.Whole.{IsReadyFunction, IsRefiningRule};
 ghost use Rattle.gi_refining.specs.Usable.{is_new_in, is_usable};
 ghost use Rattle.gi_refine.specs.Fitting.{blocks_fit};
 ghost use Rattle.gi_refining.specs.Examples.{adds_the_rest, adds_zero, adds_zero_bound, goes_on, takes_five, takes_five_bound};
@@ -189,20 +190,40 @@ pub fn fitting_replacement_refines()
         → IsRefinement x names f (applied x (replacing_of name root definitions tests replaces) b id f) }
 {}
 
+/// One law: a sound rule that makes instructions or replaces registers, and meets the conditions on its own list, refines each valid
+/// function that passes the tests, wherever it fits at an instruction that is formed.
+pub fn sound_rule_refines()
+    ensures { (x : ℕ) (names : List (List ℕ)) (f : FunctionData) (rule : RuleData) (b : Binding) (id : ℕ) (instr : InstrData)
+        → (x ≡ 32) ⊎ (x ≡ 64) → IsRefiningRule rule → IsReadyFunction x names f
+        → IsLive f id → binding_at f rule id ≡ Some b → instr_of f id ≡ Some instr → is_formed instr ≡ true
+        → IsRefinement x names f (applied x rule b id f) }
+{}
+
+/// These example rules are such rules.
+pub fn example_rules_refine()
+    ensures sum_with_zero { IsRefiningRule sum_with_zero }
+    ensures difference_of_same { IsRefiningRule difference_of_same }
+    ensures product_by_power { IsRefiningRule product_by_power }
+    ensures difference_with_constant { IsRefiningRule difference_with_constant }
+    ensures remainder_by_power { IsRefiningRule remainder_by_power }
+    ensures truncated_extension { IsRefiningRule truncated_extension }
+    ensures unmerged_pair { IsRefiningRule unmerged_pair }
+{}
+
 /// The numbers of a function are tested: each id has one instruction, and the function has had the registers that it mentions.
 pub fn tested_numbers_hold()
     ensures own { (f : FunctionData) → is_numbered f ≡ true → AreOwnIds f.blocks f.next_id }
     ensures had { (f : FunctionData) → is_numbered f ≡ true → HasHadAll f }
 {}
 
-/// Example rules in whole functions that are valid: the difference with a constant becomes a sum, and the uses of a sum with zero are
-/// replaced, also in a phi that a run comes to in the next round of a loop. Each premise of the laws is computed.
+/// Example rules in whole functions: the difference with a constant becomes a sum, and the uses of a sum with zero are replaced, also
+/// in a phi that a run comes to in the next round of a loop. Each premise of the law is computed.
 pub fn fitting_rules_are_used()
-    ensures valid { IsValid 32 Typed takes_five }
+    ensures ready { IsReadyFunction 32 [] takes_five }
     ensures fits { binding_at takes_five difference_with_constant 9 ≡ Some takes_five_bound }
     ensures becomes { applied 32 difference_with_constant takes_five_bound 9 takes_five ≡ adds_the_rest }
     ensures refines { IsRefinement 32 [] takes_five adds_the_rest }
-    ensures loop_valid { IsValid 32 Typed adds_zero }
+    ensures loop_ready { IsReadyFunction 32 [] adds_zero }
     ensures loop_fits { binding_at adds_zero sum_with_zero 11 ≡ Some adds_zero_bound }
     ensures loop_becomes { applied 32 sum_with_zero adds_zero_bound 11 adds_zero ≡ goes_on }
     ensures loop_refines { IsRefinement 32 [] adds_zero goes_on }
