@@ -1,6 +1,7 @@
 -- What is known of the states that runs reach where a rule fits.
 use Rattle.std.proofs.Common.{◌≡◌, ℕ, suc, ◌+◌, Bool, true, false, cond, not, ◌&&◌, ◌||◌, ◌==◌, List, [], ◌∷◌, ◌++◌, Some, map, flat_map, slice_get, ⊎_elim, inl, inr, refl, sym, ap, ◌∙◌, subst, arith, append_assoc, eqb-true, eq-eqb, true≢false}
 use Rattle.std.proofs.lemmas.Bool.{and_parts, and_from, or_cases, or_left, or_right, not-true}
+use Rattle.std.proofs.lemmas.Option.{same_Some}
 use Rattle.std.specs.List.{list_all, list_any}
 use Rattle.std.specs.Option.{option_and_then, option_map_or}
 use Rattle.gi_mir.specs.Data.{InstrData, BlockData, FunctionData, no_flags}
@@ -328,15 +329,12 @@ root_reads : (x : ℕ) (names : List (List ℕ)) (f : FunctionData) (w : World) 
     → (tests : List Test) (m : MatchData) (ms : List MatchData) (b c : Binding) → (first : First f tests m ms (Some i.1) b c) → (p : ℕ) → is_in p (places_used m.slots) ≡ true → IsHere x names f w state t c p
 root_reads x names f w state t i back site other tests m ms b c first p inside =
     let (n, used, at) = (match_says m first.instr b first.middle first.fits).used p inside in
-    let same : first.instr ≡ i.1 = some_alike first.instr i.1 first.there in
+    let same : first.instr ≡ i.1 = sym (same_Some i.1 first.instr first.there) in
     record {
       number = n;
       bound = bound_on first.middle c p n (found_extends f tests ms (definition_at f first.middle ms) first.middle c first.rest) at;
       here = use_at f (great_of f) (known_of x t.phase f t.valid) t.place (ahead x names f w state t) i back site other n (subst (λ (j : InstrData). list_any (is_use_of n) j.operands ≡ true) same used);
     }
-  where
-    some_alike : (i j : InstrData) → Some j ≡ Some i → i ≡ j
-    some_alike i j h = cc
 
 -- where the root's operands are available and values fit, what the rule takes for known holds
 pub known_at : (x : ℕ) (names : List (List ℕ)) (f : FunctionData) (w : World) (state : State) (t : Moment x names f w state) (name : ℕ) (root : MatchData) (definitions : List MatchData) (tests : List Test) (replaces : List (ℕ × ℕ)) (makes : List MakeData)
@@ -359,10 +357,7 @@ pub fitting_other : (f : FunctionData) (name : ℕ) (root : MatchData) (definiti
     → binding_at f (rule_with name root definitions tests replaces makes) id ≡ Some b → knows_inputs (rule_with name root definitions tests replaces makes) ≡ true → is_phi instr ≡ false
 fitting_other f name root definitions tests replaces makes b id instr is fits knowing =
     let first : First f tests root definitions (Some instr) empty_binding b = first_found f tests root definitions (Some instr) empty_binding b (sym (ap (λ o. found_from f tests (root ∷ definitions) o empty_binding) is) ∙ fits) in
-    joining_is instr.flags instr.op ∙ ap is_phi_op (ap (λ (i : InstrData). i.op) (some_alike instr first.instr first.there) ∙ first.fits.op) ∙ (knows (map (λ place. Some place) (inputs_of (root ∷ definitions))) root definitions knowing).other
-  where
-    some_alike : (i j : InstrData) → Some i ≡ Some j → i ≡ j
-    some_alike i j h = cc
+    joining_is instr.flags instr.op ∙ ap is_phi_op (ap (λ (i : InstrData). i.op) (same_Some instr first.instr first.there) ∙ first.fits.op) ∙ (knows (map (λ place. Some place) (inputs_of (root ∷ definitions))) root definitions knowing).other
 
 pub fitting_known : (x : ℕ) (phase : Phase) (names : List (List ℕ)) (f : FunctionData) (name : ℕ) (root : MatchData) (definitions : List MatchData) (tests : List Test) (replaces : List (ℕ × ℕ)) (makes : List MakeData) (b : Binding) (id : ℕ) (instr : InstrData)
     → IsValid x phase f → AreOwnIds f.blocks f.next_id → IsLive f id → instr_of f id ≡ Some instr → binding_at f (rule_with name root definitions tests replaces makes) id ≡ Some b

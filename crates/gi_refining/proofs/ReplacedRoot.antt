@@ -1,6 +1,7 @@
 -- Where a result of the root is available, it has the value of what replaces it.
 use Rattle.std.proofs.Common.{◌≡◌, ◌⊎◌, ℕ, Bool, true, false, not, ◌&&◌, ◌==◌, List, [], ◌∷◌, ◌++◌, Some, length, map, refl, sym, ap, ◌∙◌, subst, eqb-true}
 use Rattle.std.proofs.lemmas.Bool.{and_from, and_parts, not-false}
+use Rattle.std.proofs.lemmas.Option.{same_Some}
 use Rattle.std.specs.List.{list_all, list_any}
 use Rattle.gi_mir.specs.Data.{InstrData, FunctionData}
 use Rattle.gi_mir.specs.Edit.{defines, is_use_of}
@@ -94,10 +95,7 @@ pub record IsOwed (u : Replacing) (names : List (List ℕ)) : Type 0 where
 -- ══ The root's definition holds ══
 
 same_instr : (u : Replacing) (names : List (List ℕ)) (o : IsOwed u names) → u.instr ≡ (o.first).instr
-same_instr u names o = some_alike u.instr (o.first).instr (o.first).there
-  where
-    some_alike : (i j : InstrData) → Some i ≡ Some j → i ≡ j
-    some_alike i j h = cc
+same_instr u names o = same_Some u.instr (o.first).instr (o.first).there
 
 pub computing : (u : Replacing) (names : List (List ℕ)) → IsOwed u names → is_computing (meaning_of u.instr.flags u.instr.op) ≡ true
 computing u names o = computing_anyhow u.instr.flags u.instr.op ∙ ap gives_results (o.here).op ∙ o.gives
