@@ -4,8 +4,6 @@ use Rattle.gi_mir.specs.Data.{InstrData, FunctionData}
 use Rattle.gi_mir.specs.Edit.{IsLive, instr_of}
 use Rattle.gi_mir.specs.Formed.{is_formed}
 use Rattle.gi_mir.specs.Ids.{AreOwnIds}
-use Rattle.gi_meaning.specs.Runs.{setting_of}
-use Rattle.gi_refine.specs.Fitting.{blocks_fit}
 use Rattle.gi_refine.specs.Refinement.{IsRefinement}
 use Rattle.gi_pattern.specs.Applying.{applied}
 use Rattle.gi_pattern.specs.Data.{MakeData, MatchData}
@@ -18,11 +16,11 @@ use Rattle.gi_lifting.specs.Uses.{rule_of}
 use Rattle.gi_soundness.specs.Rules.{HasHadAll}
 use Rattle.gi_valid.specs.Typing.{Typed}
 use Rattle.gi_valid.specs.Valid.{IsValid}
-use Rattle.gi_refining.specs.Known.{are_sized, flags_found, knows_inputs}
+use Rattle.gi_refining.specs.Known.{FitsAnywhere, are_sized, flags_found, knows_inputs}
 use Rattle.gi_refining.specs.KnownTypes.{fills_rows, have_types}
 use Rattle.gi_refining.specs.Replacing.{ReplacesAsWide, is_replacing}
 use Rattle.gi_refining.specs.Usable.{is_usable}
-use Rattle.gi_refining.proofs.KnownRule.{fits_before, fits_tested, fitting_known, fitting_other}
+use Rattle.gi_refining.proofs.KnownRule.{fits_before, fitting_known, fitting_other}
 use Rattle.gi_refining.proofs.KnownTypes.{fitting_suits}
 use Rattle.gi_refining.proofs.ReplacedPlaced.{replaced-refines}
 use Rattle.gi_refining.proofs.UsingRefines.{refines-law}
@@ -31,22 +29,22 @@ pub fitting-refines : (x : ℕ) (names : List (List ℕ)) (f : FunctionData) (na
     → (x ≡ 32) ⊎ (x ≡ 64) → IsSoundRule (rule_of name root definitions tests makes) → is_usable (rule_of name root definitions tests makes) ≡ true
     → knows_inputs (rule_of name root definitions tests makes) ≡ true → fills_rows (rule_of name root definitions tests makes) ≡ true
     → IsValid x Typed f → AreOwnIds f.blocks f.next_id → HasHadAll f → are_sized x f ≡ true → have_types f ≡ true
-    → IsLive f id → binding_at f (rule_of name root definitions tests makes) id ≡ Some b → instr_of f id ≡ Some instr → is_formed instr ≡ true → blocks_fit (setting_of x names f) f.blocks ≡ true
+    → IsLive f id → binding_at f (rule_of name root definitions tests makes) id ≡ Some b → instr_of f id ≡ Some instr → is_formed instr ≡ true → FitsAnywhere x names f
     → IsRefinement x names f (applied x (rule_of name root definitions tests makes) b id f)
 fitting-refines x names f name root definitions tests makes b id instr size sound usable knows rows valid own had sized owned live fits at formed fit =
     refines-law x Typed names f name root definitions tests makes b id instr (flags_found f b instr definitions) size sound
     (fitting_suits x f name root definitions tests [] makes b id instr valid own live at fits rows sized owned)
     usable valid own had live fits at formed refl
     (fitting_known x Typed names f name root definitions tests [] makes b id instr valid own live at fits knows sized
-    (fits_before x names f id instr (fits_tested x names f fit) live at (fitting_other f name root definitions tests [] makes b id instr at fits knows)))
+    (fits_before x names f id instr fit live at (fitting_other f name root definitions tests [] makes b id instr at fits knows)))
 
 -- the same of a rule that makes nothing
 pub replacement-refines : (x : ℕ) (names : List (List ℕ)) (f : FunctionData) (name : ℕ) (root : MatchData) (definitions : List MatchData) (tests : List Test) (replaces : List (ℕ × ℕ)) (b : Binding) (id : ℕ) (instr : InstrData)
     → (x ≡ 32) ⊎ (x ≡ 64) → IsSoundRule (replacing_of name root definitions tests replaces) → IsCertainRule (replacing_of name root definitions tests replaces) → ReplacesAsWide (replacing_of name root definitions tests replaces)
     → is_replacing (replacing_of name root definitions tests replaces) ≡ true → knows_inputs (replacing_of name root definitions tests replaces) ≡ true → fills_rows (replacing_of name root definitions tests replaces) ≡ true
-    → IsValid x Typed f → AreOwnIds f.blocks f.next_id → HasHadAll f → are_sized x f ≡ true → have_types f ≡ true → blocks_fit (setting_of x names f) f.blocks ≡ true
+    → IsValid x Typed f → AreOwnIds f.blocks f.next_id → HasHadAll f → are_sized x f ≡ true → have_types f ≡ true → FitsAnywhere x names f
     → IsLive f id → binding_at f (replacing_of name root definitions tests replaces) id ≡ Some b → instr_of f id ≡ Some instr → is_formed instr ≡ true
     → IsRefinement x names f (applied x (replacing_of name root definitions tests replaces) b id f)
 replacement-refines x names f name root definitions tests replaces b id instr size sound certain wide replacing knowing rows valid own had sized owned fit live fits at formed =
     replaced-refines x Typed names f name root definitions tests replaces b id instr size sound certain wide (fitting_suits x f name root definitions tests replaces [] b id instr valid own live at fits rows sized owned)
-    replacing knowing valid own had sized (fits_tested x names f fit) live fits at formed
+    replacing knowing valid own had sized fit live fits at formed

@@ -9,6 +9,7 @@ use Rattle.gi_valid.specs.Valid.{IsValid}
 use Rattle.gi_valid.proofs.Trials.{alone_contained, loop_contained}
 use Rattle.gi_refining.specs.Examples.{adds_the_rest, adds_zero, adds_zero_bound, difference, goes_on, sum, takes_five, takes_five_bound}
 use Rattle.gi_refining.specs.Whole.{IsReadyFunction}
+use Rattle.gi_refining.proofs.KnownRule.{fits_tested}
 use Rattle.gi_refining.proofs.Whole.{difference_with_constant_refines, refining-refines, sum_with_zero_refines}
 
 difference_formed : is_formed difference ≡ true
@@ -30,10 +31,10 @@ adds_zero_valid = record {
 }
 
 pub takes_five_ready : IsReadyFunction 32 [] takes_five
-takes_five_ready = record { valid = takes_five_valid; numbered = refl; sized = refl; typed = refl; fit = refl }
+takes_five_ready = record { valid = takes_five_valid; numbered = refl; sized = refl; typed = refl; fit = fits_tested 32 [] takes_five refl }
 
 pub adds_zero_ready : IsReadyFunction 32 [] adds_zero
-adds_zero_ready = record { valid = adds_zero_valid; numbered = refl; sized = refl; typed = refl; fit = refl }
+adds_zero_ready = record { valid = adds_zero_valid; numbered = refl; sized = refl; typed = refl; fit = fits_tested 32 [] adds_zero refl }
 
 pub takes_five_refined : IsRefinement 32 [] takes_five adds_the_rest
 takes_five_refined = refining-refines 32 [] takes_five difference_with_constant takes_five_bound 9 difference (inl refl) difference_with_constant_refines takes_five_ready refl refl refl difference_formed

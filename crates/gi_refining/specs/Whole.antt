@@ -1,13 +1,11 @@
 -- What is asked of a rule and of a function, together, so that the rule refines the function wherever it fits.
 use Rattle.std.specs.Prelude.{◌≡◌, ◌⊎◌, ℕ, true, List, []}
 use Rattle.gi_mir.specs.Data.{FunctionData}
-use Rattle.gi_meaning.specs.Runs.{setting_of}
 use Rattle.gi_pattern.specs.Data.{RuleData}
-use Rattle.gi_refine.specs.Fitting.{blocks_fit}
 use Rattle.gi_lifting.specs.Sound.{IsCertainRule, IsSoundRule}
 use Rattle.gi_valid.specs.Typing.{Typed}
 use Rattle.gi_valid.specs.Valid.{IsValid}
-use Rattle.gi_refining.specs.Known.{are_sized, knows_inputs}
+use Rattle.gi_refining.specs.Known.{FitsAnywhere, are_sized, knows_inputs}
 use Rattle.gi_refining.specs.KnownTypes.{fills_rows, have_types}
 use Rattle.gi_refining.specs.Numbered.{is_numbered}
 use Rattle.gi_refining.specs.Replacing.{ReplacesAsWide, is_replacing}
@@ -32,10 +30,10 @@ pub record IsRefiningRule (rule : RuleData) : Type 0 where
   pub rows : fills_rows rule ≡ true
   pub side : MakesAlone rule ⊎ ReplacesAlone rule
 
--- A valid function of generic code that passes the tests of numbers, of constants, of types and of sizes.
+-- A valid function of generic code that passes the tests of numbers, of constants and of types, and in which values fit.
 pub record IsReadyFunction (x : ℕ) (names : List (List ℕ)) (f : FunctionData) : Type 0 where
   pub valid : IsValid x Typed f
   pub numbered : is_numbered f ≡ true
   pub sized : are_sized x f ≡ true
   pub typed : have_types f ≡ true
-  pub fit : blocks_fit (setting_of x names f) f.blocks ≡ true
+  pub fit : FitsAnywhere x names f

@@ -128,7 +128,7 @@ pub fn example_rules_fill_rows()
 {}
 
 /// Together: a sound rule that meets these conditions on its own list refines each valid function of generic code in which it
-/// fits, where constants are as wide as their registers and the function passes the test of sizes.
+/// fits, where constants are as wide as their registers and values fit wherever runs come, which `tested_values_fit` gives.
 pub fn fitting_rule_refines()
     ensures { (x : ℕ) (names : List (List ℕ)) (f : FunctionData) (name : ℕ) (root : MatchData) (definitions : List MatchData) (tests : List Test) (makes : List MakeData) (b : Binding) (id : ℕ) (instr : InstrData)
         → (x ≡ 32) ⊎ (x ≡ 64)
@@ -138,7 +138,7 @@ pub fn fitting_rule_refines()
         → fills_rows (rule_of name root definitions tests makes) ≡ true
         → IsValid x Typed f → AreOwnIds f.blocks f.next_id → HasHadAll f → are_sized x f ≡ true → have_types f ≡ true
         → IsLive f id → binding_at f (rule_of name root definitions tests makes) id ≡ Some b
-        → instr_of f id ≡ Some instr → is_formed instr ≡ true → blocks_fit (setting_of x names f) f.blocks ≡ true
+        → instr_of f id ≡ Some instr → is_formed instr ≡ true → FitsAnywhere x names f
         → IsRefinement x names f (applied x (rule_of name root definitions tests makes) b id f) }
 {}
 
@@ -184,14 +184,14 @@ pub fn fitting_replacement_refines()
         → is_replacing (replacing_of name root definitions tests replaces) ≡ true
         → knows_inputs (replacing_of name root definitions tests replaces) ≡ true
         → fills_rows (replacing_of name root definitions tests replaces) ≡ true
-        → IsValid x Typed f → AreOwnIds f.blocks f.next_id → HasHadAll f → are_sized x f ≡ true → have_types f ≡ true → blocks_fit (setting_of x names f) f.blocks ≡ true
+        → IsValid x Typed f → AreOwnIds f.blocks f.next_id → HasHadAll f → are_sized x f ≡ true → have_types f ≡ true → FitsAnywhere x names f
         → IsLive f id → binding_at f (replacing_of name root definitions tests replaces) id ≡ Some b
         → instr_of f id ≡ Some instr → is_formed instr ≡ true
         → IsRefinement x names f (applied x (replacing_of name root definitions tests replaces) b id f) }
 {}
 
 /// One law: a sound rule that makes instructions or replaces registers, and meets the conditions on its own list, refines each valid
-/// function that passes the tests, wherever it fits at an instruction that is formed.
+/// function that passes the tests and in which values fit, wherever it fits at an instruction that is formed.
 pub fn sound_rule_refines()
     ensures { (x : ℕ) (names : List (List ℕ)) (f : FunctionData) (rule : RuleData) (b : Binding) (id : ℕ) (instr : InstrData)
         → (x ≡ 32) ⊎ (x ≡ 64) → IsRefiningRule rule → IsReadyFunction x names f
