@@ -57,14 +57,14 @@ cut_back_certain x w flags more m n = record {
       subst (λ (env : Environment). Correspond ((2, 1) ∷ []) env env) (same_Some _ old (sym is)) (ap (λ k. Some (n, k)) (sym low), tt);
 }
 
-record CutBack (types : Types) : Type 0 where
+pub record CutBack (types : Types) : Type 0 where
   pub narrow : ℕ
   pub wide : ℕ
   pub first : types 0 ≡ Scalar narrow
   pub second : types 1 ≡ Scalar narrow
   pub third : types 2 ≡ Scalar wide
 
-cut_back_known : (x : ℕ) (types : Types) (b : Binding) → Suits x truncated_extension types b → CutBack types
+pub cut_back_known : (x : ℕ) (types : Types) (b : Binding) → Suits x truncated_extension types b → CutBack types
 cut_back_known x types b suits =
     let are = cut_scalars x (types 0) (types 2) (first_of _ _ suits.typed) in
     record {

@@ -1,5 +1,5 @@
 -- What is known of reached states, from tests.
-use Rattle.std.proofs.Common.{◌≡◌, Bool, false, suc, Option, Some, None, slice_get, List, [], ◌∷◌, ◌++◌, ℕ, true, sym, subst}
+use Rattle.std.proofs.Common.{◌≡◌, Bool, false, suc, Option, Some, slice_get, List, [], ◌∷◌, ◌++◌, ℕ, true, sym, subst}
 use Rattle.std.proofs.lemmas.Bool.{and_parts}
 use Rattle.gi_mir.specs.Data.{InstrData, BlockData, FunctionData}
 use Rattle.gi_meaning.specs.State.{IsWorld, State, World, outside_of}

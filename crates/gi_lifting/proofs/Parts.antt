@@ -93,12 +93,12 @@ alike_parted x a b whole h = third_of (is_scalar x whole) (is_scalar x a) (same_
 alike_joined : (x : ℕ) (whole a b : Llt) → accepts x op.GenericMergeValues (whole ∷ []) (a ∷ b ∷ []) ≡ true → same_type a b ≡ true
 alike_joined x whole a b h = third_of (is_scalar x whole) (is_scalar x a) (same_type a b) (is_sum whole a 2) h
 
-record PartsBack (types : Types) : Type 0 where
+pub record PartsBack (types : Types) : Type 0 where
   pub second : types 1 ≡ types 0
   pub third : types 3 ≡ types 0
   pub fourth : types 4 ≡ types 0
 
-parts_known : (x : ℕ) (types : Types) (b : Binding) → Suits x unmerged_pair types b → PartsBack types
+pub parts_known : (x : ℕ) (types : Types) (b : Binding) → Suits x unmerged_pair types b → PartsBack types
 parts_known x types b suits =
     let third : types 3 ≡ types 0 = same_types (types 0) (types 3) (first_of _ true suits.tested) in
     record {

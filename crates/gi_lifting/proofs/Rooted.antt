@@ -5,7 +5,7 @@ use Rattle.gi_mir.specs.Edit.{home_of, instr_of}
 use Rattle.gi_mir.specs.declared.operand.Flags.{Flags}
 use Rattle.gi_mir.specs.declared.operand.Operand.{Operand}
 use Rattle.gi_mir.specs.declared.operand.Operand.TheVariants as operand
-use Rattle.gi_meaning.specs.Runs.{after_phis, setting_of, Setting}
+use Rattle.gi_meaning.specs.Runs.{Executes, On, after_phis, setting_of, Setting}
 use Rattle.gi_meaning.specs.State.{IsWorld, Place, State, Virtual, Physical, World}
 use Rattle.gi_pattern.specs.Data.{MakeData, MatchData}
 use Rattle.gi_pattern.specs.Fitting.{binding_at, exchanged, found, is_commutative}
@@ -23,6 +23,7 @@ use Rattle.gi_refine.specs.Reached.{IsReached, WhereReached}
 use Rattle.gi_refine.specs.RuleUse.{width_in}
 use Rattle.gi_refine.specs.Simulation.{IsFollowed}
 use Rattle.gi_refine.specs.Values.{At, IsCertain, IsSound, Operation, Rule, Slot as Taken, are_pure}
+use Rattle.gi_refine.proofs.ValuesCertain.{certain_same}
 use Rattle.gi_refine.proofs.RulesUsed.{use_followed, uses_replaced as uses_held}
 use Rattle.gi_lifting.specs.Fits.{IsBound}
 use Rattle.gi_lifting.specs.OnValues.{asked, inputs_of, position, results_of, taken_for}
@@ -71,21 +72,21 @@ pub record NewSide (x : ℕ) (names : List (List ℕ)) (f g : FunctionData) (rul
 -- ---- the old instruction is the operation, as it is written or turned
 
 -- what is known of a rule's old operation, in some order of its operands
-record OldSide (x : ℕ) (names : List (List ℕ)) (f : FunctionData) (rule : Rule) (placing : Placing) (block : ℕ) (before old : List (ℕ × InstrData)) : Type 0 where
+record OldSide (x : ℕ) (names : List (List ℕ)) (f : FunctionData) (rule : Rule) (placing : Placing) (old : List (ℕ × InstrData)) : Type 0 where
   pub turned : List Operation
   pub pure : are_pure turned ≡ true
   pub shown : (w : World) → AllShow (setting x names (width_in x f)) w placing.inputs placing.old turned old
   pub sound : (w : World) → IsSound x w rule → IsSound x w (record rule { old = turned })
   pub certain : (w : World) → IsCertain x w rule → IsCertain x w (record rule { old = turned })
-  pub known : (w : World) → IsWorld x w → (state : State) → IsReached (setting_of x names f) w f.blocks block before state → IsKnown (setting_of x names f) w (record rule { old = turned }) placing.inputs state
+  pub known : (w : World) → (state : State) → IsKnown (setting_of x names f) w rule placing.inputs state → IsKnown (setting_of x names f) w (record rule { old = turned }) placing.inputs state
 
 old-side : (x : ℕ) (names : List (List ℕ)) (f : FunctionData) (name : ℕ) (root : MatchData) (definitions : List MatchData) (tests : List Test) (replaces : List (ℕ × ℕ)) (makes : List MakeData) (b : Binding) (id : ℕ) (instr : InstrData) (flags : ℕ → Flags)
     → IsAt x names f (rule_with name root definitions tests replaces makes) root b id instr flags
-    → OldSide x names f (on_values x f (rule_with name root definitions tests replaces makes) b flags) (placing_of f (rule_with name root definitions tests replaces makes) b root) (home_of f id) (after_phis (front_of f id)) ((id, instr) ∷ [])
+    → OldSide x names f (on_values x f (rule_with name root definitions tests replaces makes) b flags) (placing_of f (rule_with name root definitions tests replaces makes) b root) ((id, instr) ∷ [])
 old-side x names f name root definitions tests replaces makes b id instr flags at = by at.bound
   where
     by : IsBound b root instr
-        → OldSide x names f (on_values x f (rule_with name root definitions tests replaces makes) b flags) (placing_of f (rule_with name root definitions tests replaces makes) b root) (home_of f id) (after_phis (front_of f id)) ((id, instr) ∷ [])
+        → OldSide x names f (on_values x f (rule_with name root definitions tests replaces makes) b flags) (placing_of f (rule_with name root definitions tests replaces makes) b root) ((id, instr) ∷ [])
     by (inl bound) =
         let ps = inputs_of (root ∷ definitions) in
         record {
@@ -103,7 +104,7 @@ old-side x names f name root definitions tests replaces makes b id instr flags a
           );
           sound = λ w sound. sound;
           certain = λ w certain. certain;
-          known = at.known;
+          known = λ w state known. known;
         }
     by (inr t) =
         let ps = inputs_of (root ∷ definitions) in
@@ -133,8 +134,7 @@ old-side x names f name root definitions tests replaces makes b id instr flags a
           );
           sound = λ w sound. sound-turned x w values o i j refl t.commutes slots sound;
           certain = λ w certain. certain-turned x w values o i j refl t.commutes slots certain;
-          known = λ w is_world state reached.
-              let known = at.known w is_world state reached in
+          known = λ w state known.
               record {
                 there = there-turned i j state.values 0 (registers_at b ps) (subst (λ (ss : List Taken). AreThere ss state.values 0 (registers_at b ps)) slots known.there);
                 sized = known.sized;
@@ -174,7 +174,7 @@ root-follows x names f g name root definitions tests replaces makes b id instr f
         seen = side.seen;
         covered = λ p shown. left-same (only_virtual hidden) values old.turned placing p ∙ side.covered p shown;
       };
-      known = old.known;
+      known = λ v is state reached. old.known v state (at.known v is state reached);
     })
     w is_world
 
@@ -194,8 +194,22 @@ root-certain x names f name root definitions tests replaces makes b id instr fla
       shown = λ v is. old.shown v;
       fresh = at.fresh;
       widths = λ v is. at.inputs;
-      known = old.known;
+      known = λ v is state reached. old.known v state (at.known v is state reached);
     })
+
+-- from any state of which enough is known, behind the root
+pub root-same : (x : ℕ) (names : List (List ℕ)) (f : FunctionData) (name : ℕ) (root : MatchData) (definitions : List MatchData) (tests : List Test) (replaces : List (ℕ × ℕ)) (makes : List MakeData) (b : Binding) (id : ℕ) (instr : InstrData) (flags : ℕ → Flags)
+    → IsAt x names f (rule_with name root definitions tests replaces makes) root b id instr flags
+    → (w : World) → IsCertain x w (on_values x f (rule_with name root definitions tests replaces makes) b flags) → (state final : State)
+    → IsKnown (setting_of x names f) w (on_values x f (rule_with name root definitions tests replaces makes) b flags) (placing_of f (rule_with name root definitions tests replaces makes) b root).inputs state
+    → Executes (setting_of x names f) w ((id, instr) ∷ []) state (On final)
+    → AllSame final.values (all_grown (placing_of f (rule_with name root definitions tests replaces makes) b root).inputs (placing_of f (rule_with name root definitions tests replaces makes) b root).old)
+    (on_values x f (rule_with name root definitions tests replaces makes) b flags).kept
+root-same x names f name root definitions tests replaces makes b id instr flags at w certain state final known run =
+    let rule = rule_with name root definitions tests replaces makes in
+    let values = on_values x f rule b flags in
+    let old = old-side x names f name root definitions tests replaces makes b id instr flags at in
+    certain_same (setting_of x names f) w (record values { old = old.turned }) (placing_of f rule b root) ((id, instr) ∷ []) state final (old.certain w certain) old.pure (old.shown w) at.fresh at.inputs (old.known w state known) run
 
 -- ---- what a rule finds of its root
 

@@ -65,7 +65,7 @@ sum_with_zero_is : (x : ℕ) (types : Types) (b : Binding) (flags : ℕ → Flag
 sum_with_zero_is x types b flags n zero one two read value = rw (zero, one, two, read.is, bits-back n read.value read.some read.fits, value) refl
 
 -- what is known where the rule fits
-record SumWithZero (x : ℕ) (types : Types) (b : Binding) : Type 0 where
+pub record SumWithZero (x : ℕ) (types : Types) (b : Binding) : Type 0 where
   pub bits : ℕ
   pub first : types 0 ≡ Scalar bits
   pub second : types 1 ≡ Scalar bits
@@ -73,7 +73,7 @@ record SumWithZero (x : ℕ) (types : Types) (b : Binding) : Type 0 where
   pub read : IsRead b 0 bits
   pub zero : read.value ≡ 0
 
-sum_with_zero_known : (x : ℕ) (types : Types) (b : Binding) → Suits x sum_with_zero types b → SumWithZero x types b
+pub sum_with_zero_known : (x : ℕ) (types : Types) (b : Binding) → Suits x sum_with_zero types b → SumWithZero x types b
 sum_with_zero_known x types b suits =
     let one = two_scalars x (types 0) (types 1) (types 2) (first_of _ _ suits.typed) in
     let read : IsRead b 0 one.bits = subst (λ (ty : Llt). IsRead b 0 (width_of x ty)) one.third suits.read.1.0 in

@@ -1,5 +1,5 @@
 -- What a match binds of an instruction, slot by slot.
-use Rattle.std.proofs.Common.{◌≡◌, ◌⊎◌, inl, inr, ℕ, zero, suc, ◌≤◌, ◌<◌, ◌^◌, ◌%◌, Bool, true, false, cond, ◌&&◌, ◌==◌, nat_le, List, [], ◌∷◌, Option, Some, None, set, slice_get, refl, sym, ap, ap₂, ◌∙◌, subst, eqb-true}
+use Rattle.std.proofs.Common.{◌≡◌, ◌⊎◌, inl, inr, ℕ, zero, suc, ◌≤◌, Bool, true, false, cond, ◌&&◌, ◌==◌, nat_le, List, [], ◌∷◌, Option, Some, None, set, slice_get, refl, sym, ap, ap₂, ◌∙◌, subst, eqb-true}
 use Rattle.std.proofs.lemmas.Bool.{and_parts, leb-true}
 use Rattle.std.proofs.lemmas.Bool.Decides.{Decides-int_eq}
 use Rattle.std.specs.Option.{option_and_then, option_map_or, option_or}
@@ -13,7 +13,7 @@ use Rattle.gi_mir.specs.declared.operand.Operand.TheVariants as operand
 use Rattle.gi_mir.specs.declared.operand.Pred.{Pred as Predicate}
 use Rattle.gi_mir.specs.declared.operand.Pred.TheVariants.{Eq}
 use Rattle.gi_mir.specs.declared.operand.Reg.{Reg}
-use Rattle.gi_pattern.specs.Binding.{constant_value, kept_if, pred_bound, register_at, register_bound, same_pred, slot_bound, slots_bound, value_at, value_bound, whole_value, with_pred, with_register, with_value}
+use Rattle.gi_pattern.specs.Binding.{constant_value, kept_if, pred_bound, register_at, register_bound, same_pred, slot_bound, slots_bound, value_at, value_bound, whole_value, with_pred, with_value}
 use Rattle.gi_pattern.specs.Data.{MatchData}
 use Rattle.gi_pattern.specs.Fitting.{all_pass, bound_as_written, bound_exchanged, definition_at, exchanged, found, is_commutative, same_op}
 use Rattle.gi_pattern.specs.Making.{pred_made}

@@ -1,9 +1,9 @@
 -- A definition that holds between present values is a fact of the rule that found it.
-use Rattle.std.proofs.Common.{◌≡◌, ℕ, suc, ◌<◌, ◌≤◌, ◌^◌, Bool, true, false, cond, not, ◌&&◌, ◌||◌, ◌==◌, nat_lt, List, [], ◌∷◌, ◌++◌, Option, Some, None, map, option_map, flat_map, slice_get, ◌⊎◌, inl, inr, ⊎_elim, refl, sym, ap, ap₂, ◌∙◌, subst, eqb-true, eq-eqb, mod-eq_of_lt}
-use Rattle.std.proofs.lemmas.Bool.{and_parts, and_from, or_cases, or_left, or_right, not-true, ltb-true}
+use Rattle.std.proofs.Common.{◌≡◌, ℕ, ◌<◌, ◌^◌, Bool, true, false, not, ◌&&◌, ◌||◌, ◌==◌, nat_lt, List, [], ◌∷◌, ◌++◌, Option, Some, None, map, option_map, flat_map, slice_get, ◌⊎◌, inl, inr, ⊎_elim, refl, sym, ap, ap₂, ◌∙◌, subst, eqb-true, mod-eq_of_lt}
+use Rattle.std.proofs.lemmas.Bool.{and_parts, or_cases, or_left, or_right, not-true, ltb-true}
 use Rattle.std.specs.List.{list_all, list_any}
 use Rattle.std.specs.Option.{option_map_or}
-use Rattle.gi_llt.specs.Bits.{signed, unsigned, wrapped}
+use Rattle.gi_llt.specs.Bits.{signed, unsigned}
 use Rattle.gi_mir.specs.Data.{InstrData, FunctionData, reg_of}
 use Rattle.gi_mir.specs.Formed.{is_constant}
 use Rattle.gi_mir.specs.declared.opcode.Opcode.{Opcode}
@@ -21,25 +21,25 @@ use Rattle.gi_meaning.specs.State.{Outside, State, World}
 use Rattle.gi_pattern.specs.Binding.{register_at, value_at, whole_value}
 use Rattle.gi_pattern.specs.Data.{MatchData}
 use Rattle.gi_pattern.specs.Fitting.{exchanged, is_commutative}
-use Rattle.gi_pattern.specs.Making.{pred_made, register_or}
+use Rattle.gi_pattern.specs.Making.{register_or}
 use Rattle.gi_pattern.specs.declared.binding.Binding.{Binding}
 use Rattle.gi_pattern.specs.declared.binding.BoundValue.{BoundValue}
 use Rattle.gi_pattern.specs.declared.rule.Slot.{Slot}
 use Rattle.gi_pattern.specs.declared.rule.Slot.TheVariants as slot
 use Rattle.gi_refine.specs.Lifting.{HasValue, Reads}
 use Rattle.gi_refine.specs.RuleUse.{width_in}
-use Rattle.gi_refine.specs.Values.{Acts, ActsFrom, At, Defines, Environment, Fixed, Holds, Operation, Slot as Taken, StandAt, argument_at, arguments_at}
+use Rattle.gi_refine.specs.Values.{Acts, ActsFrom, Defines, Environment, Holds, Operation, StandAt, arguments_at}
 use Rattle.gi_refine.proofs.ValuesStepped.{BothRead, both_read}
 use Rattle.gi_valid.specs.Facts.{AreHeld, HoldsDefinition, is_computing}
 use Rattle.gi_valid.specs.Typing.{results_in}
 use Rattle.gi_lifting.specs.OnValues.{Names, Types, asked, number_in, position, results_of, sources_of, taken_for, width_at}
-use Rattle.gi_lifting.specs.Placed.{AreNamed, is_named, types_in}
+use Rattle.gi_lifting.specs.Placed.{is_named, types_in}
 use Rattle.gi_lifting.proofs.Exchanged.{acts-turned}
 use Rattle.gi_lifting.proofs.Powers.{bits-back}
 use Rattle.gi_lifting.proofs.Roots.{inputs-named, width-bound}
 use Rattle.gi_soundness.specs.Rules.{is_in, is_looked_at}
 use Rattle.gi_refining.specs.Known.{are_named, is_of_two, is_sized}
-use Rattle.gi_refining.proofs.KnownBound.{AreInOrder, IsConstantAt, PredIs, SlotIs, SlotsAre, pred_is_made}
+use Rattle.gi_refining.proofs.KnownBound.{AreInOrder, IsConstantAt, SlotsAre, pred_is_made}
 
 -- ══ What stands at the places ══
 

@@ -1,6 +1,7 @@
 -- What is known of the states that runs reach where a rule fits.
-use Rattle.std.proofs.Common.{◌≡◌, ℕ, zero, suc, ◌+◌, Bool, true, false, cond, not, ◌&&◌, ◌||◌, ◌==◌, List, [], ◌∷◌, ◌++◌, Option, Some, None, map, flat_map, drop, take, slice_get, ⊎_elim, inl, inr, refl, sym, ap, ap₂, ◌∙◌, subst, arith, eqb-true, eq-eqb, true≢false}
+use Rattle.std.proofs.Common.{◌≡◌, ℕ, suc, ◌+◌, Bool, true, false, cond, not, ◌&&◌, ◌||◌, ◌==◌, List, [], ◌∷◌, ◌++◌, Some, map, flat_map, slice_get, ⊎_elim, inl, inr, refl, sym, ap, ◌∙◌, subst, arith, append_assoc, eqb-true, eq-eqb, true≢false}
 use Rattle.std.proofs.lemmas.Bool.{and_parts, and_from, or_cases, or_left, or_right, not-true}
+use Rattle.std.proofs.lemmas.Option.{same_Some}
 use Rattle.std.specs.List.{list_all, list_any}
 use Rattle.std.specs.Option.{option_and_then, option_map_or}
 use Rattle.gi_mir.specs.Data.{InstrData, BlockData, FunctionData, no_flags}
@@ -18,35 +19,33 @@ use Rattle.gi_meaning.specs.Meaning.{meaning_of}
 use Rattle.gi_meaning.specs.Runs.{after_phis, is_phi, phis_of, setting_of}
 use Rattle.gi_meaning.specs.State.{IsWorld, Outside, State, World, outside_of}
 use Rattle.gi_pattern.specs.Binding.{empty_binding, register_at}
-use Rattle.gi_pattern.specs.Data.{MakeData, MatchData, RuleData}
-use Rattle.gi_pattern.specs.Fitting.{binding_at, definition_at, found as found_from, is_commutative, place_defined}
+use Rattle.gi_pattern.specs.Data.{MakeData, MatchData}
+use Rattle.gi_pattern.specs.Fitting.{binding_at, definition_at, found as found_from, place_defined}
 use Rattle.gi_pattern.specs.Making.{register_or}
 use Rattle.gi_pattern.specs.declared.binding.Binding.{Binding}
 use Rattle.gi_pattern.specs.declared.rule.Slot.{Slot}
 use Rattle.gi_pattern.specs.declared.rule.Slot.TheVariants as slot
 use Rattle.gi_pattern.specs.declared.rule.Test.{Test}
-use Rattle.gi_refine.specs.Fitting.{blocks_fit}
+use Rattle.gi_refine.specs.Fitting.{IsFit, blocks_fit}
 use Rattle.gi_refine.specs.Lifting.{AreThere, HasValue, IsKnown as IsKnownState, takes}
 use Rattle.gi_refine.specs.Reached.{IsReached}
 use Rattle.gi_refine.specs.RuleUse.{width_in}
 use Rattle.gi_refine.specs.Values.{AllHold, Defines, Environment, Holds}
 use Rattle.gi_refine.proofs.Fitted.{fit_sized, fit_where_reached}
-use Rattle.gi_valid.specs.Available.{Extent, IsAvailable}
-use Rattle.gi_valid.specs.Definitions.{IsComputedFrom, definition, is_pure, uses_purely}
-use Rattle.gi_valid.specs.Facts.{HoldsDefinition, is_computing, is_fixed, is_steady}
+use Rattle.gi_valid.specs.Definitions.{definition, is_pure, uses_purely}
+use Rattle.gi_valid.specs.Facts.{is_computing, is_fixed, is_steady}
 use Rattle.gi_valid.specs.Typing.{Phase}
 use Rattle.gi_valid.specs.Valid.{IsValid}
 use Rattle.gi_valid.proofs.Holding.{definition_holds}
-use Rattle.gi_valid.proofs.Sited.{splits_whole}
+use Rattle.gi_valid.proofs.Sited.{phis_and_others}
 use Rattle.gi_valid.proofs.Valid.{orderly}
 use Rattle.gi_lifting.specs.OnValues.{Names, asked, facts_of, inputs_of, position, results_of, sources_of, taken_for}
-use Rattle.gi_lifting.specs.Placed.{is_named, types_in}
+use Rattle.gi_lifting.specs.Placed.{types_in}
 use Rattle.gi_lifting.specs.Uses.{back_of, front_of, on_values, placing_of, rule_with}
 use Rattle.gi_lifting.proofs.Used.{entry-of, get-within, split-at}
-use Rattle.gi_soundness.specs.Rewriting.{IsOneOf}
 use Rattle.gi_soundness.specs.Rules.{defines_one, is_in, is_looked_at, is_pure_match, is_result, computes, places_used}
 use Rattle.gi_soundness.proofs.Binding.{Extends, IsBound, bound_on}
-use Rattle.gi_soundness.proofs.Circles.{IsKnown, is_here, joining_is, use_at}
+use Rattle.gi_soundness.proofs.Circles.{is_here, joining_is, use_at}
 use Rattle.gi_soundness.proofs.Found.{HasDefinition, bound_alike, definition_found}
 use Rattle.gi_soundness.proofs.Matching.{found_extends, match_says, pure_found}
 use Rattle.gi_soundness.proofs.Rule.{one_passes}
@@ -54,13 +53,13 @@ use Rattle.gi_soundness.proofs.Sites.{IsSite}
 use Rattle.gi_soundness.proofs.Staying.{origin_here}
 use Rattle.gi_soundness.proofs.Typed.{found_there}
 use Rattle.gi_soundness.proofs.Valid.{great_of, known_of}
-use Rattle.gi_refining.specs.Known.{FitsBefore, are_named, are_sized, are_taken_or_told, are_told, flags_behind, flags_found, gives_results, is_of_two, is_ordered, is_sized, is_told, knows_from, knows_inputs, places_told, positions_taken}
+use Rattle.gi_refining.specs.Known.{FitsAnywhere, FitsBefore, are_named, are_sized, are_taken_or_told, are_told, flags_behind, flags_found, gives_results, is_of_two, is_ordered, is_sized, is_told, knows_from, knows_inputs, places_told, positions_taken}
 use Rattle.gi_refining.proofs.KnownBound.{AreInOrder, First, SlotsAre, Stays, first_found, found_stays, order_stays, stays_on}
 use Rattle.gi_refining.proofs.KnownFacts.{IsDefinedBy, OperandsFit, Stands, definition_fact, definition_there, in_either, inputs_stand, operands_fit, other_way, slots_turned, turned_looked, two_of}
 
 -- ══ Steady definitions ══
 
-computing_anyhow : (flags : Flags) (o : Opcode) → is_computing (meaning_of flags o) ≡ gives_results o
+pub computing_anyhow : (flags : Flags) (o : Opcode) → is_computing (meaning_of flags o) ≡ gives_results o
 computing_anyhow flags op.Copy = refl
 computing_anyhow flags _ = refl
 
@@ -76,7 +75,7 @@ written_fixed c (slot.Pred want ∷ ss) (operand.Predicate pred ∷ os) looked a
 written_fixed c (slot.Any ∷ ss) (o ∷ os) looked are = cc
 written_fixed c (_ ∷ ss) (_ ∷ os) looked are = absurd are.0
 
-fixed_found : (c : Binding) (m : MatchData) (i : InstrData) → list_all is_looked_at m.slots ≡ true → is_ordered m ≡ true → AreInOrder c m i → list_all is_fixed i.operands ≡ true
+pub fixed_found : (c : Binding) (m : MatchData) (i : InstrData) → list_all is_looked_at m.slots ≡ true → is_ordered m ≡ true → AreInOrder c m i → list_all is_fixed i.operands ≡ true
 fixed_found c m i looked ordered (inl are) = written_fixed c m.slots i.operands looked are
 fixed_found c m i looked ordered (inr turned) =
     let two : is_of_two m.slots ≡ true = two_of m ordered turned.0 in
@@ -84,30 +83,33 @@ fixed_found c m i looked ordered (inr turned) =
 
 -- ══ A reached state of a valid function ══
 
-record Moment (x : ℕ) (names : List (List ℕ)) (f : FunctionData) (w : World) (state : State) : Type 0 where
-  is_world : IsWorld x w
-  phase : Phase
-  valid : IsValid x phase f
-  own : AreOwnIds f.blocks f.next_id
-  sized : are_sized x f ≡ true
-  place : ℕ
-  body : BlockData
-  before : List (ℕ × InstrData)
-  root : ℕ × InstrData
-  back : List (ℕ × InstrData)
-  there : slice_get f.blocks place ≡ Some body
-  splits : after_phis body.instrs ≡ before ++ root ∷ back
-  reached : IsReached (setting_of x names f) w f.blocks place before state
+pub record Moment (x : ℕ) (names : List (List ℕ)) (f : FunctionData) (w : World) (state : State) : Type 0 where
+  pub is_world : IsWorld x w
+  pub phase : Phase
+  pub valid : IsValid x phase f
+  pub own : AreOwnIds f.blocks f.next_id
+  pub sized : are_sized x f ≡ true
+  pub place : ℕ
+  pub body : BlockData
+  pub before : List (ℕ × InstrData)
+  pub back : List (ℕ × InstrData)
+  pub there : slice_get f.blocks place ≡ Some body
+  pub splits : after_phis body.instrs ≡ before ++ back
+  pub reached : IsReached (setting_of x names f) w f.blocks place before state
 
 -- what stands in front, phis and all
-abbrev ahead : (x : ℕ) (names : List (List ℕ)) (f : FunctionData) (w : World) (state : State) → Moment x names f w state → List (ℕ × InstrData)
+abbrev pub ahead : (x : ℕ) (names : List (List ℕ)) (f : FunctionData) (w : World) (state : State) → Moment x names f w state → List (ℕ × InstrData)
 ahead x names f w state t = phis_of t.body.instrs ++ t.before
 
+-- the block is what stands in front and what stands behind
+pub whole : (x : ℕ) (names : List (List ℕ)) (f : FunctionData) (w : World) (state : State) (t : Moment x names f w state) → t.body.instrs ≡ ahead x names f w state t ++ t.back
+whole x names f w state t = phis_and_others t.body.instrs ∙ ap (λ l. phis_of t.body.instrs ++ l) t.splits ∙ sym (append_assoc (phis_of t.body.instrs) t.before t.back)
+
 -- a place where an available register is bound
-record IsHere (x : ℕ) (names : List (List ℕ)) (f : FunctionData) (w : World) (state : State) (t : Moment x names f w state) (c : Binding) (p : ℕ) : Type 0 where
-  number : ℕ
-  bound : IsBound c p number
-  here : is_here (great_of f) t.place (ahead x names f w state t) number ≡ true
+pub record IsHere (x : ℕ) (names : List (List ℕ)) (f : FunctionData) (w : World) (state : State) (t : Moment x names f w state) (c : Binding) (p : ℕ) : Type 0 where
+  pub number : ℕ
+  pub bound : IsBound c p number
+  pub here : is_here (great_of f) t.place (ahead x names f w state t) number ≡ true
 
 -- what definitions tell
 record Told (x : ℕ) (names : List (List ℕ)) (f : FunctionData) (w : World) (state : State) (c : Binding) (places : Names) (ms : List MatchData) : Type 0 where
@@ -142,7 +144,7 @@ defined_by x names f w state t b c places read m i tells d here same pure order 
   op = same;
   computes = computing;
   fit = subst (λ o. OperandsFit o i.operands) same (operands_fit (width_in x f) i.op i.operands (one_passes (λ p. is_sized (width_in x f) p.1.op p.1.operands) (d.id, i) (all_instrs f.blocks) t.sized (found_there _ (all_instrs f.blocks) (d.id, i) d.is).0));
-  holds = definition_holds x names f w t.is_world (orderly x t.phase f t.valid) t.place t.body t.before (t.root ∷ t.back) t.there t.splits d.register.0 (d.id, i)
+  holds = definition_holds x names f w t.is_world (orderly x t.phase f t.valid) t.place t.body t.before t.back t.there t.splits d.register.0 (d.id, i)
       (record { extent = great_of f d.register.0; contained = ((known_of x t.phase f t.valid).greatest d.register.0).contained; holds = here })
       d.is steady state t.reached;
 }
@@ -220,8 +222,7 @@ step x names f w state t tests places read m ms b c h tells known = record { ins
         record {
           number = n;
           bound = bound_on first.middle c p n extends at;
-          here = origin_here f (great_of f) (known_of x t.phase f t.valid) d.register.0 n (record { others = 0; over = purely }) t.place t.body t.there (ahead x names f w state t) (t.root ∷ t.back)
-              (splits_whole t.body.instrs t.before t.root t.back t.splits) here;
+          here = origin_here f (great_of f) (known_of x t.phase f t.valid) d.register.0 n (record { others = 0; over = purely }) t.place t.body t.there (ahead x names f w state t) t.back (whole x names f w state t) here;
         }
 
 -- ══ All definitions ══
@@ -275,12 +276,12 @@ inputs_there state b o names ss told has k (p ∷ ps) h =
     )
 
 -- what a rule asks of its own list
-record Knows (names : Names) (root : MatchData) (ms : List MatchData) : Type 0 where
-  other : is_phi_op root.op ≡ false
-  told : are_told names (places_used root.slots) ms ≡ true
-  all : are_taken_or_told (positions_taken names root.slots) (places_told ms) 0 (inputs_of (root ∷ ms)) ≡ true
+pub record Knows (names : Names) (root : MatchData) (ms : List MatchData) : Type 0 where
+  pub other : is_phi_op root.op ≡ false
+  pub told : are_told names (places_used root.slots) ms ≡ true
+  pub all : are_taken_or_told (positions_taken names root.slots) (places_told ms) 0 (inputs_of (root ∷ ms)) ≡ true
 
-knows : (names : Names) (root : MatchData) (ms : List MatchData) → knows_from names root ms ≡ true → Knows names root ms
+pub knows : (names : Names) (root : MatchData) (ms : List MatchData) → knows_from names root ms ≡ true → Knows names root ms
 knows names root ms h =
     let a : ((not (is_phi_op root.op) && are_told names (places_used root.slots) ms) ≡ true) × (are_taken_or_told (positions_taken names root.slots) (places_told ms) 0 (inputs_of (root ∷ ms)) ≡ true) =
     and_parts (not (is_phi_op root.op) && are_told names (places_used root.slots) ms) (are_taken_or_told (positions_taken names root.slots) (places_told ms) 0 (inputs_of (root ∷ ms))) h in
@@ -288,17 +289,21 @@ knows names root ms h =
     record { other = not-true (is_phi_op root.op) b.0; told = b.1; all = a.1 }
 
 -- where the root stands
-root_there : (f : FunctionData) (id : ℕ) → IsLive f id → slice_get f.blocks (home_of f id) ≡ Some (home_block f id)
+pub root_there : (f : FunctionData) (id : ℕ) → IsLive f id → slice_get f.blocks (home_of f id) ≡ Some (home_block f id)
 root_there f id live = get-within f.blocks (home_of f id) empty_block (id_in-within id f.blocks (home_of f id) (place_in_block f id) (id_in-live f id live))
 
-root_splits : (f : FunctionData) (id : ℕ) (i : InstrData) → IsLive f id → instr_of f id ≡ Some i → is_phi i ≡ false → after_phis (home_block f id).instrs ≡ after_phis (front_of f id) ++ (id, i) ∷ back_of f id
+pub root_splits : (f : FunctionData) (id : ℕ) (i : InstrData) → IsLive f id → instr_of f id ≡ Some i → is_phi i ≡ false → after_phis (home_block f id).instrs ≡ after_phis (front_of f id) ++ (id, i) ∷ back_of f id
 root_splits f id i live is other = ap after_phis (split-at (home_block f id).instrs (place_in_block f id) (id, i) (entry-of f id i live is)) ∙ others_behind (front_of f id) (id, i) (back_of f id) other
 
--- in a function that passes the test, values fit before each instruction that is no phi
-pub fits_tested : (x : ℕ) (names : List (List ℕ)) (f : FunctionData) (id : ℕ) (i : InstrData) → blocks_fit (setting_of x names f) f.blocks ≡ true → IsLive f id → instr_of f id ≡ Some i → is_phi i ≡ false → FitsBefore x names f id
-fits_tested x names f id i fit live is other = record {
+-- in a function that passes the test, values fit
+pub fits_tested : (x : ℕ) (names : List (List ℕ)) (f : FunctionData) → blocks_fit (setting_of x names f) f.blocks ≡ true → FitsAnywhere x names f
+fits_tested x names f fit = record { by = λ w is_world b block before back there splits state reached. fit_where_reached x names f w is_world fit b block before back there splits state reached }
+
+-- and so they do before each instruction that is no phi
+pub fits_before : (x : ℕ) (names : List (List ℕ)) (f : FunctionData) (id : ℕ) (i : InstrData) → FitsAnywhere x names f → IsLive f id → instr_of f id ≡ Some i → is_phi i ≡ false → FitsBefore x names f id
+fits_before x names f id i fit live is other = record {
   by = λ w is_world state reached.
-      fit_where_reached x names f w is_world fit (home_of f id) (home_block f id) (after_phis (front_of f id)) ((id, i) ∷ back_of f id) (root_there f id live) (root_splits f id i live is other) state reached;
+      fit.by w is_world (home_of f id) (home_block f id) (after_phis (front_of f id)) ((id, i) ∷ back_of f id) (root_there f id live) (root_splits f id i live is other) state reached;
 }
 
 -- the state before the root
@@ -313,28 +318,46 @@ moment x names f w state phase id i is_world valid own sized live is other reach
   place = home_of f id;
   body = home_block f id;
   before = after_phis (front_of f id);
-  root = (id, i);
-  back = back_of f id;
+  back = (id, i) ∷ back_of f id;
   there = root_there f id live;
   splits = root_splits f id i live is other;
   reached = reached;
 }
 
 -- the root reads available registers
-root_reads : (x : ℕ) (names : List (List ℕ)) (f : FunctionData) (w : World) (state : State) (t : Moment x names f w state) → is_phi t.root.1 ≡ false → (tests : List Test) (m : MatchData) (ms : List MatchData) (b c : Binding)
-    → (first : First f tests m ms (Some t.root.1) b c) → (p : ℕ) → is_in p (places_used m.slots) ≡ true → IsHere x names f w state t c p
-root_reads x names f w state t other tests m ms b c first p inside =
+root_reads : (x : ℕ) (names : List (List ℕ)) (f : FunctionData) (w : World) (state : State) (t : Moment x names f w state) (i : ℕ × InstrData) (back : List (ℕ × InstrData)) → IsSite f t.place (ahead x names f w state t) i back → is_phi i.1 ≡ false
+    → (tests : List Test) (m : MatchData) (ms : List MatchData) (b c : Binding) → (first : First f tests m ms (Some i.1) b c) → (p : ℕ) → is_in p (places_used m.slots) ≡ true → IsHere x names f w state t c p
+root_reads x names f w state t i back site other tests m ms b c first p inside =
     let (n, used, at) = (match_says m first.instr b first.middle first.fits).used p inside in
-    let same : first.instr ≡ t.root.1 = some_alike first.instr t.root.1 first.there in
-    let site : IsSite f t.place (ahead x names f w state t) t.root t.back = record { block = t.body; found = t.there; splits = splits_whole t.body.instrs t.before t.root t.back t.splits } in
+    let same : first.instr ≡ i.1 = sym (same_Some i.1 first.instr first.there) in
     record {
       number = n;
       bound = bound_on first.middle c p n (found_extends f tests ms (definition_at f first.middle ms) first.middle c first.rest) at;
-      here = use_at f (great_of f) (known_of x t.phase f t.valid) t.place (ahead x names f w state t) t.root t.back site other n (subst (λ (i : InstrData). list_any (is_use_of n) i.operands ≡ true) same used);
+      here = use_at f (great_of f) (known_of x t.phase f t.valid) t.place (ahead x names f w state t) i back site other n (subst (λ (j : InstrData). list_any (is_use_of n) j.operands ≡ true) same used);
     }
-  where
-    some_alike : (i j : InstrData) → Some j ≡ Some i → i ≡ j
-    some_alike i j h = cc
+
+-- where the root's operands are available and values fit, what the rule takes for known holds
+pub known_at : (x : ℕ) (names : List (List ℕ)) (f : FunctionData) (w : World) (state : State) (t : Moment x names f w state) (name : ℕ) (root : MatchData) (definitions : List MatchData) (tests : List Test) (replaces : List (ℕ × ℕ)) (makes : List MakeData)
+    (b : Binding) (instr : InstrData) → Knows (map (λ place. Some place) (inputs_of (root ∷ definitions))) root definitions → (first : First f tests root definitions (Some instr) empty_binding b)
+    → ((p : ℕ) → is_in p (places_used root.slots) ≡ true → IsHere x names f w state t b p) → IsFit (setting_of x names f) state
+    → IsKnownState (setting_of x names f) w (on_values x f (rule_with name root definitions tests replaces makes) b (flags_found f b instr definitions)) (placing_of f (rule_with name root definitions tests replaces makes) b root).inputs state
+known_at x names f w state t name root definitions tests replaces makes b instr knowledge first read fit =
+    let ps : List ℕ = inputs_of (root ∷ definitions) in
+    let places : Names = map (λ place. Some place) ps in
+    let told : Told x names f w state b places definitions = told_on x names f w state t tests places (places_used root.slots) definitions first.middle b first.rest knowledge.told read in
+    record {
+      there = inputs_there state b root.op places root.slots (places_told definitions) told.there 0 ps knowledge.all;
+      sized = fit_sized (setting_of x names f) state fit (map (λ place. (register_or b place).0) ps);
+      facts = λ env reads.
+          told.facts (outside_of state) env (inputs_stand (width_in x f) state.values b ps env reads) (flags_found f b instr definitions) 1 (λ j. ap (flags_found f b instr definitions) (let e : 1 + j ≡ suc j = omega arith in e));
+    }
+
+-- what fits at the root of a rule that knows its inputs is no phi
+pub fitting_other : (f : FunctionData) (name : ℕ) (root : MatchData) (definitions : List MatchData) (tests : List Test) (replaces : List (ℕ × ℕ)) (makes : List MakeData) (b : Binding) (id : ℕ) (instr : InstrData) → instr_of f id ≡ Some instr
+    → binding_at f (rule_with name root definitions tests replaces makes) id ≡ Some b → knows_inputs (rule_with name root definitions tests replaces makes) ≡ true → is_phi instr ≡ false
+fitting_other f name root definitions tests replaces makes b id instr is fits knowing =
+    let first : First f tests root definitions (Some instr) empty_binding b = first_found f tests root definitions (Some instr) empty_binding b (sym (ap (λ o. found_from f tests (root ∷ definitions) o empty_binding) is) ∙ fits) in
+    joining_is instr.flags instr.op ∙ ap is_phi_op (ap (λ (i : InstrData). i.op) (same_Some instr first.instr first.there) ∙ first.fits.op) ∙ (knows (map (λ place. Some place) (inputs_of (root ∷ definitions))) root definitions knowing).other
 
 pub fitting_known : (x : ℕ) (phase : Phase) (names : List (List ℕ)) (f : FunctionData) (name : ℕ) (root : MatchData) (definitions : List MatchData) (tests : List Test) (replaces : List (ℕ × ℕ)) (makes : List MakeData) (b : Binding) (id : ℕ) (instr : InstrData)
     → IsValid x phase f → AreOwnIds f.blocks f.next_id → IsLive f id → instr_of f id ≡ Some instr → binding_at f (rule_with name root definitions tests replaces makes) id ≡ Some b
@@ -342,20 +365,9 @@ pub fitting_known : (x : ℕ) (phase : Phase) (names : List (List ℕ)) (f : Fun
     → (w : World) → IsWorld x w → (state : State) → IsReached (setting_of x names f) w f.blocks (home_of f id) (after_phis (front_of f id)) state
     → IsKnownState (setting_of x names f) w (on_values x f (rule_with name root definitions tests replaces makes) b (flags_found f b instr definitions)) (placing_of f (rule_with name root definitions tests replaces makes) b root).inputs state
 fitting_known x phase names f name root definitions tests replaces makes b id instr valid own live is fits knowing sized fit w is_world state reached =
-    let ps : List ℕ = inputs_of (root ∷ definitions) in
-    let places : Names = map (λ place. Some place) ps in
-    let knowledge : Knows places root definitions = knows places root definitions knowing in
+    let knowledge : Knows (map (λ place. Some place) (inputs_of (root ∷ definitions))) root definitions = knows (map (λ place. Some place) (inputs_of (root ∷ definitions))) root definitions knowing in
     let first : First f tests root definitions (Some instr) empty_binding b = first_found f tests root definitions (Some instr) empty_binding b (sym (ap (λ o. found_from f tests (root ∷ definitions) o empty_binding) is) ∙ fits) in
-    let same : instr ≡ first.instr = some_alike instr first.instr first.there in
-    let other : is_phi instr ≡ false = joining_is instr.flags instr.op ∙ ap is_phi_op (ap (λ (i : InstrData). i.op) same ∙ first.fits.op) ∙ knowledge.other in
+    let other : is_phi instr ≡ false = fitting_other f name root definitions tests replaces makes b id instr is fits knowing in
     let t : Moment x names f w state = moment x names f w state phase id instr is_world valid own sized live is other reached in
-    let told : Told x names f w state b places definitions = told_on x names f w state t tests places (places_used root.slots) definitions first.middle b first.rest knowledge.told (root_reads x names f w state t other tests root definitions empty_binding b first) in
-    record {
-      there = inputs_there state b root.op places root.slots (places_told definitions) told.there 0 ps knowledge.all;
-      sized = fit_sized (setting_of x names f) state (fit.by w is_world state reached) (map (λ place. (register_or b place).0) ps);
-      facts = λ env reads.
-          told.facts (outside_of state) env (inputs_stand (width_in x f) state.values b ps env reads) (flags_found f b instr definitions) 1 (λ j. ap (flags_found f b instr definitions) (let e : 1 + j ≡ suc j = omega arith in e));
-    }
-  where
-    some_alike : (i j : InstrData) → Some i ≡ Some j → i ≡ j
-    some_alike i j h = cc
+    let site : IsSite f (home_of f id) (ahead x names f w state t) (id, instr) (back_of f id) = record { block = home_block f id; found = root_there f id live; splits = whole x names f w state t } in
+    known_at x names f w state t name root definitions tests replaces makes b instr knowledge first (root_reads x names f w state t (id, instr) (back_of f id) site other tests root definitions empty_binding b first) (fit.by w is_world state reached)

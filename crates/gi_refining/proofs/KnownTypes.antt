@@ -1,5 +1,5 @@
 -- Where a rule fits in a valid function, the types and the numbers suit it.
-use Rattle.std.proofs.Common.{◌≡◌, ℕ, zero, suc, ◌<◌, ◌^◌, Bool, true, false, cond, not, ◌&&◌, ◌||◌, ◌==◌, nat_lt, List, [], ◌∷◌, ◌++◌, Option, Some, None, map, take, drop, replicate, length, ⊎_elim, inl, inr, refl, sym, ap, ap₂, ◌∙◌, subst, append-nil, append_assoc, eqb-true, mod-eq_of_lt}
+use Rattle.std.proofs.Common.{◌≡◌, ℕ, suc, ◌<◌, ◌^◌, Bool, true, false, cond, ◌&&◌, ◌||◌, ◌==◌, nat_lt, List, [], ◌∷◌, ◌++◌, Option, Some, None, map, take, drop, length, inl, inr, refl, sym, ap, ap₂, ◌∙◌, subst, append-nil, append_assoc, eqb-true, mod-eq_of_lt}
 use Rattle.std.specs.Prelude.{is_some}
 use Rattle.std.proofs.lemmas.Bool.{and_parts, and_from, ltb-true}
 use Rattle.std.specs.List.{list_all}
@@ -26,7 +26,7 @@ use Rattle.gi_mir.specs.declared.typing.Letter.{Letter}
 use Rattle.gi_mir.specs.declared.typing.Letter.TheVariants as letter
 use Rattle.gi_mir.specs.declared.typing.Relation.{Relation}
 use Rattle.gi_mir.specs.declared.typing.Relation.TheVariants as relation
-use Rattle.gi_pattern.specs.Binding.{empty_binding, register_at, value_at}
+use Rattle.gi_pattern.specs.Binding.{empty_binding, register_at}
 use Rattle.gi_pattern.specs.Data.{MakeData, MatchData}
 use Rattle.gi_pattern.specs.Fitting.{all_pass, binding_at, definition_at, exchanged, found as found_from, is_commutative, passes, same_types, type_at}
 use Rattle.gi_pattern.specs.declared.binding.Binding.{Binding}
@@ -36,7 +36,7 @@ use Rattle.gi_pattern.specs.declared.rule.Slot.TheVariants as slot
 use Rattle.gi_pattern.specs.declared.rule.Test.{Test}
 use Rattle.gi_pattern.specs.declared.rule.Test.TheVariants as test
 use Rattle.gi_refine.specs.RuleUse.{width_in}
-use Rattle.gi_valid.specs.Typing.{Phase, Typed, first_unmet, is_met, known, may_relate, meets, mismatch, places_of_letter, places_with, results_in, sources_in, type_in, unmet}
+use Rattle.gi_valid.specs.Typing.{Typed, first_unmet, is_met, known, may_relate, meets, places_of_letter, places_with, results_in, sources_in, unmet}
 use Rattle.gi_valid.specs.Valid.{IsValid}
 use Rattle.gi_valid.proofs.Suited.{suited}
 use Rattle.gi_lifting.specs.OnValues.{results_of, sources_of, width_at}
@@ -54,7 +54,7 @@ use Rattle.gi_soundness.proofs.Valid.{instr_met}
 use Rattle.gi_refining.specs.Known.{are_sized, is_of_two, is_ordered, is_sized}
 use Rattle.gi_refining.specs.KnownTypes.{any_types, are_some, defines_first, fills, fills_row, fills_rows, has_type, have_types, is_rowed, relates}
 use Rattle.gi_refining.proofs.KnownBound.{AreInOrder, First, IsConstantAt, SlotsAre, Stays, first_found, found_stays, order_stays}
-use Rattle.gi_refining.proofs.KnownFacts.{other_way, slots_turned, turned_looked, two_of, width_there}
+use Rattle.gi_refining.proofs.KnownFacts.{slots_turned, two_of, width_there}
 
 -- ══ Types that are known ══
 

@@ -3,7 +3,15 @@ pub mod KnownBound
 pub mod KnownFacts
 pub mod KnownRule
 pub mod KnownTypes
+pub mod Numbered
+pub mod ReplacedPlaced
+pub mod ReplacedRoot
+pub mod ReplacedSteps
+pub mod ReplacedUses
+pub mod ReplacedValues
+pub mod ReplacedWidths
 pub mod Sized
+pub mod Trials
 pub mod Using
 pub mod UsingElsewhere
 pub mod UsingFresh
@@ -12,4 +20,6 @@ pub mod UsingKept
 pub mod UsingKinds
 pub mod UsingPlaced
 pub mod UsingRefines
+pub mod UsingRoot
 pub mod UsingTests
+pub mod Whole

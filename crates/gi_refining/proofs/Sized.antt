@@ -32,7 +32,7 @@ use Rattle.gi_valid.proofs.Suited.{IsSuited, suited}
 use Rattle.gi_soundness.specs.Rewriting.{IsOneOf}
 use Rattle.gi_soundness.proofs.Rule.{one_passes}
 use Rattle.gi_soundness.proofs.Valid.{instr_met}
-use Rattle.gi_refining.specs.Known.{are_sized, is_sized}
+use Rattle.gi_refining.specs.Known.{are_formed, are_sized, is_sized}
 use Rattle.gi_refining.specs.KnownTypes.{has_type, have_types}
 
 -- ══ Rows without a constant ══
@@ -178,7 +178,7 @@ all_pass : (test : ℕ × InstrData → Bool) (is : List (ℕ × InstrData)) →
 all_pass test [] each = refl
 all_pass test (i ∷ is) each = and_from (test i) (list_all test is) (each i (inl refl)) (all_pass test is (λ p there. each p (inr there)))
 
-pub constants_fit : (x : ℕ) (f : FunctionData) → (x ≡ 32) ⊎ (x ≡ 64) → IsValid x Typed f → list_all (λ p. is_formed p.1) (all_instrs f.blocks) ≡ true → have_types f ≡ true → are_sized x f ≡ true
+pub constants_fit : (x : ℕ) (f : FunctionData) → (x ≡ 32) ⊎ (x ≡ 64) → IsValid x Typed f → are_formed f ≡ true → have_types f ≡ true → are_sized x f ≡ true
 constants_fit x f word valid formed owned = all_pass (λ p. is_sized (width_in x f) p.1.op p.1.operands) (all_instrs f.blocks) each
   where
     small : x ≤ 64

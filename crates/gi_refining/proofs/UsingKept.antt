@@ -1,18 +1,17 @@
 -- Each result of the root is kept where it is made again; what else is made is new.
-use Rattle.std.proofs.Common.{◌≡◌, ℕ, ◌+◌, Bool, true, false, ◌&&◌, ◌||◌, ◌==◌, List, [], ◌∷◌, ◌++◌, Some, None, length, map, ⊎_elim, refl, sym, ap, ap₂, ◌∙◌, subst, arith, append_assoc, length-append}
+use Rattle.std.proofs.Common.{◌≡◌, ℕ, ◌+◌, Bool, true, ◌&&◌, ◌||◌, ◌==◌, List, [], ◌∷◌, ◌++◌, Some, length, ⊎_elim, refl, sym, ap, ◌∙◌, subst, arith, append_assoc, length-append}
 use Rattle.std.proofs.lemmas.Bool.{or_cases, or_left, or_right, and_from, eqb-true, eq-eqb}
 use Rattle.std.proofs.lemmas.List.Folds.{list_any-append}
 use Rattle.std.specs.Prelude.{slice_get}
-use Rattle.std.specs.List.{list_any}
 use Rattle.gi_meaning.specs.Runs.{is_among}
 use Rattle.gi_meaning.specs.State.{Place, Virtual}
-use Rattle.gi_refine.specs.Lifting.{all_covered, all_grown, are_covered, grown, is_kept, is_register}
+use Rattle.gi_refine.specs.Lifting.{all_covered, all_grown, are_covered, is_kept, is_register}
 use Rattle.gi_pattern.specs.Data.{MakeData}
 use Rattle.gi_pattern.specs.Making.{bound_after, fresh_count, next_after, register_or}
 use Rattle.gi_pattern.specs.declared.binding.Binding.{Binding}
 use Rattle.gi_pattern.specs.declared.rule.MakeSlot.{MakeSlot}
 use Rattle.gi_pattern.specs.declared.rule.MakeSlot.TheVariants as make
-use Rattle.gi_lifting.specs.OnValues.{Names, Types, defined_by, fresh_of, kept_from, names_after, names_behind, position, stands_for, unnamed}
+use Rattle.gi_lifting.specs.OnValues.{Names, Types, defined_by, fresh_of, kept_from, names_after, names_behind, position, unnamed}
 use Rattle.gi_lifting.specs.Placed.{AreNamed, constant_registers, defined_registers, is_named, is_place, registers_made}
 use Rattle.gi_lifting.specs.Uses.{registers_at}
 use Rattle.gi_lifting.proofs.Positions.{get-here}

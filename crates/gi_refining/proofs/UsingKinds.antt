@@ -1,5 +1,5 @@
 -- Kinds of registers where a rule is applied: those that the function has had keep them, and a new one has that of its type.
-use Rattle.std.proofs.Common.{◌≡◌, ℕ, ◌+◌, ◌≤◌, ◌<◌, Bool, true, false, cond, ◌&&◌, ◌||◌, ◌==◌, List, [], ◌∷◌, ◌++◌, Some, None, is_some, map, inl, inr, ⊎_elim, refl, sym, ap, ap₂, ◌∙◌, subst, append_assoc, true≢false}
+use Rattle.std.proofs.Common.{◌≡◌, ℕ, ◌+◌, ◌≤◌, ◌<◌, Bool, true, false, cond, ◌||◌, ◌==◌, List, [], ◌∷◌, ◌++◌, Some, None, map, inl, inr, ⊎_elim, refl, sym, ap, ap₂, ◌∙◌, subst, append_assoc, true≢false}
 use Rattle.std.proofs.lemmas.Bool.{or_left, or_right, and_parts, eqb-true, eq-eqb}
 use Rattle.std.specs.List.{list_all, list_any}
 use Rattle.gi_mir.specs.Data.{InstrData, FunctionData}
@@ -11,7 +11,6 @@ use Rattle.gi_meaning.specs.Runs.{width_of_kind}
 use Rattle.gi_refine.specs.Agreement.{setting}
 use Rattle.gi_refine.specs.RuleUse.{width_in}
 use Rattle.gi_refine.specs.Values.{Operation}
-use Rattle.gi_pattern.specs.Binding.{register_at}
 use Rattle.gi_pattern.specs.Data.{MakeData}
 use Rattle.gi_pattern.specs.InPlace.{entry_renamed, with_ids}
 use Rattle.gi_pattern.specs.Making.{all_made as instrs_made, bits_of_kind, bound_after, constants_made, fresh_constant, fresh_count, kind_made, named, next_after, operands_made, plain, put_at, register_or}

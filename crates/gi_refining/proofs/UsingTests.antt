@@ -1,5 +1,5 @@
 -- What the tests of a usable rule say.
-use Rattle.std.proofs.Common.{◌≡◌, ℕ, Bool, true, ◌&&◌, List, Option, Some, None, refl}
+use Rattle.std.proofs.Common.{◌≡◌, Bool, true, ◌&&◌, Option, Some, None, refl}
 use Rattle.std.proofs.lemmas.Bool.{and_parts}
 use Rattle.std.specs.List.{list_all}
 use Rattle.gi_mir.specs.Data.{InstrData, no_flags}
@@ -19,12 +19,13 @@ use Rattle.gi_lifting.specs.Fits.{is_plain, uses_named}
 use Rattle.gi_lifting.specs.OnValues.{inputs_of}
 use Rattle.gi_lifting.specs.Placed.{all_placed}
 use Rattle.gi_soundness.specs.Rules.{is_in, keeps_valid, origins_in}
-use Rattle.gi_refining.specs.Usable.{any_types, binds_either, gives_results, input_names, is_usable_at, is_without_memory}
+use Rattle.gi_refining.specs.Known.{is_ordered}
+use Rattle.gi_refining.specs.Usable.{any_types, gives_results, input_names, is_usable_at, is_without_memory}
 
 pub record IsUsable (rule : RuleData) (root : MatchData) : Type 0 where
   pub keeps : keeps_valid rule ≡ true
   pub plain : is_plain root.slots ≡ true
-  pub either : binds_either root ≡ true
+  pub either : is_ordered root ≡ true
   pub named : uses_named (input_names rule.matches) root.slots ≡ true
   pub pure : is_pure (meaning_of no_flags root.op) ≡ true
   pub memory : is_without_memory (access_of root.op) ≡ true
@@ -36,7 +37,7 @@ pub usable_parts : (rule : RuleData) (root : MatchData) → is_usable_at rule ro
 usable_parts rule root h =
     let A : Bool = keeps_valid rule in
     let B : Bool = is_plain root.slots in
-    let C : Bool = binds_either root in
+    let C : Bool = is_ordered root in
     let D : Bool = uses_named (input_names rule.matches) root.slots in
     let E : Bool = is_pure (meaning_of no_flags root.op) in
     let F : Bool = is_without_memory (access_of root.op) in

@@ -1,10 +1,10 @@
 -- What is asked of a rule by its own list, and of a function, so that what the rule takes for known holds where it fits.
-use Rattle.std.specs.Prelude.{◌≡◌, ℕ, zero, suc, ◌^◌, Bool, true, false, not, ◌&&◌, ◌||◌, ◌==◌, nat_lt, List, [], ◌∷◌, ◌++◌, Some, map}
+use Rattle.std.specs.Prelude.{◌≡◌, ℕ, zero, suc, ◌^◌, Bool, true, false, not, ◌&&◌, ◌||◌, ◌==◌, nat_lt, List, [], ◌∷◌, ◌++◌, Some, map, slice_get}
 use Rattle.std.specs.List.{list_all, list_any}
 use Rattle.std.specs.Option.{option_map_or}
-use Rattle.gi_mir.specs.Data.{InstrData, FunctionData, no_flags}
+use Rattle.gi_mir.specs.Data.{InstrData, BlockData, FunctionData, no_flags}
 use Rattle.gi_mir.specs.Edit.{all_instrs, home_of}
-use Rattle.gi_mir.specs.Formed.{is_constant}
+use Rattle.gi_mir.specs.Formed.{is_constant, is_formed}
 use Rattle.gi_mir.specs.Row.{is_phi_op}
 use Rattle.gi_mir.specs.declared.opcode.Opcode.{Opcode}
 use Rattle.gi_mir.specs.declared.opcode.Opcode.TheVariants as op
@@ -93,6 +93,10 @@ knows_inputs rule = knows_rooted rule.matches
 
 -- ══ The function ══
 
+-- each instruction is formed
+abbrev pub are_formed : FunctionData → Bool
+are_formed f = list_all (λ p. is_formed p.1) (all_instrs f.blocks)
+
 -- G_CONSTANT has a constant in range that is as wide as its register, and no other instruction has one
 abbrev pub is_sized : (width : ℕ → ℕ) → Opcode → List Operand → Bool
 is_sized width op.GenericConstant (operand.Def r kind ∷ operand.Constant bits value ∷ []) = (bits == width r.0) && nat_lt value (2 ^ bits)
@@ -102,7 +106,12 @@ is_sized width _ os = not (list_any is_constant os)
 abbrev pub are_sized : (x : ℕ) → FunctionData → Bool
 are_sized x f = list_all (λ p. is_sized (width_in x f) p.1.op p.1.operands) (all_instrs f.blocks)
 
--- wherever runs come to an instruction, values fit their registers
+-- wherever runs come behind the phis of a block, values fit their registers
+pub record FitsAnywhere (x : ℕ) (names : List (List ℕ)) (f : FunctionData) : Type 0 where
+  pub by : (w : World) → IsWorld x w → (b : ℕ) (block : BlockData) (before back : List (ℕ × InstrData)) → slice_get f.blocks b ≡ Some block → after_phis block.instrs ≡ before ++ back
+      → (state : State) → IsReached (setting_of x names f) w f.blocks b before state → IsFit (setting_of x names f) state
+
+-- wherever they come to an instruction, values fit their registers
 pub record FitsBefore (x : ℕ) (names : List (List ℕ)) (f : FunctionData) (id : ℕ) : Type 0 where
   pub by : (w : World) → IsWorld x w → (state : State) → IsReached (setting_of x names f) w f.blocks (home_of f id) (after_phis (front_of f id)) state
       → IsFit (setting_of x names f) state

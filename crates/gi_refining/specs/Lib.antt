@@ -1,3 +1,7 @@
+pub mod Examples
 pub mod Known
 pub mod KnownTypes
+pub mod Numbered
+pub mod Replacing
 pub mod Usable
+pub mod Whole

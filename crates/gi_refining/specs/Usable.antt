@@ -1,7 +1,6 @@
 -- What is asked of a rule by its own list, so that it may be used wherever it fits in a valid function.
-use Rattle.std.specs.Prelude.{ℕ, Bool, true, false, not, ◌&&◌, ◌||◌, nat_le, List, [], ◌∷◌, Some, map}
+use Rattle.std.specs.Prelude.{ℕ, Bool, true, false, ◌&&◌, nat_le, List, [], ◌∷◌, Some, map}
 use Rattle.std.specs.List.{list_all}
-use Rattle.gi_llt.specs.declared.Llt.{Llt}
 use Rattle.gi_llt.specs.declared.Llt.TheVariants.{Scalar}
 use Rattle.gi_mir.specs.Data.{FunctionData, no_flags}
 use Rattle.gi_mir.specs.Row.{access_of}
@@ -11,22 +10,11 @@ use Rattle.gi_meaning.specs.Meaning.{meaning_of}
 use Rattle.gi_refine.specs.Values.{is_pure}
 use Rattle.gi_pattern.specs.Binding.{empty_binding}
 use Rattle.gi_pattern.specs.Data.{MakeData, MatchData, RuleData}
-use Rattle.gi_pattern.specs.Fitting.{is_commutative}
-use Rattle.gi_pattern.specs.declared.rule.Slot.{Slot}
-use Rattle.gi_pattern.specs.declared.rule.Slot.TheVariants as slot
 use Rattle.gi_lifting.specs.Fits.{is_plain, uses_named}
 use Rattle.gi_lifting.specs.OnValues.{Names, Types, inputs_of}
 use Rattle.gi_lifting.specs.Placed.{all_placed}
 use Rattle.gi_soundness.specs.Rules.{is_in, keeps_valid, origins_in}
-
--- one result and two operands
-abbrev pub is_binary : List Slot → Bool
-is_binary (slot.Def result ∷ slot.Use left ∷ slot.Use right ∷ []) = true
-is_binary _ = false
-
--- its operands are bound as they are written, or two of them the other way round
-abbrev pub binds_either : MatchData → Bool
-binds_either root = not (is_commutative root.op) || is_binary root.slots
+use Rattle.gi_refining.specs.Known.{is_ordered}
 
 -- an opcode whose instructions have no memory operand
 abbrev pub is_without_memory : Access → Bool
@@ -52,7 +40,7 @@ abbrev pub is_usable_at : RuleData → MatchData → Bool
 is_usable_at rule root =
     keeps_valid rule
     && is_plain root.slots
-    && binds_either root
+    && is_ordered root
     && uses_named (input_names rule.matches) root.slots
     && is_pure (meaning_of no_flags root.op)
     && is_without_memory (access_of root.op)

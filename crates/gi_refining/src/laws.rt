@@ -1,9 +1,8 @@
 //! What follows for a sound rule where it fits in a valid function.
 
-ghost use Rattle.std.specs.Prelude.{◌≡◌, ◌⊎◌, List, Some, false, true, ℕ};
-ghost use Rattle.std.specs.List.{list_all};
+ghost use Rattle.std.specs.Prelude.{◌≡◌, ◌⊎◌, List, Some, [], false, true, ℕ};
 ghost use Rattle.gi_mir.specs.Data.{FunctionData, InstrData};
-ghost use Rattle.gi_mir.specs.Edit.{IsLive, all_instrs, home_of, instr_of};
+ghost use Rattle.gi_mir.specs.Edit.{IsLive, home_of, instr_of};
 ghost use Rattle.gi_mir.specs.Formed.{is_formed};
 ghost use Rattle.gi_mir.specs.Ids.{AreOwnIds};
 ghost use Rattle.gi_mir.specs.declared.operand.Flags.{Flags};
@@ -13,20 +12,25 @@ ghost use Rattle.gi_refine.specs.Lifting.{IsKnown};
 ghost use Rattle.gi_refine.specs.Reached.{IsReached};
 ghost use Rattle.gi_refine.specs.Refinement.{IsRefinement};
 ghost use Rattle.gi_pattern.specs.Applying.{applied};
-ghost use Rattle.gi_pattern.specs.Data.{MakeData, MatchData};
+ghost use Rattle.gi_pattern.specs.Data.{MakeData, MatchData, RuleData};
 ghost use Rattle.gi_pattern.specs.Examples.{difference_of_same, difference_with_constant, product_by_power, remainder_by_power, sum_with_short_constant, sum_with_zero, truncated_extension, unmerged_pair};
 ghost use Rattle.gi_pattern.specs.Fitting.{binding_at};
 ghost use Rattle.gi_pattern.specs.declared.binding.Binding.{Binding};
 ghost use Rattle.gi_pattern.specs.declared.rule.Test.{Test};
 ghost use Rattle.gi_lifting.specs.Placed.{types_in};
-ghost use Rattle.gi_lifting.specs.Sound.{IsSoundRule, Suits};
+ghost use Rattle.gi_lifting.specs.Replaces.{replacing_of};
+ghost use Rattle.gi_lifting.specs.Sound.{IsCertainRule, IsSoundRule, Suits};
 ghost use Rattle.gi_lifting.specs.Uses.{IsUsed, front_of, on_values, placing_of, rule_of, rule_with};
 ghost use Rattle.gi_soundness.specs.Rules.{HasHadAll};
 ghost use Rattle.gi_valid.specs.Typing.{Phase, Typed};
 ghost use Rattle.gi_valid.specs.Valid.{IsValid};
+ghost use Rattle.gi_refining.specs.Numbered.{is_numbered};
+ghost use Rattle.gi_refining.specs.Replacing.{ReplacesAsWide, is_replacing};
+ghost use Rattle.gi_refining.specs.Whole.{IsReadyFunction, IsRefiningRule};
 ghost use Rattle.gi_refining.specs.Usable.{is_new_in, is_usable};
 ghost use Rattle.gi_refine.specs.Fitting.{blocks_fit};
-ghost use Rattle.gi_refining.specs.Known.{FitsBefore, are_sized, flags_found, knows_inputs};
+ghost use Rattle.gi_refining.specs.Examples.{adds_the_rest, adds_zero, adds_zero_bound, goes_on, takes_five, takes_five_bound};
+ghost use Rattle.gi_refining.specs.Known.{FitsAnywhere, FitsBefore, are_formed, are_sized, flags_found, knows_inputs};
 ghost use Rattle.gi_refining.specs.KnownTypes.{fills_rows, have_types};
 
 /// A rule that meets the condition on its own list is used wherever it fits in a valid function, at an instruction that is
@@ -92,10 +96,11 @@ pub fn fitting_rule_suits()
         → Suits x (rule_with name root definitions tests replaces makes) (types_in x f b) b }
 {}
 
-/// In a function that passes the test of sizes, values fit before each instruction that is no phi.
+/// In a function that passes the test of sizes, values fit wherever runs come, and so before each instruction that is no phi.
 pub fn tested_values_fit()
-    ensures { (x : ℕ) (names : List (List ℕ)) (f : FunctionData) (id : ℕ) (i : InstrData)
-        → blocks_fit (setting_of x names f) f.blocks ≡ true → IsLive f id → instr_of f id ≡ Some i → is_phi i ≡ false → FitsBefore x names f id }
+    ensures anywhere { (x : ℕ) (names : List (List ℕ)) (f : FunctionData) → blocks_fit (setting_of x names f) f.blocks ≡ true → FitsAnywhere x names f }
+    ensures before { (x : ℕ) (names : List (List ℕ)) (f : FunctionData) (id : ℕ) (i : InstrData)
+        → FitsAnywhere x names f → IsLive f id → instr_of f id ≡ Some i → is_phi i ≡ false → FitsBefore x names f id }
 {}
 
 /// The example rules meet the condition of what is known.
@@ -123,7 +128,7 @@ pub fn example_rules_fill_rows()
 {}
 
 /// Together: a sound rule that meets these conditions on its own list refines each valid function of generic code in which it
-/// fits, where constants are as wide as their registers and values fit before the root.
+/// fits, where constants are as wide as their registers and values fit wherever runs come, which `tested_values_fit` gives.
 pub fn fitting_rule_refines()
     ensures { (x : ℕ) (names : List (List ℕ)) (f : FunctionData) (name : ℕ) (root : MatchData) (definitions : List MatchData) (tests : List Test) (makes : List MakeData) (b : Binding) (id : ℕ) (instr : InstrData)
         → (x ≡ 32) ⊎ (x ≡ 64)
@@ -131,9 +136,9 @@ pub fn fitting_rule_refines()
         → is_usable (rule_of name root definitions tests makes) ≡ true
         → knows_inputs (rule_of name root definitions tests makes) ≡ true
         → fills_rows (rule_of name root definitions tests makes) ≡ true
-        → IsValid x Typed f → AreOwnIds f.blocks f.next_id → HasHadAll f → are_sized x f ≡ true → have_types f ≡ true
+        → IsValid x Typed f → AreOwnIds f.blocks f.next_id → HasHadAll f → are_formed f ≡ true → have_types f ≡ true
         → IsLive f id → binding_at f (rule_of name root definitions tests makes) id ≡ Some b
-        → instr_of f id ≡ Some instr → is_formed instr ≡ true → FitsBefore x names f id
+        → instr_of f id ≡ Some instr → FitsAnywhere x names f
         → IsRefinement x names f (applied x (rule_of name root definitions tests makes) b id f) }
 {}
 
@@ -142,6 +147,93 @@ pub fn fitting_rule_refines()
 pub fn valid_constants_fit()
     ensures { (x : ℕ) (f : FunctionData)
         → (x ≡ 32) ⊎ (x ≡ 64)
-        → IsValid x Typed f → list_all (λ p. is_formed p.1) (all_instrs f.blocks) ≡ true → have_types f ≡ true
+        → IsValid x Typed f → are_formed f ≡ true → have_types f ≡ true
         → are_sized x f ≡ true }
+{}
+
+/// A sound and certain rule that makes nothing, and meets the condition of those that replace, refines each valid function in which
+/// it fits: wherever runs use what it replaces, that has the value of what replaces it.
+pub fn replaced_rule_refines()
+    ensures { (x : ℕ) (phase : Phase) (names : List (List ℕ)) (f : FunctionData) (name : ℕ) (root : MatchData) (definitions : List MatchData) (tests : List Test) (replaces : List (ℕ × ℕ)) (b : Binding) (id : ℕ) (instr : InstrData)
+        → (x ≡ 32) ⊎ (x ≡ 64)
+        → IsSoundRule (replacing_of name root definitions tests replaces)
+        → IsCertainRule (replacing_of name root definitions tests replaces)
+        → ReplacesAsWide (replacing_of name root definitions tests replaces)
+        → Suits x (replacing_of name root definitions tests replaces) (types_in x f b) b
+        → is_replacing (replacing_of name root definitions tests replaces) ≡ true
+        → knows_inputs (replacing_of name root definitions tests replaces) ≡ true
+        → IsValid x phase f → AreOwnIds f.blocks f.next_id → HasHadAll f → are_sized x f ≡ true → FitsAnywhere x names f
+        → IsLive f id → binding_at f (replacing_of name root definitions tests replaces) id ≡ Some b
+        → instr_of f id ≡ Some instr → is_formed instr ≡ true
+        → IsRefinement x names f (applied x (replacing_of name root definitions tests replaces) b id f) }
+{}
+
+/// These example rules meet the condition of those that replace.
+pub fn replacing_rules()
+    ensures sum_with_zero { is_replacing sum_with_zero ≡ true }
+    ensures truncated_extension { is_replacing truncated_extension ≡ true }
+    ensures unmerged_pair { is_replacing unmerged_pair ≡ true }
+{}
+
+/// What replaces a register by them is as wide.
+pub fn replacements_are_as_wide()
+    ensures sum_with_zero { ReplacesAsWide sum_with_zero }
+    ensures truncated_extension { ReplacesAsWide truncated_extension }
+    ensures unmerged_pair { ReplacesAsWide unmerged_pair }
+{}
+
+/// Together: such a rule refines each valid function of generic code in which it fits, with the same premises as a rule that makes
+/// instructions.
+pub fn fitting_replacement_refines()
+    ensures { (x : ℕ) (names : List (List ℕ)) (f : FunctionData) (name : ℕ) (root : MatchData) (definitions : List MatchData) (tests : List Test) (replaces : List (ℕ × ℕ)) (b : Binding) (id : ℕ) (instr : InstrData)
+        → (x ≡ 32) ⊎ (x ≡ 64)
+        → IsSoundRule (replacing_of name root definitions tests replaces)
+        → IsCertainRule (replacing_of name root definitions tests replaces)
+        → ReplacesAsWide (replacing_of name root definitions tests replaces)
+        → is_replacing (replacing_of name root definitions tests replaces) ≡ true
+        → knows_inputs (replacing_of name root definitions tests replaces) ≡ true
+        → fills_rows (replacing_of name root definitions tests replaces) ≡ true
+        → IsValid x Typed f → AreOwnIds f.blocks f.next_id → HasHadAll f → are_formed f ≡ true → have_types f ≡ true → FitsAnywhere x names f
+        → IsLive f id → binding_at f (replacing_of name root definitions tests replaces) id ≡ Some b
+        → instr_of f id ≡ Some instr
+        → IsRefinement x names f (applied x (replacing_of name root definitions tests replaces) b id f) }
+{}
+
+/// One law: a sound rule that makes instructions or replaces registers, and meets the conditions on its own list, refines each valid
+/// function that passes the tests and in which values fit, wherever it fits.
+pub fn sound_rule_refines()
+    ensures { (x : ℕ) (names : List (List ℕ)) (f : FunctionData) (rule : RuleData) (b : Binding) (id : ℕ) (instr : InstrData)
+        → (x ≡ 32) ⊎ (x ≡ 64) → IsRefiningRule rule → IsReadyFunction x names f
+        → IsLive f id → binding_at f rule id ≡ Some b → instr_of f id ≡ Some instr
+        → IsRefinement x names f (applied x rule b id f) }
+{}
+
+/// These example rules are such rules.
+pub fn example_rules_refine()
+    ensures sum_with_zero { IsRefiningRule sum_with_zero }
+    ensures difference_of_same { IsRefiningRule difference_of_same }
+    ensures product_by_power { IsRefiningRule product_by_power }
+    ensures difference_with_constant { IsRefiningRule difference_with_constant }
+    ensures remainder_by_power { IsRefiningRule remainder_by_power }
+    ensures truncated_extension { IsRefiningRule truncated_extension }
+    ensures unmerged_pair { IsRefiningRule unmerged_pair }
+{}
+
+/// The numbers of a function are tested: each id has one instruction, and the function has had the registers that it mentions.
+pub fn tested_numbers_hold()
+    ensures own { (f : FunctionData) → is_numbered f ≡ true → AreOwnIds f.blocks f.next_id }
+    ensures had { (f : FunctionData) → is_numbered f ≡ true → HasHadAll f }
+{}
+
+/// Example rules in whole functions: the difference with a constant becomes a sum, and the uses of a sum with zero are replaced, also
+/// in a phi that a run comes to in the next round of a loop. Each premise of the law is computed.
+pub fn fitting_rules_are_used()
+    ensures ready { IsReadyFunction 32 [] takes_five }
+    ensures fits { binding_at takes_five difference_with_constant 9 ≡ Some takes_five_bound }
+    ensures becomes { applied 32 difference_with_constant takes_five_bound 9 takes_five ≡ adds_the_rest }
+    ensures refines { IsRefinement 32 [] takes_five adds_the_rest }
+    ensures loop_ready { IsReadyFunction 32 [] adds_zero }
+    ensures loop_fits { binding_at adds_zero sum_with_zero 11 ≡ Some adds_zero_bound }
+    ensures loop_becomes { applied 32 sum_with_zero adds_zero_bound 11 adds_zero ≡ goes_on }
+    ensures loop_refines { IsRefinement 32 [] adds_zero goes_on }
 {}

@@ -19,7 +19,7 @@ use Rattle.gi_soundness.specs.Rewriting.{Rewriting, rewritten, block_rewritten, 
 
 -- ══ Counting ids ══
 
-uses_first : (id : ℕ) (p : ℕ × InstrData) (is : List (ℕ × InstrData)) → uses_among id (p ∷ is) ≡ cond (p.0 == id) 1 0 + uses_among id is
+pub uses_first : (id : ℕ) (p : ℕ × InstrData) (is : List (ℕ × InstrData)) → uses_among id (p ∷ is) ≡ cond (p.0 == id) 1 0 + uses_among id is
 uses_first id p is =
     let all : uses_among id (p ∷ is) ≡ uses_among id (p ∷ []) + uses_among id is = sum_by-append (λ (q : ℕ × InstrData). cond (q.0 == id) 1 0) (p ∷ []) is in
     let one : uses_among id (p ∷ []) ≡ cond (p.0 == id) 1 0 = alone (cond (p.0 == id) 1 0) in
@@ -28,7 +28,7 @@ uses_first id p is =
     alone : (n : ℕ) → 0 + n ≡ n
     alone n = omega arith
 
-uses_both : (id : ℕ) (xs ys : List (ℕ × InstrData)) → uses_among id (xs ++ ys) ≡ uses_among id xs + uses_among id ys
+pub uses_both : (id : ℕ) (xs ys : List (ℕ × InstrData)) → uses_among id (xs ++ ys) ≡ uses_among id xs + uses_among id ys
 uses_both id xs ys = sum_by-append (λ (q : ℕ × InstrData). cond (q.0 == id) 1 0) xs ys
 
 pub uses_in_all : (id : ℕ) (blocks : List BlockData) → uses_of id blocks ≡ uses_among id (all_instrs blocks)
@@ -61,7 +61,7 @@ uses_alike id rename blocks =
     uses_in_all id (map (block_renamed rename) blocks) ∙ ap (uses_among id) (all_renamed rename blocks) ∙ uses_renamed id rename (all_instrs blocks) ∙ sym (uses_in_all id blocks)
 
 -- ids are counted where they stand
-counted : (id : ℕ) (p : ℕ × InstrData) (is : List (ℕ × InstrData)) → IsOneOf p is → (p.0 == id) ≡ true → 1 ≤ uses_among id is
+pub counted : (id : ℕ) (p : ℕ × InstrData) (is : List (ℕ × InstrData)) → IsOneOf p is → (p.0 == id) ≡ true → 1 ≤ uses_among id is
 counted id p [] there own = absurd there
 counted id p (q ∷ is) there own =
     let all : uses_among id (q ∷ is) ≡ cond (q.0 == id) 1 0 + uses_among id is = uses_first id q is in

@@ -1,0 +1,44 @@
+-- Example rules refine valid functions in which they fit: every premise is computed.
+use Rattle.std.proofs.Common.{◌≡◌, true, [], ◌∷◌, inl, refl}
+use Rattle.gi_mir.specs.Formed.{is_formed}
+use Rattle.gi_refine.specs.Refinement.{IsRefinement}
+use Rattle.gi_pattern.specs.Examples.{difference_with_constant, sum_with_zero}
+use Rattle.gi_valid.specs.Examples.{extents_of}
+use Rattle.gi_valid.specs.Typing.{Typed}
+use Rattle.gi_valid.specs.Valid.{IsValid}
+use Rattle.gi_valid.proofs.Trials.{alone_contained, loop_contained}
+use Rattle.gi_refining.specs.Examples.{adds_the_rest, adds_zero, adds_zero_bound, difference, goes_on, sum, takes_five, takes_five_bound}
+use Rattle.gi_refining.specs.Known.{are_formed}
+use Rattle.gi_refining.specs.Whole.{IsReadyFunction}
+use Rattle.gi_refining.proofs.KnownRule.{fits_tested}
+use Rattle.gi_refining.proofs.Whole.{difference_with_constant_refines, refining-refines, sum_with_zero_refines}
+
+takes_five_formed : are_formed takes_five ≡ true
+unfolding is_formed
+takes_five_formed = refl
+
+adds_zero_formed : are_formed adds_zero ≡ true
+unfolding is_formed
+adds_zero_formed = refl
+
+takes_five_valid : IsValid 32 Typed takes_five
+takes_five_valid = record { extents = extents_of (2 ∷ []) (0 ∷ 1 ∷ []) []; contained = alone_contained (2 ∷ []) (0 ∷ 1 ∷ []) takes_five refl; faultless = refl }
+
+adds_zero_valid : IsValid 32 Typed adds_zero
+adds_zero_valid = record {
+  extents = extents_of (4 ∷ []) (1 ∷ 3 ∷ []) (0 ∷ 1 ∷ []);
+  contained = loop_contained (4 ∷ []) (1 ∷ 3 ∷ []) adds_zero refl refl refl (λ a. refl) (refl, refl, refl, refl);
+  faultless = refl;
+}
+
+pub takes_five_ready : IsReadyFunction 32 [] takes_five
+takes_five_ready = record { valid = takes_five_valid; numbered = refl; formed = takes_five_formed; typed = refl; fit = fits_tested 32 [] takes_five refl }
+
+pub adds_zero_ready : IsReadyFunction 32 [] adds_zero
+adds_zero_ready = record { valid = adds_zero_valid; numbered = refl; formed = adds_zero_formed; typed = refl; fit = fits_tested 32 [] adds_zero refl }
+
+pub takes_five_refined : IsRefinement 32 [] takes_five adds_the_rest
+takes_five_refined = refining-refines 32 [] takes_five difference_with_constant takes_five_bound 9 difference (inl refl) difference_with_constant_refines takes_five_ready refl refl refl
+
+pub adds_zero_refined : IsRefinement 32 [] adds_zero goes_on
+adds_zero_refined = refining-refines 32 [] adds_zero sum_with_zero adds_zero_bound 11 sum (inl refl) sum_with_zero_refines adds_zero_ready refl refl refl
