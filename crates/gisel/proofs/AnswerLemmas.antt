@@ -1,6 +1,6 @@
 -- What is told of an input for which a pass isn't built, and the machine of one that passes the checks.
 use Rattle.std.proofs.Common.{◌≡◌, ◌≤◌, ℕ, Bool, true, false, length, List, Option, Some, None, ap, sym, subst, refl}
-use Rattle.std.specs.Prelude.{Result, Ok, Err, IfOk}
+use Rattle.std.specs.Prelude.{Result, Ok, Err}
 use Rattle.gi_mir.specs.Data.{ModuleData}
 use Rattle.gi_mir_read.specs.Sizes.{size_fault}
 use Rattle.gi_observe.specs.declared.pass.Pass.{Pass}
@@ -73,11 +73,6 @@ pub its_compiled : (options : OptionsData) (read written : List ℕ) (start : Pa
     → Compiles (width_of machine) read written → IsCompiled options read written
 its_compiled options read written start machine source passes compiles =
     record { machine = machine; target = its_target options read start machine source passes; compiles = compiles }
-
--- where an answer is right, what follows of each is right
-pub each_right : {X Y : Type 0} (P Q : X → Type 0) (r : Result X Y) → ((x : X) → P x → Q x) → IfOk r P → IfOk r Q
-each_right P Q (Ok x) f h = f x h
-each_right P Q (Err y) f h = tt
 
 -- ══ The text ══
 
