@@ -1,5 +1,4 @@
 use Rattle.std.proofs.Common.{◌≡◌, take}
-use Rattle.gi_mir.specs.Data.{FunctionData}
 use Rattle.gisel.specs.Selecting.{emptied}
 use Rattle.gisel.proofs.select.emptied.Given as goal
 
