@@ -145,7 +145,6 @@ comparison_fits : GivesFitting comparison (λ ns ms. have_bits ns)
 comparison_fits (n ∷ []) (Test pred ∷ Value l a ∷ Value m b ∷ []) fits has = one_fits n (bit_of (holds pred l a b)) (bit_fits n (holds pred l a b) (and_parts (nat_lt 0 n) true has).0)
 comparison_fits _ _ fits has = λ results given. absurd given
 
-
 second_has : (n m : ℕ) → have_bits (n ∷ m ∷ []) ≡ true → nat_lt 0 m ≡ true
 second_has n m has = (and_parts (nat_lt 0 m) true (and_parts (nat_lt 0 n) (nat_lt 0 m && true) has).1).0
 

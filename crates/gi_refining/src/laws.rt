@@ -29,7 +29,7 @@ ghost use Rattle.gi_refining.specs.Replacing.{ReplacesAsWide, is_replacing};
 ghost use Rattle.gi_refining.specs.Whole.{IsReadyFunction, IsRefiningRule};
 ghost use Rattle.gi_refining.specs.Usable.{is_new_in, is_usable};
 ghost use Rattle.gi_refine.specs.Fitting.{blocks_fit};
-ghost use Rattle.gi_refining.specs.Examples.{adds_the_rest, adds_zero, adds_zero_bound, goes_on, takes_five, takes_five_bound};
+ghost use Rattle.gi_refining.specs.Examples.{adds_the_rest, adds_zero, adds_zero_bound, goes_on, keeps_low_bits, takes_five, takes_five_bound, takes_rest, takes_rest_bound};
 ghost use Rattle.gi_refining.specs.Known.{FitsAnywhere, FitsBefore, are_formed, are_sized, flags_found, knows_inputs};
 ghost use Rattle.gi_refining.specs.KnownTypes.{fills_rows, have_types};
 ghost use Rattle.gi_refining.specs.Widths.{values_keep};
@@ -242,4 +242,13 @@ pub fn fitting_rules_are_used()
     ensures loop_fits { binding_at adds_zero sum_with_zero 11 ≡ Some adds_zero_bound }
     ensures loop_becomes { applied 32 sum_with_zero adds_zero_bound 11 adds_zero ≡ goes_on }
     ensures loop_refines { IsRefinement 32 [] adds_zero goes_on }
+{}
+
+/// A remainder by a power becomes the low bits, in a function that the first test of sizes refuses and the wider one passes.
+pub fn remainders_are_used()
+    ensures refused { blocks_fit (setting_of 32 [] takes_rest) takes_rest.blocks ≡ false }
+    ensures ready { IsReadyFunction 32 [] takes_rest }
+    ensures fits { binding_at takes_rest remainder_by_power 9 ≡ Some takes_rest_bound }
+    ensures becomes { applied 32 remainder_by_power takes_rest_bound 9 takes_rest ≡ keeps_low_bits }
+    ensures refines { IsRefinement 32 [] takes_rest keeps_low_bits }
 {}
