@@ -23,3 +23,5 @@ pub mod UsingRefines
 pub mod UsingRoot
 pub mod UsingTests
 pub mod Whole
+pub mod WidthsGiven
+pub mod WidthsKept

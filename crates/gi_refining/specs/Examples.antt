@@ -54,3 +54,23 @@ goes_on = function_of
     (block_of (1 ∷ []) (10 ∷ []) (copy_in 7 0 10 ∷ constant 8 1 32 0 ∷ jump_to 9 1 ∷ [])
     ∷ block_of (1 ∷ []) [] (on 10 op.GenericPhi (def_of 3 32 ∷ use_of 0 ∷ Block 0 ∷ use_of 3 ∷ Block 1 ∷ []) ∷ jump_to 12 1 ∷ [])
     ∷ [])
+
+-- x10 % 8
+abbrev pub takes_rest : FunctionData
+takes_rest = one_block (10 ∷ []) (copy_in 7 0 10 ∷ constant 8 1 32 8 ∷ of_two 9 op.GenericUnsignedRemainder 2 0 1 ∷ copy_out 10 10 2 ∷ return_of 11 10 ∷ [])
+
+abbrev pub remainder : InstrData
+remainder = (of_two 9 op.GenericUnsignedRemainder 2 0 1).1
+
+-- what the remainder by a power binds there
+abbrev pub takes_rest_bound : Binding
+takes_rest_bound = record {
+  regs = Some (reg_of 2) ∷ Some (reg_of 0) ∷ Some (reg_of 1) ∷ None ∷ None ∷ None ∷ None ∷ None ∷ [];
+  values = Some (record { bits = 32; number = pos 8 }) ∷ None ∷ None ∷ None ∷ [];
+  pred = None;
+}
+
+-- after it: the three low bits, by a constant of its own
+abbrev pub keeps_low_bits : FunctionData
+keeps_low_bits = record (one_block (10 ∷ [])
+    (copy_in 7 0 10 ∷ constant 8 1 32 8 ∷ (99, (constant 9 9 32 7).1) ∷ (100, (of_two 9 op.GenericAnd 2 0 9).1) ∷ copy_out 10 10 2 ∷ return_of 11 10 ∷ [])) { next_reg = 10; next_id = 101 }

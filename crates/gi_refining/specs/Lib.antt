@@ -5,3 +5,4 @@ pub mod Numbered
 pub mod Replacing
 pub mod Usable
 pub mod Whole
+pub mod Widths

@@ -29,9 +29,10 @@ ghost use Rattle.gi_refining.specs.Replacing.{ReplacesAsWide, is_replacing};
 ghost use Rattle.gi_refining.specs.Whole.{IsReadyFunction, IsRefiningRule};
 ghost use Rattle.gi_refining.specs.Usable.{is_new_in, is_usable};
 ghost use Rattle.gi_refine.specs.Fitting.{blocks_fit};
-ghost use Rattle.gi_refining.specs.Examples.{adds_the_rest, adds_zero, adds_zero_bound, goes_on, takes_five, takes_five_bound};
+ghost use Rattle.gi_refining.specs.Examples.{adds_the_rest, adds_zero, adds_zero_bound, goes_on, keeps_low_bits, takes_five, takes_five_bound, takes_rest, takes_rest_bound};
 ghost use Rattle.gi_refining.specs.Known.{FitsAnywhere, FitsBefore, are_formed, are_sized, flags_found, knows_inputs};
 ghost use Rattle.gi_refining.specs.KnownTypes.{fills_rows, have_types};
+ghost use Rattle.gi_refining.specs.Widths.{values_keep};
 
 /// A rule that meets the condition on its own list is used wherever it fits in a valid function, at an instruction that is
 /// formed: what is asked besides is what is known of the states that runs reach before it. The two functions share the
@@ -101,6 +102,11 @@ pub fn tested_values_fit()
     ensures anywhere { (x : ℕ) (names : List (List ℕ)) (f : FunctionData) → blocks_fit (setting_of x names f) f.blocks ≡ true → FitsAnywhere x names f }
     ensures before { (x : ℕ) (names : List (List ℕ)) (f : FunctionData) (id : ℕ) (i : InstrData)
         → FitsAnywhere x names f → IsLive f id → instr_of f id ≡ Some i → is_phi i ≡ false → FitsBefore x names f id }
+{}
+
+/// They do so by a wider test, which knows every generic opcode: by the widths of what each instruction writes and reads.
+pub fn widely_tested_values_fit()
+    ensures { (x : ℕ) (names : List (List ℕ)) (f : FunctionData) → (x ≡ 32) ⊎ (x ≡ 64) → values_keep (setting_of x names f) f ≡ true → FitsAnywhere x names f }
 {}
 
 /// The example rules meet the condition of what is known.
@@ -236,4 +242,13 @@ pub fn fitting_rules_are_used()
     ensures loop_fits { binding_at adds_zero sum_with_zero 11 ≡ Some adds_zero_bound }
     ensures loop_becomes { applied 32 sum_with_zero adds_zero_bound 11 adds_zero ≡ goes_on }
     ensures loop_refines { IsRefinement 32 [] adds_zero goes_on }
+{}
+
+/// A remainder by a power becomes the low bits, in a function that the first test of sizes refuses and the wider one passes.
+pub fn remainders_are_used()
+    ensures refused { blocks_fit (setting_of 32 [] takes_rest) takes_rest.blocks ≡ false }
+    ensures ready { IsReadyFunction 32 [] takes_rest }
+    ensures fits { binding_at takes_rest remainder_by_power 9 ≡ Some takes_rest_bound }
+    ensures becomes { applied 32 remainder_by_power takes_rest_bound 9 takes_rest ≡ keeps_low_bits }
+    ensures refines { IsRefinement 32 [] takes_rest keeps_low_bits }
 {}

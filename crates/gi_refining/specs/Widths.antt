@@ -1,0 +1,119 @@
+-- A test of a function by the widths of its registers, by which values fit them wherever runs come: it knows every generic opcode.
+use Rattle.std.specs.Prelude.{ℕ, ◌+◌, Bool, true, false, ◌||◌, not, nat_lt, nat_le, List, [], ◌∷◌, drop, map, Option, Some}
+use Rattle.std.specs.List.{list_all}
+use Rattle.gi_llt.specs.Llt.{width_of}
+use Rattle.gi_mir.specs.Data.{InstrData, FunctionData}
+use Rattle.gi_mir.specs.Edit.{all_instrs}
+use Rattle.gi_mir.specs.declared.opcode.Opcode.{Opcode}
+use Rattle.gi_mir.specs.declared.opcode.Opcode.TheVariants as op
+use Rattle.gi_mir.specs.declared.operand.MemOp.{MemOp}
+use Rattle.gi_mir.specs.declared.operand.Operand.{Operand}
+use Rattle.gi_mir.specs.declared.operand.Operand.TheVariants as operand
+use Rattle.gi_meaning.specs.Meaning.{Meaning, Copying, Generic, Loading, Storing, Jumping, Branching, MachineBranching, MachineStoring, Calling, Returning, Nothing, Joining, Extension, Anything, Zeros, Signs, meaning_of}
+use Rattle.gi_meaning.specs.Runs.{Setting, places_of, width_of_place}
+use Rattle.gi_refine.specs.Fitting.{always_fits, is_fitting_constant, phi_fits}
+use Rattle.gi_refine.specs.Worded.{has_virtual}
+
+-- ══ What an instruction writes and reads ══
+
+-- the widths of the places that are written
+abbrev pub widths_written : Setting → List Operand → List ℕ
+widths_written s os = map (width_of_place s) (places_of os)
+
+-- the widths of the values that are read
+abbrev pub widths_read : Setting → List Operand → List ℕ
+widths_read s [] = []
+widths_read s (operand.Use r ∷ os) = s.width r.0 ∷ widths_read s os
+widths_read s (operand.Phys n ∷ os) = s.x ∷ widths_read s os
+widths_read s (operand.Frame object ∷ os) = s.x ∷ widths_read s os
+widths_read s (_ ∷ os) = widths_read s os
+
+-- ══ Generic operations ══
+
+-- no value that is read is wider than the result
+abbrev pub none_wider : (written read : List ℕ) → Bool
+none_wider [] ms = true
+none_wider (n ∷ ns) ms = list_all (λ m. nat_le m n) ms
+
+-- a place has a bit
+abbrev pub have_bits : (written : List ℕ) → Bool
+have_bits ns = list_all (λ n. nat_lt 0 n) ns
+
+abbrev pub total : List ℕ → ℕ
+total [] = 0
+total (m ∷ ms) = m + total ms
+
+-- the result has room for all that is read
+abbrev pub holds_all : (written read : List ℕ) → Bool
+holds_all [] ms = true
+holds_all (n ∷ ns) ms = nat_le (total ms) n
+
+-- Results that fit by these widths: at most an operand, or a count of an operand's bits; the condition of a choice is no such
+-- operand. One bit has room in a place with a bit, and parts in a place with room for all.
+abbrev pub fits_by_widths : Opcode → (written read : List ℕ) → Bool
+fits_by_widths op.GenericFreeze ns ms = none_wider ns ms
+fits_by_widths op.GenericFrameIndex ns ms = none_wider ns ms
+fits_by_widths op.GenericZeroExtend ns ms = none_wider ns ms
+fits_by_widths op.GenericAnd ns ms = none_wider ns ms
+fits_by_widths op.GenericOr ns ms = none_wider ns ms
+fits_by_widths op.GenericXor ns ms = none_wider ns ms
+fits_by_widths op.GenericUnsignedDivide ns ms = none_wider ns ms
+fits_by_widths op.GenericUnsignedRemainder ns ms = none_wider ns ms
+fits_by_widths op.GenericLogicalShiftRight ns ms = none_wider ns ms
+fits_by_widths op.GenericSelect ns ms = none_wider ns (drop 1 ms)
+fits_by_widths op.GenericSignedMinimum ns ms = none_wider ns ms
+fits_by_widths op.GenericSignedMaximum ns ms = none_wider ns ms
+fits_by_widths op.GenericUnsignedMinimum ns ms = none_wider ns ms
+fits_by_widths op.GenericUnsignedMaximum ns ms = none_wider ns ms
+fits_by_widths op.GenericCountLeadingZeros ns ms = none_wider ns ms
+fits_by_widths op.GenericCountTrailingZeros ns ms = none_wider ns ms
+fits_by_widths op.GenericPopulationCount ns ms = none_wider ns ms
+fits_by_widths op.GenericCountLeadingZerosNotOfZero ns ms = none_wider ns ms
+fits_by_widths op.GenericCountTrailingZerosNotOfZero ns ms = none_wider ns ms
+fits_by_widths op.GenericByteSwap ns ms = none_wider ns ms
+fits_by_widths op.GenericCompare ns ms = have_bits ns
+fits_by_widths op.GenericUnsignedAddOverflow ns ms = have_bits ns
+fits_by_widths op.GenericUnsignedSubtractOverflow ns ms = have_bits ns
+fits_by_widths op.GenericUnsignedAddCarry ns ms = have_bits ns
+fits_by_widths op.GenericUnsignedSubtractBorrow ns ms = have_bits ns
+fits_by_widths op.GenericMergeValues ns ms = holds_all ns ms
+fits_by_widths _ ns ms = false
+
+-- the address of a global, in a register that has a word
+abbrev pub is_fitting_address : Setting → Opcode → List Operand → Bool
+is_fitting_address s op.GenericGlobalValue (operand.Def r kind ∷ operand.Global flag n ∷ []) = nat_le s.x (s.width r.0)
+is_fitting_address s _ os = false
+
+abbrev pub is_fitting_result : Setting → Opcode → List Operand → Bool
+is_fitting_result s o os =
+    always_fits o || fits_by_widths o (widths_written s os) (widths_read s os) || is_fitting_constant s.width o os || is_fitting_address s o os
+
+-- ══ Loads ══
+
+-- what is loaded has no more bits than the register
+abbrev pub is_fitting_load : (x : ℕ) → Extension → Option MemOp → (written : List ℕ) → Bool
+is_fitting_load x Anything mem ns = true
+is_fitting_load x Signs mem ns = true
+is_fitting_load x Zeros (Some mem) (n ∷ ns) = nat_le (width_of x mem.ty) n
+is_fitting_load x Zeros mem ns = false
+
+-- ══ All ══
+
+-- What a phi takes is as wide as its result; a call has no virtual registers; and no instruction of the machine computes or loads.
+abbrev pub keeps_values : Setting → Meaning → InstrData → Bool
+keeps_values s Copying i = true
+keeps_values s (Generic gives) i = is_fitting_result s i.op i.operands
+keeps_values s (Loading extension) i = is_fitting_load s.x extension i.mem (widths_written s i.operands)
+keeps_values s Storing i = true
+keeps_values s (MachineStoring exists bytes) i = true
+keeps_values s Jumping i = true
+keeps_values s Branching i = true
+keeps_values s (MachineBranching test) i = true
+keeps_values s Calling i = not (has_virtual i.operands)
+keeps_values s Returning i = true
+keeps_values s Nothing i = true
+keeps_values s Joining i = phi_fits s (places_of i.operands) i.operands
+keeps_values s _ i = false
+
+abbrev pub values_keep : Setting → FunctionData → Bool
+values_keep s f = list_all (λ p. keeps_values s (meaning_of p.1.flags p.1.op) p.1) (all_instrs f.blocks)
