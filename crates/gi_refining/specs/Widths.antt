@@ -9,7 +9,7 @@ use Rattle.gi_mir.specs.declared.opcode.Opcode.TheVariants as op
 use Rattle.gi_mir.specs.declared.operand.MemOp.{MemOp}
 use Rattle.gi_mir.specs.declared.operand.Operand.{Operand}
 use Rattle.gi_mir.specs.declared.operand.Operand.TheVariants as operand
-use Rattle.gi_meaning.specs.Meaning.{Meaning, Copying, Generic, Loading, Storing, Jumping, Branching, MachineBranching, MachineStoring, Calling, Returning, Nothing, Joining, Extension, Anything, Zeros, Signs, meaning_of}
+use Rattle.gi_meaning.specs.Meaning.{Meaning, Copying, Generic, Loading, Storing, Jumping, Branching, Machine, MachineLoading, MachineBranching, MachineStoring, Calling, Returning, Nothing, Joining, Extension, Anything, Zeros, Signs, meaning_of}
 use Rattle.gi_meaning.specs.Runs.{Setting, places_of, width_of_place}
 use Rattle.gi_refine.specs.Fitting.{always_fits, is_fitting_constant, phi_fits}
 use Rattle.gi_refine.specs.Worded.{has_virtual}
@@ -117,3 +117,17 @@ keeps_values s _ i = false
 
 abbrev pub values_keep : Setting → FunctionData → Bool
 values_keep s f = list_all (λ p. keeps_values s (meaning_of p.1.flags p.1.op) p.1) (all_instrs f.blocks)
+
+-- ══ What validity doesn't say ══
+
+-- a load of zeros above, whose memory has no more bits than the register; a call without virtual registers; and no instruction of
+-- the machine that computes or loads
+abbrev pub accepts_widths : Setting → Meaning → InstrData → Bool
+accepts_widths s (Loading extension) i = is_fitting_load s.x extension i.mem (widths_written s i.operands)
+accepts_widths s Calling i = not (has_virtual i.operands)
+accepts_widths s (Machine gives) i = false
+accepts_widths s (MachineLoading exists bytes extension) i = false
+accepts_widths s _ i = true
+
+abbrev pub has_accepted : Setting → FunctionData → Bool
+has_accepted s f = list_all (λ p. accepts_widths s (meaning_of p.1.flags p.1.op) p.1) (all_instrs f.blocks)

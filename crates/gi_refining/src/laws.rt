@@ -32,7 +32,7 @@ ghost use Rattle.gi_refine.specs.Fitting.{blocks_fit};
 ghost use Rattle.gi_refining.specs.Examples.{adds_the_rest, adds_zero, adds_zero_bound, goes_on, keeps_low_bits, takes_five, takes_five_bound, takes_rest, takes_rest_bound};
 ghost use Rattle.gi_refining.specs.Known.{FitsAnywhere, FitsBefore, are_formed, are_sized, flags_found, knows_inputs};
 ghost use Rattle.gi_refining.specs.KnownTypes.{fills_rows, have_types};
-ghost use Rattle.gi_refining.specs.Widths.{values_keep};
+ghost use Rattle.gi_refining.specs.Widths.{has_accepted, values_keep};
 
 /// A rule that meets the condition on its own list is used wherever it fits in a valid function, at an instruction that is
 /// formed: what is asked besides is what is known of the states that runs reach before it. The two functions share the
@@ -107,6 +107,14 @@ pub fn tested_values_fit()
 /// They do so by a wider test, which knows every generic opcode: by the widths of what each instruction writes and reads.
 pub fn widely_tested_values_fit()
     ensures { (x : ℕ) (names : List (List ℕ)) (f : FunctionData) → (x ≡ 32) ⊎ (x ≡ 64) → values_keep (setting_of x names f) f ≡ true → FitsAnywhere x names f }
+{}
+
+/// In a valid function of formed instructions whose registers have types, values fit wherever runs come, if it passes the test of
+/// what validity doesn't say: what zero-extending loads read has room, and it has no instruction of the machine that computes.
+pub fn valid_values_fit()
+    ensures { (x : ℕ) (names : List (List ℕ)) (f : FunctionData) → (x ≡ 32) ⊎ (x ≡ 64)
+        → IsValid x Typed f → are_formed f ≡ true → have_types f ≡ true → has_accepted (setting_of x names f) f ≡ true
+        → FitsAnywhere x names f }
 {}
 
 /// The example rules meet the condition of what is known.
