@@ -1,6 +1,6 @@
 -- In a valid function of formed instructions, whose registers have types, the widths of registers pass the test, but for what
 -- validity doesn't say.
-use Rattle.std.proofs.Common.{◌≡◌, ◌⊎◌, ℕ, suc, ◌*◌, ◌^◌, ◌<◌, ◌≤◌, ◌==◌, Bool, true, false, ◌&&◌, ◌||◌, nat_lt, nat_le, List, [], ◌∷◌, length, drop, map, Option, Some, None, ⊎_elim, refl, sym, ap, ap₂, ◌∙◌, subst, arith, ltb-true, eqb-true, le-leb, lt-ltb, eq-eqb}
+use Rattle.std.proofs.Common.{◌≡◌, ◌⊎◌, ℕ, suc, ◌*◌, ◌^◌, ◌<◌, ◌≤◌, ◌==◌, Bool, true, false, not, ◌&&◌, ◌||◌, nat_lt, nat_le, List, [], ◌∷◌, length, drop, map, Option, Some, None, ⊎_elim, refl, sym, ap, ap₂, ◌∙◌, subst, arith, ltb-true, eqb-true, le-leb, lt-ltb, eq-eqb}
 use Rattle.std.specs.Prelude.{is_some}
 use Rattle.std.proofs.lemmas.Bool.{and_parts, and_from, or_cases, or_left, or_right}
 use Rattle.std.specs.List.{list_all}
@@ -39,6 +39,7 @@ use Rattle.gi_meaning.specs.Runs.{Setting, places_of, setting_of, width_of_kind}
 use Rattle.gi_meaning.specs.State.{Place, Virtual}
 use Rattle.gi_refine.specs.Fitting.{always_fits, is_fitting_constant, phi_fits, uses_have}
 use Rattle.gi_refine.specs.RuleUse.{width_in}
+use Rattle.gi_refine.specs.Worded.{has_virtual}
 use Rattle.gi_valid.specs.Typing.{Typed, known, may_relate, meets, places_of_letter, results_in, sources_in, type_in, unmet}
 use Rattle.gi_valid.specs.Valid.{IsValid}
 use Rattle.gi_valid.proofs.Suited.{suited}
@@ -46,6 +47,8 @@ use Rattle.gi_soundness.proofs.Rule.{one_passes}
 use Rattle.gi_soundness.proofs.Valid.{instr_met}
 use Rattle.gi_refining.specs.Known.{FitsAnywhere, are_formed, is_sized}
 use Rattle.gi_refining.specs.KnownTypes.{has_type, have_types}
+use Rattle.gi_refining.specs.Numbered.{is_numbered}
+use Rattle.gi_refining.specs.Whole.{IsReadyFunction}
 use Rattle.gi_refining.specs.Widths.{accepts_widths, fits_by_widths, has_accepted, have_bits, holds_all, is_fitting_address, is_fitting_result, keeps_values, none_wider, total, widths_read, widths_written}
 use Rattle.gi_refining.proofs.KnownTypes.{all_known, known_of_letter, of_letter, length_mapped, met_registers, some_is}
 use Rattle.gi_refining.proofs.Sized.{constants_fit, has_row}
@@ -452,6 +455,44 @@ phi_passes x names f flags op.Phi os joins row owned met = phi_row x names f os 
 phi_passes x names f flags op.GenericPhi os joins row owned met = phi_row x names f os (only (fits (form.Def ∷ form.Entry ∷ []) os) row) owned met
 phi_passes x names f flags _ os joins row owned met = cc
 
+-- ══ Calls: formed ones have no virtual register ══
+
+implicits_bare : (os : List Operand) → fits (form.Implicits ∷ []) os ≡ true → has_virtual os ≡ false
+implicits_bare [] fit = refl
+implicits_bare (operand.ImplicitUse n ∷ os) fit = implicits_bare os fit
+implicits_bare (operand.ImplicitDef n ∷ os) fit = implicits_bare os fit
+implicits_bare (_ ∷ os) fit = cc
+
+defined_bare : (os : List Operand) → fits (form.ImplicitDef ∷ form.Implicits ∷ []) os ≡ true → has_virtual os ≡ false
+defined_bare [] fit = cc
+defined_bare (operand.ImplicitDef n ∷ os) fit = implicits_bare os fit
+defined_bare (_ ∷ os) fit = cc
+
+saved_bare : (os : List Operand) → fits (form.SavedMask ∷ form.ImplicitDef ∷ form.Implicits ∷ []) os ≡ true → has_virtual os ≡ false
+saved_bare [] fit = cc
+saved_bare (operand.SavedMask ∷ os) fit = defined_bare os fit
+saved_bare (_ ∷ os) fit = cc
+
+callee_bare : (os : List Operand) → fits (form.Callee ∷ form.SavedMask ∷ form.ImplicitDef ∷ form.Implicits ∷ []) os ≡ true → has_virtual os ≡ false
+callee_bare [] fit = cc
+callee_bare (operand.Global Call n ∷ os) fit = saved_bare os fit
+callee_bare (operand.Global Plain n ∷ os) fit = cc
+callee_bare (operand.Global Hi n ∷ os) fit = cc
+callee_bare (operand.Global Lo n ∷ os) fit = cc
+callee_bare (operand.Routine Call n ∷ os) fit = saved_bare os fit
+callee_bare (operand.Routine Plain n ∷ os) fit = cc
+callee_bare (operand.Routine Hi n ∷ os) fit = cc
+callee_bare (operand.Routine Lo n ∷ os) fit = cc
+callee_bare (_ ∷ os) fit = cc
+
+abbrev is_calling : Meaning → Bool
+is_calling Calling = true
+is_calling _ = false
+
+calls_bare : (flags : Flags) (o : Opcode) (os : List Operand) → is_calling (meaning_of flags o) ≡ true → fits_one_of (rows_of o) os ≡ true → not (has_virtual os) ≡ true
+calls_bare flags op.PseudoCall os calls row = ap not (callee_bare os (only (fits (form.Callee ∷ form.SavedMask ∷ form.ImplicitDef ∷ form.Implicits ∷ []) os) row))
+calls_bare flags _ os calls row = cc
+
 -- ══ Constants ══
 
 constant_passes : (width : ℕ → ℕ) (os : List Operand) → is_sized width op.GenericConstant os ≡ true → is_fitting_constant width op.GenericConstant os ≡ true
@@ -574,7 +615,7 @@ instruction_passes x names f i (MachineStoring exists bytes) is accepted h = ref
 instruction_passes x names f i Jumping is accepted h = refl
 instruction_passes x names f i Branching is accepted h = refl
 instruction_passes x names f i (MachineBranching test) is accepted h = refl
-instruction_passes x names f i Calling is accepted h = accepted
+instruction_passes x names f i Calling is accepted h = calls_bare i.flags i.op i.operands (subst (λ m. is_calling m ≡ true) (sym is) refl) h.row
 instruction_passes x names f i Returning is accepted h = refl
 instruction_passes x names f i Nothing is accepted h = refl
 instruction_passes x names f i Joining is accepted h = phi_passes x names f i.flags i.op i.operands (subst (λ m. is_joining m ≡ true) (sym is) refl) h.row h.owned h.met
@@ -589,3 +630,8 @@ widths_valid x names f word valid formed owned accepted = all_kept x names f wor
       met = (suited x Typed f p.1 refl (instr_met x Typed f valid p there)).row;
       sized = one_passes (λ q. is_sized (width_in x f) q.1.op q.1.operands) p (all_instrs f.blocks) (constants_fit x f word valid formed owned) there;
     }))
+
+-- so nothing is left to be asked of states
+pub ready_tested : (x : ℕ) (names : List (List ℕ)) (f : FunctionData) → (x ≡ 32) ⊎ (x ≡ 64) → IsValid x Typed f → is_numbered f ≡ true → are_formed f ≡ true → have_types f ≡ true → has_accepted (setting_of x names f) f ≡ true
+    → IsReadyFunction x names f
+ready_tested x names f word valid numbered formed owned accepted = record { valid = valid; numbered = numbered; formed = formed; typed = owned; fit = widths_valid x names f word valid formed owned accepted }

@@ -120,11 +120,9 @@ values_keep s f = list_all (λ p. keeps_values s (meaning_of p.1.flags p.1.op) p
 
 -- ══ What validity doesn't say ══
 
--- a load of zeros above, whose memory has no more bits than the register; a call without virtual registers; and no instruction of
--- the machine that computes or loads
+-- a load of zeros above reads no more bits than its register has, and no instruction of the machine computes or loads
 abbrev pub accepts_widths : Setting → Meaning → InstrData → Bool
 accepts_widths s (Loading extension) i = is_fitting_load s.x extension i.mem (widths_written s i.operands)
-accepts_widths s Calling i = not (has_virtual i.operands)
 accepts_widths s (Machine gives) i = false
 accepts_widths s (MachineLoading exists bytes extension) i = false
 accepts_widths s _ i = true

@@ -110,11 +110,15 @@ pub fn widely_tested_values_fit()
 {}
 
 /// In a valid function of formed instructions whose registers have types, values fit wherever runs come, if it passes the test of
-/// what validity doesn't say: what zero-extending loads read has room, and it has no instruction of the machine that computes.
+/// what validity doesn't say: what zero-extending loads read has room, and no instruction of the machine computes or loads. So a
+/// function is ready for sound rules by tests alone.
 pub fn valid_values_fit()
-    ensures { (x : ℕ) (names : List (List ℕ)) (f : FunctionData) → (x ≡ 32) ⊎ (x ≡ 64)
+    ensures fit { (x : ℕ) (names : List (List ℕ)) (f : FunctionData) → (x ≡ 32) ⊎ (x ≡ 64)
         → IsValid x Typed f → are_formed f ≡ true → have_types f ≡ true → has_accepted (setting_of x names f) f ≡ true
         → FitsAnywhere x names f }
+    ensures ready { (x : ℕ) (names : List (List ℕ)) (f : FunctionData) → (x ≡ 32) ⊎ (x ≡ 64)
+        → IsValid x Typed f → is_numbered f ≡ true → are_formed f ≡ true → have_types f ≡ true → has_accepted (setting_of x names f) f ≡ true
+        → IsReadyFunction x names f }
 {}
 
 /// The example rules meet the condition of what is known.
