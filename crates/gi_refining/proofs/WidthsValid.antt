@@ -607,10 +607,10 @@ instruction_passes x names f i (Generic gives) is accepted h = by (always_fits i
     by : (t : Bool) → always_fits i.op ≡ t → is_fitting_result (setting_of x names f) i.op i.operands ≡ true
     by true always = always_passes (setting_of x names f) i.op i.operands always
     by false always = results_pass x names f i.flags i.op i.operands always (subst (λ m. is_generic m ≡ true) (sym is) refl) h
-instruction_passes x names f i (Machine gives) is accepted h = cc
-instruction_passes x names f i (Loading extension) is accepted h = accepted
+instruction_passes x names f i (Machine gives) is accepted h = accepted
+instruction_passes x names f i (Loading above) is accepted h = accepted
 instruction_passes x names f i Storing is accepted h = refl
-instruction_passes x names f i (MachineLoading exists bytes extension) is accepted h = cc
+instruction_passes x names f i (MachineLoading exists bytes above) is accepted h = accepted
 instruction_passes x names f i (MachineStoring exists bytes) is accepted h = refl
 instruction_passes x names f i Jumping is accepted h = refl
 instruction_passes x names f i Branching is accepted h = refl

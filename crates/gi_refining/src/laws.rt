@@ -104,14 +104,14 @@ pub fn tested_values_fit()
         → FitsAnywhere x names f → IsLive f id → instr_of f id ≡ Some i → is_phi i ≡ false → FitsBefore x names f id }
 {}
 
-/// They do so by a wider test, which knows every generic opcode: by the widths of what each instruction writes and reads.
+/// They do so by a wider test, which knows every opcode: by the widths of what each instruction writes and reads.
 pub fn widely_tested_values_fit()
     ensures { (x : ℕ) (names : List (List ℕ)) (f : FunctionData) → (x ≡ 32) ⊎ (x ≡ 64) → values_keep (setting_of x names f) f ≡ true → FitsAnywhere x names f }
 {}
 
 /// In a valid function of formed instructions whose registers have types, values fit wherever runs come, if it passes the test of
-/// what validity doesn't say: what zero-extending loads read has room, and no instruction of the machine computes or loads. So a
-/// function is ready for sound rules by tests alone.
+/// what validity doesn't say: what zero-extending loads read has room, and instructions of the machine have words. So a function is
+/// ready for sound rules by tests alone.
 pub fn valid_values_fit()
     ensures fit { (x : ℕ) (names : List (List ℕ)) (f : FunctionData) → (x ≡ 32) ⊎ (x ≡ 64)
         → IsValid x Typed f → are_formed f ≡ true → have_types f ≡ true → has_accepted (setting_of x names f) f ≡ true
