@@ -146,7 +146,7 @@ pub fn example_rules_fill_rows()
 {}
 
 /// Together: a sound rule that meets these conditions on its own list refines each valid function of generic code in which it
-/// fits, where constants are as wide as their registers and values fit wherever runs come, which `tested_values_fit` gives.
+/// fits, where constants are as wide as their registers and values fit wherever runs come, which `valid_values_fit` gives.
 pub fn fitting_rule_refines()
     ensures { (x : ℕ) (names : List (List ℕ)) (f : FunctionData) (name : ℕ) (root : MatchData) (definitions : List MatchData) (tests : List Test) (makes : List MakeData) (b : Binding) (id : ℕ) (instr : InstrData)
         → (x ≡ 32) ⊎ (x ≡ 64)
@@ -256,9 +256,12 @@ pub fn fitting_rules_are_used()
     ensures loop_refines { IsRefinement 32 [] adds_zero goes_on }
 {}
 
-/// A remainder by a power becomes the low bits, in a function that the first test of sizes refuses and the wider one passes.
+/// A remainder by a power becomes the low bits, in a valid function that the first test of sizes refuses: the wider one passes, and so
+/// does the test of what validity doesn't say.
 pub fn remainders_are_used()
     ensures refused { blocks_fit (setting_of 32 [] takes_rest) takes_rest.blocks ≡ false }
+    ensures passed { values_keep (setting_of 32 [] takes_rest) takes_rest ≡ true }
+    ensures accepted { has_accepted (setting_of 32 [] takes_rest) takes_rest ≡ true }
     ensures ready { IsReadyFunction 32 [] takes_rest }
     ensures fits { binding_at takes_rest remainder_by_power 9 ≡ Some takes_rest_bound }
     ensures becomes { applied 32 remainder_by_power takes_rest_bound 9 takes_rest ≡ keeps_low_bits }
