@@ -29,7 +29,7 @@ ghost use Rattle.gi_refining.specs.Replacing.{ReplacesAsWide, is_replacing};
 ghost use Rattle.gi_refining.specs.Whole.{IsReadyFunction, IsRefiningRule};
 ghost use Rattle.gi_refining.specs.Usable.{is_new_in, is_usable};
 ghost use Rattle.gi_refine.specs.Fitting.{blocks_fit};
-ghost use Rattle.gi_refining.specs.Examples.{adds_the_rest, adds_zero, adds_zero_bound, goes_on, keeps_low_bits, takes_five, takes_five_bound, takes_rest, takes_rest_bound};
+ghost use Rattle.gi_refining.specs.Examples.{adds_the_rest, adds_zero, adds_zero_bound, goes_on, keeps_low_bits, loads_byte, loads_too_much, takes_five, takes_five_bound, takes_rest, takes_rest_bound};
 ghost use Rattle.gi_refining.specs.Known.{FitsAnywhere, FitsBefore, are_formed, are_sized, flags_found, knows_inputs};
 ghost use Rattle.gi_refining.specs.KnownTypes.{fills_rows, have_types};
 ghost use Rattle.gi_refining.specs.Widths.{has_accepted, values_keep};
@@ -266,4 +266,14 @@ pub fn remainders_are_used()
     ensures fits { binding_at takes_rest remainder_by_power 9 ≡ Some takes_rest_bound }
     ensures becomes { applied 32 remainder_by_power takes_rest_bound 9 takes_rest ≡ keeps_low_bits }
     ensures refines { IsRefinement 32 [] takes_rest keeps_low_bits }
+{}
+
+/// A load with zeros above, by whose memory the test tells apart two functions that are valid and formed: in one of them values fit,
+/// and in the other two bytes come into a register of eight bits.
+pub fn loads_are_tested()
+    ensures ready { IsReadyFunction 32 [] loads_byte }
+    ensures valid { IsValid 32 Typed loads_too_much }
+    ensures formed { are_formed loads_too_much ≡ true }
+    ensures typed { have_types loads_too_much ≡ true }
+    ensures refused { has_accepted (setting_of 32 [] loads_too_much) loads_too_much ≡ false }
 {}
