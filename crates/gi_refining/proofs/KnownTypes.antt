@@ -17,6 +17,7 @@ use Rattle.gi_mir.specs.Types.{is_of, same_type}
 use Rattle.gi_mir.specs.Typings.{TypingData, two_alike}
 use Rattle.gi_mir.specs.declared.opcode.Opcode.{Opcode}
 use Rattle.gi_mir.specs.declared.opcode.Opcode.TheVariants as op
+use Rattle.gi_mir.specs.declared.operand.Kind.{Kind}
 use Rattle.gi_mir.specs.declared.operand.Operand.{Operand}
 use Rattle.gi_mir.specs.declared.operand.Operand.TheVariants as operand
 use Rattle.gi_mir.specs.declared.operand.Reg.{Reg}
@@ -62,11 +63,11 @@ map_append : {A B : Type 0} (g : A → B) (xs ys : List A) → map g (xs ++ ys) 
 map_append g [] ys = refl
 map_append g (x ∷ xs) ys = ap (λ l. g x ∷ l) (map_append g xs ys)
 
-length_mapped : {A B : Type 0} (g : A → B) (xs : List A) → length (map g xs) ≡ length xs
+pub length_mapped : {A B : Type 0} (g : A → B) (xs : List A) → length (map g xs) ≡ length xs
 length_mapped g [] = refl
 length_mapped g (x ∷ xs) = ap suc (length_mapped g xs)
 
-abbrev all_known : List Llt → List (Option Llt)
+abbrev pub all_known : List Llt → List (Option Llt)
 all_known types = map (λ ty. Some ty) types
 
 known_all : (types : List Llt) → known (all_known types) ≡ types
@@ -88,12 +89,12 @@ with_known l (m ∷ ls) more (ty ∷ types) = by (is_letter l m) (with_known l l
     by true rest = ap (λ k. Some ty ∷ k) rest
     by false rest = rest
 
-of_letter : (l : Letter) (typing : TypingData) (rs ss : List Llt) → places_of_letter l typing (all_known rs) (all_known ss) ≡ all_known (types_of l typing rs ss)
+pub of_letter : (l : Letter) (typing : TypingData) (rs ss : List Llt) → places_of_letter l typing (all_known rs) (all_known ss) ≡ all_known (types_of l typing rs ss)
 of_letter l typing rs ss =
     ap₂ (λ a b. a ++ b) (with_known l typing.results typing.more_results rs) (with_known l typing.sources typing.more_sources ss)
     ∙ sym (map_append (λ ty. Some ty) (types_at l typing.results typing.more_results rs) (types_at l typing.sources typing.more_sources ss))
 
-known_of_letter : (l : Letter) (typing : TypingData) (rs ss : List Llt) → known (places_of_letter l typing (all_known rs) (all_known ss)) ≡ types_of l typing rs ss
+pub known_of_letter : (l : Letter) (typing : TypingData) (rs ss : List Llt) → known (places_of_letter l typing (all_known rs) (all_known ss)) ≡ types_of l typing rs ss
 known_of_letter l typing rs ss = ap known (of_letter l typing rs ss) ∙ known_all (types_of l typing rs ss)
 
 all_same : {A : Type 0} (p q : A → Bool) → ((a : A) → p a ≡ q a) → (xs : List A) → list_all p xs ≡ list_all q xs
@@ -204,9 +205,16 @@ met_parts x tf typing firsts bs h =
     (subst (λ rs. meets x typing rs (drop (length firsts) (map tf firsts ++ map tf bs)) ≡ true) (take_first tf firsts (map tf bs))
     (subst (λ types. meets x typing (take (length firsts) types) (drop (length firsts) types) ≡ true) whole h))
 
+-- of an instruction that defines a register first
+pub met_registers : (x : ℕ) (tf : ℕ → Option Llt) (typing : TypingData) (r : Reg) (kind : Kind) (os : List Operand) → unmet x tf (Some typing) (operand.Def r kind ∷ os) ≡ None
+    → meets x typing (map tf (results_in (operand.Def r kind ∷ os))) (map tf (sources_in (operand.Def r kind ∷ os))) ≡ true
+met_registers x tf typing r kind os met =
+    let written : List Operand = operand.Def r kind ∷ os in
+    met_parts x tf typing (results_in written) (sources_in written) (last_met x tf typing (length (results_in written)) [] (results_in os ++ sources_in written) r.0 met)
+
 -- ══ The types of bound registers ══
 
-some_is : (o : Option Llt) (d : Llt) → is_some o ≡ true → o ≡ Some (option_map_or (λ ty. ty) o d)
+pub some_is : (o : Option Llt) (d : Llt) → is_some o ≡ true → o ≡ Some (option_map_or (λ ty. ty) o d)
 some_is None d h = cc
 some_is (Some ty) d h = refl
 
@@ -255,13 +263,11 @@ written_typed : (x : ℕ) (f : FunctionData) (b : Binding) (typing : TypingData)
 written_typed x f b typing (slot.Def p ∷ ss) (operand.Def r kind ∷ os) first looked are owned fill met =
     let slots : List Slot = slot.Def p ∷ ss in
     let written : List Operand = operand.Def r kind ∷ os in
-    let all : is_met x (type_of_register f) typing (length (results_in written)) (results_in written ++ sources_in written) 0 ≡ true =
-    last_met x (type_of_register f) typing (length (results_in written)) [] (results_in os ++ sources_in written) r.0 met in
     typed_by x typing (map (types_in x f b) (results_of slots)) (map (types_in x f b) (sources_of slots))
     (fills_any (types_in x f b) (λ place. Scalar 1) typing (results_of slots) (sources_of slots) ∙ fill)
     (subst (λ ts. meets x typing ts (all_known (map (types_in x f b) (sources_of slots))) ≡ true) (results_typed x f b slots written looked are owned)
     (subst (λ ts. meets x typing (map (type_of_register f) (results_in written)) ts ≡ true) (sources_typed x f b slots written looked are owned)
-    (met_parts x (type_of_register f) typing (results_in written) (sources_in written) all)))
+    (met_registers x (type_of_register f) typing r kind os met)))
 written_typed x f b typing (slot.Def p ∷ ss) [] first looked are owned fill met = absurd are
 written_typed x f b typing (slot.Def p ∷ ss) (_ ∷ os) first looked are owned fill met = absurd are.0
 written_typed x f b typing _ os first looked are owned fill met = cc

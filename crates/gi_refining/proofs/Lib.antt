@@ -25,3 +25,4 @@ pub mod UsingTests
 pub mod Whole
 pub mod WidthsGiven
 pub mod WidthsKept
+pub mod WidthsValid

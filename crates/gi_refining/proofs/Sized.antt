@@ -140,11 +140,11 @@ constant_sized x f (_ ∷ os) small fit range owned met sized = cc
 
 -- ══ An instruction ══
 
-record HasRow (i : InstrData) : Type 0 where
-  row : fits_one_of (rows_of i.op) i.operands ≡ true
-  range : list_all is_in_range i.operands ≡ true
+pub record HasRow (i : InstrData) : Type 0 where
+  pub row : fits_one_of (rows_of i.op) i.operands ≡ true
+  pub range : list_all is_in_range i.operands ≡ true
 
-has_row : (i : InstrData) → is_formed i ≡ true → HasRow i
+pub has_row : (i : InstrData) → is_formed i ≡ true → HasRow i
 unfolding is_formed
 has_row i h =
     let first : Bool = fits_one_of (rows_of i.op) i.operands in

@@ -10,12 +10,12 @@ use Rattle.gi_valid.specs.Examples.{extents_of}
 use Rattle.gi_valid.specs.Typing.{Typed}
 use Rattle.gi_valid.specs.Valid.{IsValid}
 use Rattle.gi_valid.proofs.Trials.{alone_contained, loop_contained}
-use Rattle.gi_refining.specs.Examples.{adds_the_rest, adds_zero, adds_zero_bound, difference, goes_on, keeps_low_bits, remainder, sum, takes_five, takes_five_bound, takes_rest, takes_rest_bound}
+use Rattle.gi_refining.specs.Examples.{adds_the_rest, adds_zero, adds_zero_bound, difference, goes_on, keeps_low_bits, loads_byte, loads_too_much, remainder, sum, takes_five, takes_five_bound, takes_rest, takes_rest_bound}
 use Rattle.gi_refining.specs.Known.{are_formed}
 use Rattle.gi_refining.specs.Whole.{IsReadyFunction}
 use Rattle.gi_refining.proofs.KnownRule.{fits_tested}
 use Rattle.gi_refining.proofs.Whole.{difference_with_constant_refines, refining-refines, remainder_by_power_refines, sum_with_zero_refines}
-use Rattle.gi_refining.proofs.WidthsKept.{widths_kept}
+use Rattle.gi_refining.proofs.WidthsValid.{ready_tested}
 
 takes_five_formed : are_formed takes_five ≡ true
 unfolding is_formed
@@ -47,7 +47,7 @@ takes_five_refined = refining-refines 32 [] takes_five difference_with_constant 
 pub adds_zero_refined : IsRefinement 32 [] adds_zero goes_on
 adds_zero_refined = refining-refines 32 [] adds_zero sum_with_zero adds_zero_bound 11 sum (inl refl) sum_with_zero_refines adds_zero_ready refl refl refl
 
--- ══ A remainder, by the wider test ══
+-- ══ A remainder: that values fit follows from validity ══
 
 takes_rest_formed : are_formed takes_rest ≡ true
 unfolding is_formed
@@ -57,7 +57,7 @@ takes_rest_valid : IsValid 32 Typed takes_rest
 takes_rest_valid = record { extents = extents_of (2 ∷ []) (0 ∷ 1 ∷ []) []; contained = alone_contained (2 ∷ []) (0 ∷ 1 ∷ []) takes_rest refl; faultless = refl }
 
 pub takes_rest_ready : IsReadyFunction 32 [] takes_rest
-takes_rest_ready = record { valid = takes_rest_valid; numbered = refl; formed = takes_rest_formed; typed = refl; fit = widths_kept 32 [] takes_rest (inl refl) refl }
+takes_rest_ready = ready_tested 32 [] takes_rest (inl refl) takes_rest_valid refl takes_rest_formed refl refl
 
 -- 8 is a power of two, and its logarithm is 3
 pub takes_rest_fits : binding_at takes_rest remainder_by_power 9 ≡ Some takes_rest_bound
@@ -72,3 +72,22 @@ pub takes_rest_refined : IsRefinement 32 [] takes_rest keeps_low_bits
 takes_rest_refined =
     subst (IsRefinement 32 [] takes_rest) takes_rest_becomes
     (refining-refines 32 [] takes_rest remainder_by_power takes_rest_bound 9 remainder (inl refl) remainder_by_power_refines takes_rest_ready refl takes_rest_fits refl)
+
+-- ══ Loads ══
+
+loads_byte_formed : are_formed loads_byte ≡ true
+unfolding is_formed count_ones
+loads_byte_formed = refl
+
+loads_byte_valid : IsValid 32 Typed loads_byte
+loads_byte_valid = record { extents = extents_of [] [] []; contained = alone_contained [] [] loads_byte refl; faultless = refl }
+
+pub loads_byte_ready : IsReadyFunction 32 [] loads_byte
+loads_byte_ready = ready_tested 32 [] loads_byte (inl refl) loads_byte_valid refl loads_byte_formed refl refl
+
+pub loads_too_much_valid : IsValid 32 Typed loads_too_much
+loads_too_much_valid = record { extents = extents_of [] [] []; contained = alone_contained [] [] loads_too_much refl; faultless = refl }
+
+pub loads_too_much_formed : are_formed loads_too_much ≡ true
+unfolding is_formed count_ones
+loads_too_much_formed = refl

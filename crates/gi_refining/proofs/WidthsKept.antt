@@ -1,7 +1,8 @@
 -- Values fit their registers wherever runs come, in a function that passes the test of widths.
-use Rattle.std.proofs.Common.{◌≡◌, ◌⊎◌, ℕ, ◌*◌, ◌/◌, ◌^◌, ◌<◌, ◌≤◌, ◌==◌, Bool, true, false, cond, not, ◌&&◌, ◌||◌, List, [], ◌∷◌, ◌++◌, map, Option, Some, None, option_map, inl, inr, ⊎_elim, refl, sym, ap, ◌∙◌, subst, arith, lit<, leb-true, ltb-true, eqb-true}
+use Rattle.std.proofs.Common.{◌≡◌, ◌⊎◌, ℕ, ◌*◌, ◌/◌, ◌^◌, ◌<◌, ◌≤◌, ◌==◌, Bool, true, false, cond, not, ◌&&◌, ◌||◌, nat_le, List, [], ◌∷◌, ◌++◌, map, Option, Some, None, option_map, inl, inr, ⊎_elim, refl, sym, ap, ◌∙◌, subst, arith, lit<, leb-true, ltb-true, eqb-true, le-leb}
 use Rattle.std.specs.Prelude.{IfSome}
-use Rattle.std.proofs.lemmas.Bool.{and_parts, or_cases, not-true}
+use Rattle.std.proofs.lemmas.Bool.{and_parts, and_from, or_cases, not-true}
+use Rattle.std.specs.List.{list_all}
 use Rattle.std.proofs.lemmas.Option.{same_Some}
 use Rattle.std.proofs.Math.Nat.{div-mul-le_self, pow-le-pow_right}
 use Rattle.gi_llt.specs.Llt.{width_of}
@@ -39,7 +40,7 @@ use Rattle.gi_soundness.specs.Rewriting.{IsOneOf}
 use Rattle.gi_soundness.proofs.Rule.{one_passes}
 use Rattle.gi_soundness.proofs.Typed.{in_list}
 use Rattle.gi_refining.specs.Known.{FitsAnywhere}
-use Rattle.gi_refining.specs.Widths.{is_fitting_address, is_fitting_load, is_fitting_result, fits_by_widths, keeps_values, values_keep, widths_read, widths_written}
+use Rattle.gi_refining.specs.Widths.{has_words, is_fitting_address, is_fitting_load, is_fitting_result, fits_by_widths, keeps_values, values_keep, widths_read, widths_written}
 use Rattle.gi_refining.proofs.WidthsGiven.{FitsGiven, GivenFits, always_given, low_bits_fit, nothing_given, widths_fit, widths_given}
 
 -- ══ Arguments ══
@@ -248,7 +249,7 @@ machine_store_fits ns x exists bytes (Value n value ∷ Value l base ∷ Number 
     or_breaks (AnswerFits ns) tt (exists x && is_immediate offset) (Stores x bytes bytes _ value outside a) a (stored_fits ns x bytes bytes _ value outside a) h
 machine_store_fits ns x exists bytes _ outside a h = subst (AnswerFits ns) (sym h) tt
 
--- ══ Calls ══
+-- ══ Calls, and instructions of the machine ══
 
 -- places that all hold words
 abbrev AreWide : (x : ℕ) → List ℕ → Type 0
@@ -284,39 +285,57 @@ sized_fits x ns (Returns words) wide sized = tt
 sized_fits x ns (Asks callee words) wide sized = tt
 sized_fits x ns Breaks wide sized = tt
 
--- without virtual registers values are words
-words_given : (x : ℕ) (arguments : List Argument) → AreArgumentsFit arguments → AreWide x (widths_given arguments) → AreSmall x arguments
-words_given x [] fits wide = tt
-words_given x (Value m v ∷ arguments) fits wide = (subst (λ k. v < 2 ^ k) wide.0 fits.0, words_given x arguments fits.1 wide.1)
-words_given x (_ ∷ arguments) fits wide = words_given x arguments fits.1 wide
+-- values that are no wider are words
+words_given : (x : ℕ) (arguments : List Argument) → AreArgumentsFit arguments → list_all (λ m. nat_le m x) (widths_given arguments) ≡ true → AreSmall x arguments
+words_given x [] fits narrow = tt
+words_given x (Value m v ∷ arguments) fits narrow =
+    let each : (nat_le m x ≡ true) × (list_all (λ n. nat_le n x) (widths_given arguments) ≡ true) = and_parts (nat_le m x) (list_all (λ n. nat_le n x) (widths_given arguments)) narrow in
+    let room : 2 ^ m ≤ 2 ^ x = pow-le-pow_right (lit< tt) (leb-true m x each.0) in (omega (arith, room, fits.0), words_given x arguments fits.1 each.1)
+words_given x (_ ∷ arguments) fits narrow = words_given x arguments fits.1 narrow
 
-reads_words : (s : Setting) (os : List Operand) → has_virtual os ≡ false → AreWide s.x (widths_read s os)
-reads_words s [] none = tt
+-- what gives words, in places that hold them, from values that are no wider
+words_answered : (s : Setting) (w : World) → 32 ≤ s.x → IsWorld s.x w → (i : InstrData) (m : Meaning) → meaning_of i.flags i.op ≡ m → may_have_words m i.op i.operands ≡ true
+    → AreWide s.x (map (width_of_place s) (written_places m i.operands)) → list_all (λ n. nat_le n s.x) (widths_read s i.operands) ≡ true → FitsBy s w m i
+words_answered s w wide is_world i m is worded all narrow = λ state arguments answer answered act.
+    let places : List ℕ = map (width_of_place s) (written_places m i.operands) in
+    let small : AreSmall s.x arguments =
+    words_given s.x arguments answered.small (subst (λ ms. list_all (λ n. nat_le n s.x) ms ≡ true) (sym (arguments_given s w state i.operands arguments answered.read)) narrow) in
+    sized_fits s.x places answer all
+    (act_sized s.x wide w is_world i.flags i.op i.operands i.mem places arguments (outside_of state) answer (subst (λ k. may_have_words k i.op i.operands ≡ true) (sym is) worded) (wide_at_most s.x places all) small answered.keeping.bytes
+    (subst (λ k. Act s.x w k i.mem places arguments (outside_of state) answer) (sym is) act))
+
+reads_words : (s : Setting) (os : List Operand) → has_virtual os ≡ false → list_all (λ n. nat_le n s.x) (widths_read s os) ≡ true
+reads_words s [] none = refl
 reads_words s (operand.Def r kind ∷ os) none = cc
 reads_words s (operand.Use r ∷ os) none = cc
-reads_words s (operand.Phys n ∷ os) none = (refl, reads_words s os none)
-reads_words s (operand.Frame object ∷ os) none = (refl, reads_words s os none)
+reads_words s (operand.Phys n ∷ os) none = and_from (nat_le s.x s.x) (list_all (λ m. nat_le m s.x) (widths_read s os)) (le-leb s.x s.x (omega arith)) (reads_words s os none)
+reads_words s (operand.Frame object ∷ os) none = and_from (nat_le s.x s.x) (list_all (λ m. nat_le m s.x) (widths_read s os)) (le-leb s.x s.x (omega arith)) (reads_words s os none)
 reads_words s (_ ∷ os) none = reads_words s os none
 
+all_wide : (x : ℕ) (ns : List ℕ) → list_all (λ n. n == x) ns ≡ true → AreWide x ns
+all_wide x [] same = tt
+all_wide x (n ∷ ns) same = let each : ((n == x) ≡ true) × (list_all (λ m. m == x) ns ≡ true) = and_parts (n == x) (list_all (λ m. m == x) ns) same in (eqb-true n x each.0, all_wide x ns each.1)
+
 calling_fits : (s : Setting) (w : World) → 32 ≤ s.x → IsWorld s.x w → (i : InstrData) → meaning_of i.flags i.op ≡ Calling → not (has_virtual i.operands) ≡ true → FitsBy s w Calling i
-calling_fits s w wide is_world i is none = λ state arguments answer answered act.
-    let places : List ℕ = map (width_of_place s) (written_places Calling i.operands) in
-    let all : AreWide s.x places = clobbered_wide s clobbered i.operands in
-    let small : AreSmall s.x arguments =
-    words_given s.x arguments answered.small (subst (AreWide s.x) (sym (arguments_given s w state i.operands arguments answered.read)) (reads_words s i.operands (not-true (has_virtual i.operands) none))) in
-    let sized : Act s.x w (meaning_of i.flags i.op) i.mem places arguments (outside_of state) answer → IsAnswerSized s.x answer =
-    act_sized s.x wide w is_world i.flags i.op i.operands i.mem places arguments (outside_of state) answer (subst (λ m. may_have_words m i.op i.operands ≡ true) (sym is) none) (wide_at_most s.x places all) small answered.keeping.bytes in
-    sized_fits s.x places answer all (sized (subst (λ m. Act s.x w m i.mem places arguments (outside_of state) answer) (sym is) act))
+calling_fits s w wide is_world i is none =
+    words_answered s w wide is_world i Calling is none (clobbered_wide s clobbered i.operands) (reads_words s i.operands (not-true (has_virtual i.operands) none))
+
+machine_fits : (s : Setting) (w : World) → 32 ≤ s.x → IsWorld s.x w → (i : InstrData) (m : Meaning) → meaning_of i.flags i.op ≡ m → may_have_words m i.op i.operands ≡ true → written_places m i.operands ≡ places_of i.operands
+    → has_words s i.operands ≡ true → FitsBy s w m i
+machine_fits s w wide is_world i m is worded written words =
+    let each : (list_all (λ n. n == s.x) (widths_written s i.operands) ≡ true) × (list_all (λ n. nat_le n s.x) (widths_read s i.operands) ≡ true) =
+    and_parts (list_all (λ n. n == s.x) (widths_written s i.operands)) (list_all (λ n. nat_le n s.x) (widths_read s i.operands)) words in
+    words_answered s w wide is_world i m is worded (subst (λ ps. AreWide s.x (map (width_of_place s) ps)) (sym written) (all_wide s.x (widths_written s i.operands) each.0)) each.1
 
 -- ══ Instructions ══
 
 answer_fits : (s : Setting) (w : World) → 32 ≤ s.x → IsWorld s.x w → (i : InstrData) (m : Meaning) → meaning_of i.flags i.op ≡ m → keeps_values s m i ≡ true → FitsBy s w m i
 answer_fits s w wide is_world i Copying is keeps = plain_fits s w Copying i tt refl
 answer_fits s w wide is_world i (Generic gives) is keeps = given_here s w gives i (results_here s w is_world gives i is keeps)
-answer_fits s w wide is_world i (Machine gives) is keeps = cc
+answer_fits s w wide is_world i (Machine gives) is keeps = machine_fits s w wide is_world i (Machine gives) is refl refl keeps
 answer_fits s w wide is_world i (Loading extension) is keeps = loading_fits s w extension i keeps
 answer_fits s w wide is_world i Storing is keeps = λ state arguments answer answered act. store_fits (widths_written s i.operands) s.x i.mem arguments (outside_of state) answer act
-answer_fits s w wide is_world i (MachineLoading exists bytes extension) is keeps = cc
+answer_fits s w wide is_world i (MachineLoading exists bytes extension) is keeps = machine_fits s w wide is_world i (MachineLoading exists bytes extension) is refl refl keeps
 answer_fits s w wide is_world i (MachineStoring exists bytes) is keeps = λ state arguments answer answered act.
     machine_store_fits (widths_written s i.operands) s.x exists bytes act.0 (outside_of state) answer act.2
 answer_fits s w wide is_world i Jumping is keeps = plain_fits s w Jumping i tt refl

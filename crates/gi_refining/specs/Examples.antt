@@ -1,8 +1,11 @@
 -- Valid functions in which example rules fit.
-use Rattle.std.specs.Prelude.{pos, [], ◌∷◌, None, Some}
-use Rattle.gi_mir.specs.Data.{InstrData, FunctionData, reg_of}
+use Rattle.std.specs.Prelude.{ℕ, pos, true, [], ◌∷◌, None, Some}
+use Rattle.gi_llt.specs.declared.Llt.{Llt}
+use Rattle.gi_llt.specs.declared.Llt.TheVariants.{Pointer, Scalar}
+use Rattle.gi_mir.specs.Data.{InstrData, FunctionData, no_flags, reg_of}
 use Rattle.gi_mir.specs.declared.opcode.Opcode.TheVariants as op
-use Rattle.gi_mir.specs.declared.operand.Operand.TheVariants.{Block}
+use Rattle.gi_mir.specs.declared.operand.Kind.TheVariants.{Generic}
+use Rattle.gi_mir.specs.declared.operand.Operand.TheVariants.{Block, Def, Phys}
 use Rattle.gi_pattern.specs.declared.binding.Binding.{Binding}
 use Rattle.gi_valid.specs.Examples.{block_of, constant, copy_in, copy_out, def_of, function_of, jump_to, of_two, on, one_block, return_of, use_of}
 
@@ -74,3 +77,19 @@ takes_rest_bound = record {
 abbrev pub keeps_low_bits : FunctionData
 keeps_low_bits = record (one_block (10 ∷ [])
     (copy_in 7 0 10 ∷ constant 8 1 32 8 ∷ (99, (constant 9 9 32 7).1) ∷ (100, (of_two 9 op.GenericAnd 2 0 9).1) ∷ copy_out 10 10 2 ∷ return_of 11 10 ∷ [])) { next_reg = 10; next_id = 101 }
+
+-- what x10 points to, with zeros above
+abbrev pub loads_zeros : (width : ℕ) → (memory : Llt) → FunctionData
+loads_zeros width memory = one_block (10 ∷ [])
+    (on 7 op.Copy (Def (reg_of 0) (Generic Pointer) ∷ Phys 10 ∷ [])
+    ∷ (8, record { op = op.GenericZeroExtendLoad; flags = no_flags; operands = def_of 1 width ∷ use_of 0 ∷ []; mem = Some (record { load = true; ty = memory; align = 1 }); line = 8 })
+    ∷ copy_out 9 10 1
+    ∷ return_of 10 10
+    ∷ [])
+
+-- a byte into 32 bits, and two bytes into 8 bits
+abbrev pub loads_byte : FunctionData
+loads_byte = loads_zeros 32 (Scalar 8)
+
+abbrev pub loads_too_much : FunctionData
+loads_too_much = loads_zeros 8 (Scalar 16)

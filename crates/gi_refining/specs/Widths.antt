@@ -1,5 +1,5 @@
--- A test of a function by the widths of its registers, by which values fit them wherever runs come: it knows every generic opcode.
-use Rattle.std.specs.Prelude.{ℕ, ◌+◌, Bool, true, false, ◌||◌, not, nat_lt, nat_le, List, [], ◌∷◌, drop, map, Option, Some}
+-- A test of a function by the widths of its registers, by which values fit them wherever runs come: it knows every opcode.
+use Rattle.std.specs.Prelude.{ℕ, ◌+◌, Bool, true, false, ◌&&◌, ◌||◌, not, nat_lt, nat_le, ◌==◌, List, [], ◌∷◌, drop, map, Option, Some}
 use Rattle.std.specs.List.{list_all}
 use Rattle.gi_llt.specs.Llt.{width_of}
 use Rattle.gi_mir.specs.Data.{InstrData, FunctionData}
@@ -9,7 +9,7 @@ use Rattle.gi_mir.specs.declared.opcode.Opcode.TheVariants as op
 use Rattle.gi_mir.specs.declared.operand.MemOp.{MemOp}
 use Rattle.gi_mir.specs.declared.operand.Operand.{Operand}
 use Rattle.gi_mir.specs.declared.operand.Operand.TheVariants as operand
-use Rattle.gi_meaning.specs.Meaning.{Meaning, Copying, Generic, Loading, Storing, Jumping, Branching, MachineBranching, MachineStoring, Calling, Returning, Nothing, Joining, Extension, Anything, Zeros, Signs, meaning_of}
+use Rattle.gi_meaning.specs.Meaning.{Meaning, Copying, Generic, Loading, Storing, Jumping, Branching, Machine, MachineLoading, MachineBranching, MachineStoring, Calling, Returning, Nothing, Joining, Extension, Anything, Zeros, Signs, meaning_of}
 use Rattle.gi_meaning.specs.Runs.{Setting, places_of, width_of_place}
 use Rattle.gi_refine.specs.Fitting.{always_fits, is_fitting_constant, phi_fits}
 use Rattle.gi_refine.specs.Worded.{has_virtual}
@@ -97,9 +97,15 @@ is_fitting_load x Signs mem ns = true
 is_fitting_load x Zeros (Some mem) (n ∷ ns) = nat_le (width_of x mem.ty) n
 is_fitting_load x Zeros mem ns = false
 
+-- ══ Instructions of the machine ══
+
+-- words in places of words, from values that are no wider
+abbrev pub has_words : Setting → List Operand → Bool
+has_words s os = list_all (λ n. n == s.x) (widths_written s os) && list_all (λ m. nat_le m s.x) (widths_read s os)
+
 -- ══ All ══
 
--- What a phi takes is as wide as its result; a call has no virtual registers; and no instruction of the machine computes or loads.
+-- what a phi takes is as wide as its result, and a call has no virtual registers
 abbrev pub keeps_values : Setting → Meaning → InstrData → Bool
 keeps_values s Copying i = true
 keeps_values s (Generic gives) i = is_fitting_result s i.op i.operands
@@ -113,7 +119,20 @@ keeps_values s Calling i = not (has_virtual i.operands)
 keeps_values s Returning i = true
 keeps_values s Nothing i = true
 keeps_values s Joining i = phi_fits s (places_of i.operands) i.operands
-keeps_values s _ i = false
+keeps_values s (Machine gives) i = has_words s i.operands
+keeps_values s (MachineLoading exists bytes extension) i = has_words s i.operands
 
 abbrev pub values_keep : Setting → FunctionData → Bool
 values_keep s f = list_all (λ p. keeps_values s (meaning_of p.1.flags p.1.op) p.1) (all_instrs f.blocks)
+
+-- ══ What validity doesn't say ══
+
+-- a load of zeros above reads no more bits than its register has, and instructions of the machine have words
+abbrev pub accepts_widths : Setting → Meaning → InstrData → Bool
+accepts_widths s (Loading extension) i = is_fitting_load s.x extension i.mem (widths_written s i.operands)
+accepts_widths s (Machine gives) i = has_words s i.operands
+accepts_widths s (MachineLoading exists bytes extension) i = has_words s i.operands
+accepts_widths s _ i = true
+
+abbrev pub has_accepted : Setting → FunctionData → Bool
+has_accepted s f = list_all (λ p. accepts_widths s (meaning_of p.1.flags p.1.op) p.1) (all_instrs f.blocks)

@@ -29,10 +29,10 @@ ghost use Rattle.gi_refining.specs.Replacing.{ReplacesAsWide, is_replacing};
 ghost use Rattle.gi_refining.specs.Whole.{IsReadyFunction, IsRefiningRule};
 ghost use Rattle.gi_refining.specs.Usable.{is_new_in, is_usable};
 ghost use Rattle.gi_refine.specs.Fitting.{blocks_fit};
-ghost use Rattle.gi_refining.specs.Examples.{adds_the_rest, adds_zero, adds_zero_bound, goes_on, keeps_low_bits, takes_five, takes_five_bound, takes_rest, takes_rest_bound};
+ghost use Rattle.gi_refining.specs.Examples.{adds_the_rest, adds_zero, adds_zero_bound, goes_on, keeps_low_bits, loads_byte, loads_too_much, takes_five, takes_five_bound, takes_rest, takes_rest_bound};
 ghost use Rattle.gi_refining.specs.Known.{FitsAnywhere, FitsBefore, are_formed, are_sized, flags_found, knows_inputs};
 ghost use Rattle.gi_refining.specs.KnownTypes.{fills_rows, have_types};
-ghost use Rattle.gi_refining.specs.Widths.{values_keep};
+ghost use Rattle.gi_refining.specs.Widths.{has_accepted, values_keep};
 
 /// A rule that meets the condition on its own list is used wherever it fits in a valid function, at an instruction that is
 /// formed: what is asked besides is what is known of the states that runs reach before it. The two functions share the
@@ -104,9 +104,21 @@ pub fn tested_values_fit()
         → FitsAnywhere x names f → IsLive f id → instr_of f id ≡ Some i → is_phi i ≡ false → FitsBefore x names f id }
 {}
 
-/// They do so by a wider test, which knows every generic opcode: by the widths of what each instruction writes and reads.
+/// They do so by a wider test, which knows every opcode: by the widths of what each instruction writes and reads.
 pub fn widely_tested_values_fit()
     ensures { (x : ℕ) (names : List (List ℕ)) (f : FunctionData) → (x ≡ 32) ⊎ (x ≡ 64) → values_keep (setting_of x names f) f ≡ true → FitsAnywhere x names f }
+{}
+
+/// In a valid function of formed instructions whose registers have types, values fit wherever runs come, if it passes the test of
+/// what validity doesn't say: what zero-extending loads read has room, and instructions of the machine have words. So a function is
+/// ready for sound rules by tests alone.
+pub fn valid_values_fit()
+    ensures fit { (x : ℕ) (names : List (List ℕ)) (f : FunctionData) → (x ≡ 32) ⊎ (x ≡ 64)
+        → IsValid x Typed f → are_formed f ≡ true → have_types f ≡ true → has_accepted (setting_of x names f) f ≡ true
+        → FitsAnywhere x names f }
+    ensures ready { (x : ℕ) (names : List (List ℕ)) (f : FunctionData) → (x ≡ 32) ⊎ (x ≡ 64)
+        → IsValid x Typed f → is_numbered f ≡ true → are_formed f ≡ true → have_types f ≡ true → has_accepted (setting_of x names f) f ≡ true
+        → IsReadyFunction x names f }
 {}
 
 /// The example rules meet the condition of what is known.
@@ -134,7 +146,7 @@ pub fn example_rules_fill_rows()
 {}
 
 /// Together: a sound rule that meets these conditions on its own list refines each valid function of generic code in which it
-/// fits, where constants are as wide as their registers and values fit wherever runs come, which `tested_values_fit` gives.
+/// fits, where constants are as wide as their registers and values fit wherever runs come, which `valid_values_fit` gives.
 pub fn fitting_rule_refines()
     ensures { (x : ℕ) (names : List (List ℕ)) (f : FunctionData) (name : ℕ) (root : MatchData) (definitions : List MatchData) (tests : List Test) (makes : List MakeData) (b : Binding) (id : ℕ) (instr : InstrData)
         → (x ≡ 32) ⊎ (x ≡ 64)
@@ -244,11 +256,24 @@ pub fn fitting_rules_are_used()
     ensures loop_refines { IsRefinement 32 [] adds_zero goes_on }
 {}
 
-/// A remainder by a power becomes the low bits, in a function that the first test of sizes refuses and the wider one passes.
+/// A remainder by a power becomes the low bits, in a valid function that the first test of sizes refuses: the wider one passes, and so
+/// does the test of what validity doesn't say.
 pub fn remainders_are_used()
     ensures refused { blocks_fit (setting_of 32 [] takes_rest) takes_rest.blocks ≡ false }
+    ensures passed { values_keep (setting_of 32 [] takes_rest) takes_rest ≡ true }
+    ensures accepted { has_accepted (setting_of 32 [] takes_rest) takes_rest ≡ true }
     ensures ready { IsReadyFunction 32 [] takes_rest }
     ensures fits { binding_at takes_rest remainder_by_power 9 ≡ Some takes_rest_bound }
     ensures becomes { applied 32 remainder_by_power takes_rest_bound 9 takes_rest ≡ keeps_low_bits }
     ensures refines { IsRefinement 32 [] takes_rest keeps_low_bits }
+{}
+
+/// A load with zeros above, by whose memory the test tells apart two functions that are valid and formed: in one of them values fit,
+/// and in the other two bytes come into a register of eight bits.
+pub fn loads_are_tested()
+    ensures ready { IsReadyFunction 32 [] loads_byte }
+    ensures valid { IsValid 32 Typed loads_too_much }
+    ensures formed { are_formed loads_too_much ≡ true }
+    ensures typed { have_types loads_too_much ≡ true }
+    ensures refused { has_accepted (setting_of 32 [] loads_too_much) loads_too_much ≡ false }
 {}
