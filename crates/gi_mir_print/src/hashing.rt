@@ -2,7 +2,7 @@
 //!
 //! The registers of a function are numbered closely, and a text names them about in order. A hash that scatters them
 //! reaches for another part of memory with each register of a large function; this one doesn't. Numbers that are chosen
-//! to meet in a table of so many entries are too few to make it slow: they differ by multiples of its size.
+//! to meet in a table, which differ by a multiple of its size, make it slow: such texts take long to print.
 
 ghost use Rattle.std.specs.Prelude.{◌≡◌};
 ghost use Rattle.gi_mir_print.specs.Hashing.{hash_of, written};
