@@ -9,10 +9,13 @@ use Rattle.gi_mir.specs.Data.{InstrData, FunctionData, reg_of}
 use Rattle.gi_mir.specs.Edit.{instr_of}
 use Rattle.gi_mir.specs.Formed.{is_use}
 use Rattle.gi_mir.specs.Registers.{kind_of, type_of_kind}
-use Rattle.gi_mir.specs.Row.{typing_of}
+use Rattle.gi_mir.specs.Row.{memory_of, typing_of}
 use Rattle.gi_mir.specs.Typings.{TypingData}
+use Rattle.gi_mir.specs.declared.entry.InMemory.{InMemory}
 use Rattle.gi_mir.specs.declared.opcode.Opcode.{Opcode}
 use Rattle.gi_mir.specs.declared.opcode.Opcode.TheVariants as op
+use Rattle.gi_mir.specs.declared.operand.MemOp.{MemOp}
+use Rattle.gi_mir.specs.declared.operand.Operand.{Operand}
 use Rattle.gi_mir.specs.declared.operand.Reg.{Reg}
 use Rattle.gi_pattern.specs.Applying.{applied, line_of, made_at, uses_replaced}
 use Rattle.gi_pattern.specs.Binding.{empty_binding, register_at}
@@ -26,7 +29,7 @@ use Rattle.gi_pattern.specs.declared.binding.Binding.{Binding}
 use Rattle.gi_pattern.specs.declared.rule.MakeSlot.{MakeSlot}
 use Rattle.gi_pattern.specs.declared.rule.MakeSlot.TheVariants as make
 use Rattle.gi_valid.specs.Definitions.{is_copy}
-use Rattle.gi_valid.specs.Typing.{Phase, Typed, Selecting, Untyped, is_constant_op, joins_any, mismatch, type_in, unmet}
+use Rattle.gi_valid.specs.Typing.{Phase, Typed, Selecting, Untyped, has_room, is_constant_op, is_roomy, joins_any, mismatch, roomless, type_in, unless_roomy, unmet, value_in}
 use Rattle.gi_valid.specs.Valid.{IsValid}
 use Rattle.gi_valid.proofs.Suited.{no_mismatch}
 use Rattle.gi_soundness.specs.Applying.{rewriting_of}
@@ -49,11 +52,33 @@ keeps_functions rule keeps meets = record {
 
 -- ══ Instructions of the machine ══
 
+-- where every type has room, no register is without
+always_roomy : (type_of : ℕ → Option Llt) (kept : InMemory) (mem : Option MemOp) (os : List Operand) → ((value in_memory : Llt) → has_room kept value in_memory ≡ true) → roomless type_of kept mem os ≡ None
+always_roomy type_of kept None os room = refl
+always_roomy type_of kept (Some mem) os room = by (value_in os)
+  where
+    by_type : (r : ℕ) (ty : Option Llt) → cond (is_roomy kept ty mem.ty) None (Some r) ≡ None
+    by_type r None = refl
+    by_type r (Some ty) = ap (λ t. cond t None (Some r)) (room ty mem.ty)
+
+    by : (value : Option ℕ) → unless_roomy type_of kept mem.ty value ≡ None
+    by None = refl
+    by (Some r) = by_type r (type_of r)
+
+-- generic opcodes alone ask for room, and these have types
+roomy_untyped : (o : Opcode) → typing_of o ≡ None → (value in_memory : Llt) → has_room (memory_of o) value in_memory ≡ true
+roomy_untyped op.GenericLoad h value in_memory = cc
+roomy_untyped op.GenericZeroExtendLoad h value in_memory = cc
+roomy_untyped op.GenericSignExtendLoad h value in_memory = cc
+roomy_untyped op.GenericStore h value in_memory = cc
+roomy_untyped _ h value in_memory = refl
+
 untyped_met : (x : ℕ) (phase : Phase) (g : FunctionData) (i : InstrData) → is_untyped i.op ≡ true → mismatch x phase g i ≡ None
 untyped_met x phase g i h =
     let both : (is_none (typing_of i.op) ≡ true) × (not (is_copy i.op) ≡ true) = and_parts (is_none (typing_of i.op)) (not (is_copy i.op)) h in
     let no_row : typing_of i.op ≡ None = none_of (typing_of i.op) both.0 in
     no_mismatch x phase g i (no_join phase (not-true (is_copy i.op) both.1)) (record {
+      room = always_roomy (type_in phase g) (memory_of i.op) i.mem i.operands (roomy_untyped i.op no_row);
       row = ap (λ o. unmet x (type_in phase g) o i.operands) no_row;
       sized = λ constant. absurd (true≢false (sym constant ∙ no_constant i.op no_row));
     })

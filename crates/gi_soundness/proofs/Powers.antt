@@ -7,7 +7,7 @@ use Rattle.gi_mir.specs.Edit.{IsLive, all_instrs, defines, instr_of}
 use Rattle.gi_mir.specs.Formed.{is_use}
 use Rattle.gi_mir.specs.Ids.{AreOwnIds}
 use Rattle.gi_mir.specs.Registers.{kind_of, type_of_kind}
-use Rattle.gi_mir.specs.Row.{typing_of}
+use Rattle.gi_mir.specs.Row.{memory_of, typing_of}
 use Rattle.gi_mir.specs.Typings.{TypingData, two_alike, no_sources}
 use Rattle.gi_mir.specs.declared.opcode.Opcode.{Opcode}
 use Rattle.gi_mir.specs.declared.opcode.Opcode.TheVariants as op
@@ -26,7 +26,7 @@ use Rattle.gi_pattern.specs.declared.binding.Binding.{Binding}
 use Rattle.gi_pattern.specs.declared.rule.Slot.TheVariants.{Def, Use}
 use Rattle.gi_pattern.proofs.Standing.{instr-live}
 use Rattle.gi_valid.specs.Definitions.{is_copy}
-use Rattle.gi_valid.specs.Typing.{Phase, Typed, Selecting, Untyped, is_constant_op, joins_any, mismatch, type_in, unmet, first_unmet}
+use Rattle.gi_valid.specs.Typing.{Phase, Typed, Selecting, Untyped, is_constant_op, joins_any, mismatch, type_in, roomless, unmet, first_unmet}
 use Rattle.gi_valid.specs.Valid.{IsValid}
 use Rattle.gi_valid.proofs.Suited.{no_mismatch, suited}
 use Rattle.gi_soundness.specs.Applying.{rewriting_of}
@@ -86,8 +86,9 @@ met_row : (x : ℕ) (phase : Phase) (f : FunctionData) (i : InstrData) (typing :
 met_row x phase f i typing no_copy row met =
     subst (λ o. unmet x (type_in phase f) o i.operands ≡ None) row (suited x phase f i (no_copy_joins phase i no_copy) met).row
 
-row_mismatch : (x : ℕ) (phase : Phase) (f : FunctionData) (i : InstrData) (typing : TypingData) → is_copy i.op ≡ false → is_constant_op i.op ≡ false → typing_of i.op ≡ Some typing → unmet x (type_in phase f) (Some typing) i.operands ≡ None → mismatch x phase f i ≡ None
-row_mismatch x phase f i typing no_copy no_constant row met = no_mismatch x phase f i (no_copy_joins phase i no_copy) (record {
+row_mismatch : (x : ℕ) (phase : Phase) (f : FunctionData) (i : InstrData) (typing : TypingData) → is_copy i.op ≡ false → is_constant_op i.op ≡ false → i.mem ≡ None → typing_of i.op ≡ Some typing → unmet x (type_in phase f) (Some typing) i.operands ≡ None → mismatch x phase f i ≡ None
+row_mismatch x phase f i typing no_copy no_constant no_mem row met = no_mismatch x phase f i (no_copy_joins phase i no_copy) (record {
+  room = ap (λ mem. roomless (type_in phase f) (memory_of i.op) mem i.operands) no_mem;
   row = subst (λ o. unmet x (type_in phase f) o i.operands ≡ None) (sym row) met;
   sized = λ constant. absurd (true≢false (sym constant ∙ no_constant));
 })
@@ -108,7 +109,7 @@ scaled_keeps name old new ms tests value i = record { valid = λ x phase f id b 
         rule_stays_valid x phase (scaled name old new ms tests value) f id root b i.keeps own had live at fits (record {
           replaced = λ r so. absurd (true≢false (sym (sym (ap not (eq-eqb r r refl)) ∙ so)));
           made = λ p inside. ⊎_elim (λ same. ap (λ (q : ℕ × InstrData). mismatch x phase (applied x (scaled name old new ms tests value) b id f) q.1) same ∙ constant_mismatch x phase (applied x (scaled name old new ms tests value) b id f) (line_of f id) (reg_of f.next_reg) (kind_made x f b (Of 2)) _ new_kind constant_row)
-              (λ later. ⊎_elim (λ same. ap (λ (q : ℕ × InstrData). mismatch x phase (applied x (scaled name old new ms tests value) b id f) q.1) same ∙ row_mismatch x phase (applied x (scaled name old new ms tests value) b id f) _ (two_alike class.Scalar) i.new_no_copy i.new_no_constant i.new_row new_row) (λ none. absurd none) later)
+              (λ later. ⊎_elim (λ same. ap (λ (q : ℕ × InstrData). mismatch x phase (applied x (scaled name old new ms tests value) b id f) q.1) same ∙ row_mismatch x phase (applied x (scaled name old new ms tests value) b id f) _ (two_alike class.Scalar) i.new_no_copy i.new_no_constant refl i.new_row new_row) (λ none. absurd none) later)
               (subst (λ l. IsOneOf p l) made_same inside);
         }) valid
       where

@@ -113,6 +113,7 @@ pub constant_mismatch : (x : ℕ) (phase : Phase) (g : FunctionData) (line : ℕ
     → mismatch x phase g (plain op.GenericConstant (operand.Def r kind ∷ operand.Constant (bits_of_kind x kind) value ∷ []) line) ≡ None
 constant_mismatch x phase g line r kind value is h =
     no_mismatch x phase g (plain op.GenericConstant (operand.Def r kind ∷ operand.Constant (bits_of_kind x kind) value ∷ []) line) (alone phase) (record {
+      room = refl;
       row = h;
       sized = λ constant. ap (λ t. cond t None (Some r.0)) (wide_in x phase g r.0 kind is);
     })

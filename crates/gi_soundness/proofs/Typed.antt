@@ -8,16 +8,18 @@ use Rattle.gi_mir.specs.Data.{InstrData, BlockData, FunctionData, reg_of}
 use Rattle.gi_mir.specs.Edit.{all_instrs, is_def_of, is_use_of, defines, uses}
 use Rattle.gi_mir.specs.Formed.{is_use}
 use Rattle.gi_mir.specs.Registers.{first_there, kind_in_operand, kind_in_operands, kind_in_instrs, kind_in_blocks, kind_of, type_of_kind}
-use Rattle.gi_mir.specs.Row.{typing_of}
+use Rattle.gi_mir.specs.Row.{memory_of, typing_of}
 use Rattle.gi_mir.specs.Typings.{TypingData}
+use Rattle.gi_mir.specs.declared.entry.InMemory.{InMemory}
 use Rattle.gi_mir.specs.declared.operand.Kind.{Kind}
 use Rattle.gi_mir.specs.declared.operand.Kind.TheVariants.{Class}
+use Rattle.gi_mir.specs.declared.operand.MemOp.{MemOp}
 use Rattle.gi_mir.specs.declared.operand.Operand.{Operand}
 use Rattle.gi_mir.specs.declared.operand.Operand.TheVariants as operand
 use Rattle.gi_pattern.specs.InPlace.{operand_renamed, entry_renamed}
 use Rattle.gi_valid.specs.Definitions.{is_copy, is_pure, definition, uses_purely, IsComputedOver, IsComputedFrom}
 use Rattle.gi_valid.specs.Faults.{sites, told, definitions, times, type_mismatch}
-use Rattle.gi_valid.specs.Typing.{Phase, Typed, Selecting, Untyped, type_in, meets, results_in, sources_in, is_met, first_unmet, joins_any, unmet, is_as_wide, unsized, unsuited, mismatch}
+use Rattle.gi_valid.specs.Typing.{Phase, Typed, Selecting, Untyped, type_in, meets, results_in, sources_in, is_met, first_unmet, joins_any, unmet, is_as_wide, unsized, value_in, is_roomy, unless_roomy, roomless, unsuited, mismatch}
 use Rattle.gi_valid.specs.declared.invalid.Invalid.TheVariants.{TypeMismatch}
 use Rattle.gi_valid.proofs.Single.{IsIn, one_definition}
 use Rattle.gi_valid.proofs.Sited.{site_of}
@@ -250,11 +252,33 @@ unsized_left x tf tg rename (operand.Def r kind ∷ operand.Constant bits value 
     ap (λ t. cond (is_as_wide x bits t) None (Some r.0)) (results r.0 (or_left (r.0 == r.0) (list_any (is_def_of r.0) (operand.Constant bits value ∷ [])) (eq-eqb r.0 r.0 refl))) ∙ none
 unsized_left x tf tg rename _ results none = refl
 
+-- a register of the same type has room as well
+roomy_left : (tf tg : ℕ → Option Llt) (kept : InMemory) (in_memory : Llt) (r q : ℕ) → tg q ≡ tf r → unless_roomy tf kept in_memory (Some r) ≡ None → unless_roomy tg kept in_memory (Some q) ≡ None
+roomy_left tf tg kept in_memory r q same none = ap (λ ty. cond (is_roomy kept ty in_memory) None (Some q)) same ∙ by (is_roomy kept (tf r) in_memory) none
+  where
+    by : (t : Bool) → cond t None (Some r) ≡ None → cond t None (Some q) ≡ None
+    by true none = refl
+    by false none = cc
+
+value_left : (tf tg : ℕ → Option Llt) (rename : ℕ → ℕ) (kept : InMemory) (in_memory : Llt) (os : List Operand) → ((r : ℕ) → list_any (is_def_of r) os ≡ true → tg r ≡ tf r) → ((r : ℕ) → list_any (is_use_of r) os ≡ true → tg (rename r) ≡ tf r)
+    → unless_roomy tf kept in_memory (value_in os) ≡ None → unless_roomy tg kept in_memory (value_in (map (operand_renamed rename) os)) ≡ None
+value_left tf tg rename kept in_memory (operand.Def r kind ∷ os) results sources none =
+    roomy_left tf tg kept in_memory r.0 r.0 (results r.0 (or_left (r.0 == r.0) (list_any (is_def_of r.0) os) (eq-eqb r.0 r.0 refl))) none
+value_left tf tg rename kept in_memory (operand.Use r ∷ os) results sources none =
+    roomy_left tf tg kept in_memory r.0 (rename r.0) (sources r.0 (or_left (r.0 == r.0) (list_any (is_use_of r.0) os) (eq-eqb r.0 r.0 refl))) none
+value_left tf tg rename kept in_memory _ results sources none = refl
+
+roomless_left : (tf tg : ℕ → Option Llt) (rename : ℕ → ℕ) (kept : InMemory) (mem : Option MemOp) (os : List Operand) → ((r : ℕ) → list_any (is_def_of r) os ≡ true → tg r ≡ tf r) → ((r : ℕ) → list_any (is_use_of r) os ≡ true → tg (rename r) ≡ tf r)
+    → roomless tf kept mem os ≡ None → roomless tg kept mem (map (operand_renamed rename) os) ≡ None
+roomless_left tf tg rename kept None os results sources none = refl
+roomless_left tf tg rename kept (Some mem) os results sources none = value_left tf tg rename kept mem.ty os results sources none
+
 unsuited_left : (x : ℕ) (tf tg : ℕ → Option Llt) (rename : ℕ → ℕ) (p : ℕ × InstrData) → ((r : ℕ) → defines r p ≡ true → tg r ≡ tf r) → ((r : ℕ) → uses r p ≡ true → tg (rename r) ≡ tf r)
     → unsuited x tf p.1 ≡ None → unsuited x tg (entry_renamed rename p).1 ≡ None
 unsuited_left x tf tg rename p results sources none =
     let old : IsSuited x tf p.1 = suited_of x tf p.1 none in
     none_unsuited x tg (entry_renamed rename p).1 (record {
+      room = roomless_left tf tg rename (memory_of p.1.op) p.1.mem p.1.operands results sources old.room;
       row = unmet_left x tf tg rename p.1.operands results sources (typing_of p.1.op) old.row;
       sized = λ constant. unsized_left x tf tg rename p.1.operands results (old.sized constant);
     })

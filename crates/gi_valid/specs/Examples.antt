@@ -1,5 +1,6 @@
 -- Small functions, valid and invalid, and the sets of their registers.
-use Rattle.std.specs.Prelude.{ℕ, pos, false, ◌&&◌, ◌==◌, if◌then◌else◌, List, [], ◌∷◌, None}
+use Rattle.std.specs.Prelude.{ℕ, pos, true, false, ◌&&◌, ◌==◌, if◌then◌else◌, List, [], ◌∷◌, Some, None}
+use Rattle.gi_llt.specs.declared.Llt.{Llt}
 use Rattle.gi_llt.specs.declared.Llt.TheVariants.{Scalar, Pointer}
 use Rattle.gi_mir.specs.Data.{InstrData, BlockData, FunctionData, reg_of, no_flags}
 use Rattle.gi_mir.specs.declared.opcode.Opcode.{Opcode}
@@ -107,6 +108,20 @@ widens_a_constant = one_block (10 ∷ []) (on 7 op.GenericConstant (def_of 0 32 
 -- a pointer is as wide as a register
 abbrev pub points_to_zero : FunctionData
 points_to_zero = one_block (10 ∷ []) (on 7 op.GenericConstant (Def (reg_of 0) (Generic Pointer) ∷ Constant 32 0 ∷ []) ∷ return_of 8 10 ∷ [])
+
+-- what $x10 points to
+abbrev pub loads : Opcode → (register memory : Llt) → FunctionData
+loads opcode register memory = one_block (10 ∷ [])
+    (on 7 op.Copy (Def (reg_of 0) (Generic Pointer) ∷ Phys 10 ∷ [])
+    ∷ (8, record { op = opcode; flags = no_flags; operands = Def (reg_of 1) (Generic register) ∷ use_of 0 ∷ []; mem = Some (record { load = true; ty = memory; align = 1 }); line = 8 })
+    ∷ return_of 9 10 ∷ [])
+
+-- as many bits as the register has, of which a load with zeros above needs fewer; and a pointer as a number
+abbrev pub loads_all : Opcode → FunctionData
+loads_all opcode = loads opcode (Scalar 16) (Scalar 16)
+
+abbrev pub loads_a_pointer : FunctionData
+loads_a_pointer = loads op.GenericLoad (Scalar 32) Pointer
 
 abbrev pub goes_nowhere : FunctionData
 goes_nowhere = one_block (10 ∷ []) (copy_in 7 0 10 ∷ jump_to 8 65540 ∷ [])

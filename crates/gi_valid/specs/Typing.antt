@@ -5,15 +5,19 @@ use Rattle.std.specs.List.{list_all, list_any}
 use Rattle.std.specs.Option.{option_or}
 use Rattle.gi_llt.specs.Llt.{width_of}
 use Rattle.gi_llt.specs.declared.Llt.{Llt}
+use Rattle.gi_llt.specs.declared.Llt.TheVariants.{Scalar, Pointer}
 use Rattle.gi_mir.specs.Accepted.{letters, is_letter, class_of, are_one, is_sum}
 use Rattle.gi_mir.specs.Data.{InstrData, FunctionData}
 use Rattle.gi_mir.specs.Registers.{kind_of, type_of_kind}
-use Rattle.gi_mir.specs.Row.{typing_of}
+use Rattle.gi_mir.specs.Row.{memory_of, typing_of}
 use Rattle.gi_mir.specs.Types.{scalar_bits}
 use Rattle.gi_mir.specs.Typings.{TypingData}
 use Rattle.gi_mir.specs.Formed.{is_use}
+use Rattle.gi_mir.specs.declared.entry.InMemory.{InMemory}
+use Rattle.gi_mir.specs.declared.entry.InMemory.TheVariants as memory
 use Rattle.gi_mir.specs.declared.opcode.Opcode.{Opcode}
 use Rattle.gi_mir.specs.declared.opcode.Opcode.TheVariants as op
+use Rattle.gi_mir.specs.declared.operand.MemOp.{MemOp}
 use Rattle.gi_mir.specs.declared.operand.Operand.{Operand}
 use Rattle.gi_mir.specs.declared.operand.Operand.TheVariants as operand
 use Rattle.gi_mir.specs.declared.stage.Stage.{Stage}
@@ -139,12 +143,55 @@ abbrev pub unsized : (x : ℕ) → (type_of : ℕ → Option Llt) → List Opera
 unsized x type_of (operand.Def r kind ∷ operand.Constant bits value ∷ []) = if is_as_wide x bits (type_of r.0) then None else Some r.0
 unsized x type_of _ = None
 
+-- ══ A value in memory ══
+
+-- `%d:A = G_LOAD %p(p0) :: (load (M))`, and so a store: M is at most A, and a pointer is loaded and stored as a pointer
+abbrev pub holds : (value in_memory : Llt) → Bool
+holds (Scalar n) (Scalar m) = nat_le m n
+holds Pointer Pointer = true
+holds _ _ = false
+
+-- `%d:A = G_ZEXTLOAD %p(p0) :: (load (M))`: M is narrower than A
+abbrev pub holds_more : (value in_memory : Llt) → Bool
+holds_more (Scalar n) (Scalar m) = nat_lt m n
+holds_more _ _ = false
+
+-- nothing is asked of an instruction of the machine
+abbrev pub has_room : InMemory → (value in_memory : Llt) → Bool
+has_room memory.Value value in_memory = holds value in_memory
+has_room memory.Extended value in_memory = holds_more value in_memory
+has_room memory.Nothing value in_memory = true
+has_room (memory.Bits bits) value in_memory = true
+
+-- a type has room, where it is known
+abbrev pub is_roomy : InMemory → (value : Option Llt) → (in_memory : Llt) → Bool
+is_roomy kept None in_memory = true
+is_roomy kept (Some ty) in_memory = has_room kept ty in_memory
+
+-- the register that is loaded, or else stored, as the first of these operands
+abbrev pub value_in : List Operand → Option ℕ
+value_in (operand.Def r kind ∷ os) = Some r.0
+value_in (operand.Use r ∷ os) = Some r.0
+value_in _ = None
+
+-- this register, where it hasn't room
+abbrev pub unless_roomy : (type_of : ℕ → Option Llt) → InMemory → (in_memory : Llt) → (value : Option ℕ) → Option ℕ
+unless_roomy type_of kept in_memory None = None
+unless_roomy type_of kept in_memory (Some r) = if is_roomy kept (type_of r) in_memory then None else Some r
+
+-- the register that is loaded or stored, where it hasn't room for what is in memory
+abbrev pub roomless : (type_of : ℕ → Option Llt) → InMemory → Option MemOp → List Operand → Option ℕ
+roomless type_of kept None os = None
+roomless type_of kept (Some mem) os = unless_roomy type_of kept mem.ty (value_in os)
+
 -- ══ All ══
 
--- the register with whose type the row of an instruction can't be met, or that isn't as wide as the instruction's constant
+-- the register that hasn't room for what is in memory, or else with whose type the row of an instruction can't be met, or that
+-- isn't as wide as the instruction's constant
 abbrev pub unsuited : (x : ℕ) → (type_of : ℕ → Option Llt) → InstrData → Option ℕ
 unsuited x type_of i =
-    option_or (unmet x type_of (typing_of i.op) i.operands) (if is_constant_op i.op then unsized x type_of i.operands else None)
+    option_or (roomless type_of (memory_of i.op) i.mem i.operands)
+    (option_or (unmet x type_of (typing_of i.op) i.operands) (if is_constant_op i.op then unsized x type_of i.operands else None))
 
 abbrev pub mismatch : (x : ℕ) → Phase → FunctionData → InstrData → Option ℕ
 mismatch x phase f i = if joins_any phase i then None else unsuited x (type_in phase f) i

@@ -2,22 +2,25 @@
 
 ghost use Rattle.std.specs.Prelude.{◌≡◌, ◌∷◌, [], ℕ, Some};
 ghost use Rattle.gi_mir.specs.Data.{reg_of};
+ghost use Rattle.gi_mir.specs.declared.opcode.Opcode.TheVariants.{GenericLoad, GenericZeroExtendLoad};
 ghost use Rattle.gi_mir.specs.declared.operand.Operand.TheVariants.{ImplicitUse, Use};
 ghost use Rattle.gi_meaning.specs.Runs.{setting_of};
 ghost use Rattle.gi_meaning.specs.State.{State};
 ghost use Rattle.gi_refine.specs.Reached.{IsReached};
 ghost use Rattle.gi_valid.specs.Available.{IsAvailable, IsExtent};
-ghost use Rattle.gi_valid.specs.Examples.{adds_a_byte, ahead_of_itself, defines_twice, divides_between, divides_first, extents_of_ahead, goes_nowhere, goes_on_behind, goes_round, joins_at_start, loop_phi, loop_sum, points_to_zero, returns_nothing_there, returns_twice, widens_a_constant, world_with};
+ghost use Rattle.gi_valid.specs.Examples.{adds_a_byte, ahead_of_itself, defines_twice, divides_between, divides_first, extents_of_ahead, goes_nowhere, goes_on_behind, goes_round, joins_at_start, loads_a_pointer, loads_all, loop_phi, loop_sum, points_to_zero, returns_nothing_there, returns_twice, widens_a_constant, world_with};
 ghost use Rattle.gi_valid.specs.Faults.{fault_at, faults};
 ghost use Rattle.gi_valid.specs.Typing.{Typed};
 ghost use Rattle.gi_valid.specs.Valid.{IsInvalid, IsValid, of_lowest_line};
 ghost use Rattle.gi_valid.specs.declared.invalid.Invalid.TheVariants.{DoubleDefinition, NotAvailable, PhiEntries, PhysicalAcross, Terminator, TypeMismatch, UnknownBlock};
 
-/// A loop with a phi is valid, a division before a word is given to a call, and a constant that is a pointer.
+/// A loop with a phi is valid, a division before a word is given to a call, a constant that is a pointer, and a load of as many bits
+/// as its register has.
 pub fn examples_are_valid()
     ensures loop_ { IsValid 32 Typed goes_round }
     ensures division_first { IsValid 32 Typed divides_first }
     ensures pointer_ { IsValid 32 Typed points_to_zero }
+    ensures load_ { IsValid 32 Typed (loads_all GenericLoad) }
 {}
 
 /// Functions for each fault, with its line.
@@ -26,6 +29,8 @@ pub fn examples_are_invalid()
     ensures not_there { IsInvalid 32 Typed returns_nothing_there (fault_at 8 (NotAvailable (ImplicitUse 10))) }
     ensures mismatch { IsInvalid 32 Typed adds_a_byte (fault_at 9 (TypeMismatch (reg_of 1))) }
     ensures width { IsInvalid 32 Typed widens_a_constant (fault_at 7 (TypeMismatch (reg_of 0))) }
+    ensures room { IsInvalid 32 Typed (loads_all GenericZeroExtendLoad) (fault_at 8 (TypeMismatch (reg_of 1))) }
+    ensures number { IsInvalid 32 Typed loads_a_pointer (fault_at 8 (TypeMismatch (reg_of 1))) }
     ensures nowhere { IsInvalid 32 Typed goes_nowhere (fault_at 8 (UnknownBlock 65540)) }
     ensures first_block { IsInvalid 32 Typed joins_at_start (fault_at 8 PhiEntries) }
     ensures across { IsInvalid 32 Typed divides_between (fault_at 10 (PhysicalAcross 10)) }

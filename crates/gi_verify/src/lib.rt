@@ -15,6 +15,7 @@ mod physical;
 mod predecessors;
 mod reached;
 mod registers;
+mod room;
 mod settled;
 mod site;
 #[cfg(test)]

@@ -1,5 +1,5 @@
-//! The register with whose type the row of an instruction can't be met, or that isn't as wide as the instruction's constant;
-//! and instructions that may come to be calls.
+//! The register that hasn't room for what is in memory, with whose type the row of an instruction can't be met, or that isn't as
+//! wide as the instruction's constant; and instructions that may come to be calls.
 
 ghost use Rattle.std.specs.Prelude.{◌≡◌, ◌++◌, ◌∷◌, ◌≤◌, ◌⊎◌, [], ℕ, Some, None, IfOk, length, map, option_map, nat_lt, ◌&&◌, false, if◌then◌else◌};
 ghost use Rattle.gi_llt.specs.Llt.{width_of};
@@ -10,6 +10,7 @@ ghost use Rattle.gi_valid.specs.Faults as faults;
 ghost use Rattle.gi_valid.specs.Typing as typings;
 
 use crate::registers::{count_results, first_unmet, registers_of, results_in, type_in, types_of};
+use crate::room::roomless;
 use gi_llt::{Llt, Memory, Target, width};
 use gi_mir::function::Function;
 use gi_mir::instr::Instr;
@@ -116,7 +117,8 @@ fn unsized_constant(target: Target, stage: Stage, function: &Function, instr: &I
     }
 }
 
-/// The register with whose type the row of an instruction can't be met, or that isn't as wide as the instruction's constant.
+/// The register that hasn't room for what is in memory, or else with whose type the row of an instruction can't be met, or that isn't
+/// as wide as the instruction's constant.
 #[tactic(auto, using(crate::proofs::Unmet::joins_none))]
 fn mismatch(
     alloc: Global,
@@ -136,7 +138,8 @@ fn mismatch(
         instr.op.typing(),
         instr.operands.as_slice(),
     )?;
-    Ok(found.or(unsized_constant(target, stage, function, instr)))
+    let size = unsized_constant(target, stage, function, instr);
+    Ok(roomless(stage, function, instr).or(found.or(size)))
 }
 
 /// The fault of a register, where there is one.

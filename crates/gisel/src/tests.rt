@@ -335,6 +335,14 @@ fn refuses_functions_that_are_not_valid(rt: HostRuntime) -> Result<(), Fail> {
             "gisel: line 9: type mismatch %1\n",
         ),
         (
+            "---\nname: f\nbody: |\n  bb.0:\n    liveins: $x10\n\n    %0:_(p0) = COPY $x10\n    %1:_(s8) = G_LOAD %0(p0) :: (load (s8))\n    %2:_(s8) = G_ZEXTLOAD %0(p0) :: (load (s8))\n    PseudoRET implicit $x10\n",
+            "gisel: line 9: type mismatch %2\n",
+        ),
+        (
+            "---\nname: f\nbody: |\n  bb.0:\n    liveins: $x10\n\n    %0:_(p0) = COPY $x10\n    G_STORE %0(p0), %0(p0) :: (store (s32))\n    PseudoRET implicit $x10\n",
+            "gisel: line 8: type mismatch %0\n",
+        ),
+        (
             "---\nname: f\nbody: |\n  bb.0:\n    liveins: $x10\n\n    %0:_(s32) = COPY $x10\n    G_BR %bb.4\n",
             "gisel: line 8: unknown block 4\n",
         ),

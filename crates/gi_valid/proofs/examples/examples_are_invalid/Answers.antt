@@ -1,8 +1,9 @@
 use Rattle.std.proofs.Common.{◌≡◌, ℕ, true, [], ◌∷◌, ⊎_elim, refl, sym, subst₂}
 use Rattle.gi_mir.specs.Data.{FunctionData}
+use Rattle.gi_mir.specs.declared.opcode.Opcode.TheVariants.{GenericZeroExtendLoad}
 use Rattle.gi_meaning.specs.Runs.{is_among}
 use Rattle.gi_valid.specs.Definitions.{IsComputedFrom}
-use Rattle.gi_valid.specs.Examples.{extents_of, adds_a_byte, defines_twice, divides_between, goes_nowhere, goes_on_behind, joins_at_start, returns_nothing_there, returns_twice, widens_a_constant}
+use Rattle.gi_valid.specs.Examples.{extents_of, adds_a_byte, defines_twice, divides_between, goes_nowhere, goes_on_behind, joins_at_start, loads_a_pointer, loads_all, returns_nothing_there, returns_twice, widens_a_constant}
 use Rattle.gi_valid.proofs.Trials.{alone_greatest, nothing_computed, among_one, among_two}
 use Rattle.gi_valid.proofs.examples.examples_are_invalid.Goals as goal
 
@@ -26,6 +27,12 @@ returns-clause-mismatch c = record {
 
 pub returns-clause-width : goal.returns-clause-width
 returns-clause-width c = record { extents = extents_of [] [] []; greatest = alone_greatest [] [] widens_a_constant refl refl (nothing_computed widens_a_constant); told = refl }
+
+pub returns-clause-room : goal.returns-clause-room
+returns-clause-room c = record { extents = extents_of [] [] []; greatest = alone_greatest [] [] (loads_all GenericZeroExtendLoad) refl refl (nothing_computed (loads_all GenericZeroExtendLoad)); told = refl }
+
+pub returns-clause-number : goal.returns-clause-number
+returns-clause-number c = record { extents = extents_of [] [] []; greatest = alone_greatest [] [] loads_a_pointer refl refl (nothing_computed loads_a_pointer); told = refl }
 
 pub returns-clause-nowhere : goal.returns-clause-nowhere
 returns-clause-nowhere c = record { extents = extents_of [] [] []; greatest = alone_greatest [] [] goes_nowhere refl refl (nothing_computed goes_nowhere); told = refl }

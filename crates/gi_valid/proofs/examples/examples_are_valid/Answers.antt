@@ -1,5 +1,6 @@
 use Rattle.std.proofs.Common.{[], ◌∷◌, refl}
-use Rattle.gi_valid.specs.Examples.{extents_of, extents_of_round, goes_round, divides_first, points_to_zero}
+use Rattle.gi_mir.specs.declared.opcode.Opcode.TheVariants.{GenericLoad}
+use Rattle.gi_valid.specs.Examples.{extents_of, extents_of_round, goes_round, divides_first, loads_all, points_to_zero}
 use Rattle.gi_valid.proofs.Trials.{alone_contained, loop_contained}
 use Rattle.gi_valid.proofs.examples.examples_are_valid.Goals as goal
 
@@ -16,6 +17,9 @@ returns-clause-division_first c = record {
   contained = alone_contained (2 ∷ []) (0 ∷ 1 ∷ []) divides_first refl;
   faultless = refl;
 }
+
+pub returns-clause-load_ : goal.returns-clause-load_
+returns-clause-load_ c = record { extents = extents_of [] [] []; contained = alone_contained [] [] (loads_all GenericLoad) refl; faultless = refl }
 
 pub returns-clause-pointer_ : goal.returns-clause-pointer_
 returns-clause-pointer_ c = record { extents = extents_of [] [] []; contained = alone_contained [] [] points_to_zero refl; faultless = refl }
