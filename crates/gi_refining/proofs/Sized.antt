@@ -102,7 +102,7 @@ narrow : (x : ℕ) (ty : Llt) → x ≤ 64 → is_any x ty ≡ true → width_of
 narrow x (Scalar n) small any = let within : n ≤ 2 * x = leb-true n (2 * x) (and_parts (nat_lt 0 n) (nat_le n (2 * x)) any).1 in omega (arith, within, small)
 narrow x Pointer small any = omega (arith, small)
 
-holds : (t : Bool) (r : ℕ) → cond t None (Some r) ≡ None → t ≡ true
+pub holds : (t : Bool) (r : ℕ) → cond t None (Some r) ≡ None → t ≡ true
 holds true r h = refl
 holds false r h = cc
 
@@ -142,6 +142,7 @@ constant_sized x f (_ ∷ os) small fit range owned met sized = cc
 
 pub record HasRow (i : InstrData) : Type 0 where
   pub row : fits_one_of (rows_of i.op) i.operands ≡ true
+  pub access : has_access (access_of i.op) i.mem ≡ true
   pub range : list_all is_in_range i.operands ≡ true
 
 pub has_row : (i : InstrData) → is_formed i ≡ true → HasRow i
@@ -151,7 +152,7 @@ has_row i h =
     let second : Bool = has_access (access_of i.op) i.mem in
     let last : Bool = list_all is_in_range i.operands in
     let parts : ((first && second) ≡ true) × (last ≡ true) = and_parts (first && second) last h in
-    record { row = (and_parts first second parts.0).0; range = parts.1 }
+    record { row = (and_parts first second parts.0).0; access = (and_parts first second parts.0).1; range = parts.1 }
 
 constant_is : (o : Opcode) → is_constant_op o ≡ true → o ≡ op.GenericConstant
 constant_is op.GenericConstant h = refl

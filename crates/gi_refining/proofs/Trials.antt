@@ -1,15 +1,18 @@
 -- Example rules refine valid functions in which they fit: every premise is computed.
 use Rattle.std.proofs.Common.{◌≡◌, true, [], ◌∷◌, Some, inl, refl, subst}
 use Rattle.std.specs.Int.RustNames.{count_ones}
+use Rattle.gi_mir.specs.Data.{reg_of}
 use Rattle.gi_mir.specs.Formed.{is_formed}
 use Rattle.gi_refine.specs.Refinement.{IsRefinement}
 use Rattle.gi_pattern.specs.Applying.{applied}
 use Rattle.gi_pattern.specs.Examples.{difference_with_constant, remainder_by_power, sum_with_zero}
 use Rattle.gi_pattern.specs.Fitting.{binding_at}
 use Rattle.gi_valid.specs.Examples.{extents_of}
+use Rattle.gi_valid.specs.Faults.{fault_at}
 use Rattle.gi_valid.specs.Typing.{Typed}
-use Rattle.gi_valid.specs.Valid.{IsValid}
-use Rattle.gi_valid.proofs.Trials.{alone_contained, loop_contained}
+use Rattle.gi_valid.specs.Valid.{IsInvalid, IsValid}
+use Rattle.gi_valid.specs.declared.invalid.Invalid.TheVariants.{TypeMismatch}
+use Rattle.gi_valid.proofs.Trials.{alone_contained, alone_greatest, loop_contained, nothing_computed}
 use Rattle.gi_refining.specs.Examples.{adds_the_rest, adds_zero, adds_zero_bound, difference, goes_on, keeps_low_bits, loads_byte, loads_too_much, remainder, sum, takes_five, takes_five_bound, takes_rest, takes_rest_bound}
 use Rattle.gi_refining.specs.Known.{are_formed}
 use Rattle.gi_refining.specs.Whole.{IsReadyFunction}
@@ -85,9 +88,9 @@ loads_byte_valid = record { extents = extents_of [] [] []; contained = alone_con
 pub loads_byte_ready : IsReadyFunction 32 [] loads_byte
 loads_byte_ready = ready_tested 32 [] loads_byte (inl refl) loads_byte_valid refl loads_byte_formed refl refl
 
-pub loads_too_much_valid : IsValid 32 Typed loads_too_much
-loads_too_much_valid = record { extents = extents_of [] [] []; contained = alone_contained [] [] loads_too_much refl; faultless = refl }
-
 pub loads_too_much_formed : are_formed loads_too_much ≡ true
 unfolding is_formed count_ones
 loads_too_much_formed = refl
+
+pub loads_too_much_invalid : IsInvalid 32 Typed loads_too_much (fault_at 8 (TypeMismatch (reg_of 1)))
+loads_too_much_invalid = record { extents = extents_of [] [] []; greatest = alone_greatest [] [] loads_too_much refl refl (nothing_computed loads_too_much); told = refl }

@@ -11,16 +11,18 @@ use Rattle.gi_llt.specs.declared.Llt.TheVariants.{Scalar, Pointer}
 use Rattle.gi_mir.specs.Accepted.{are_one, class_of, letters, types_of}
 use Rattle.gi_mir.specs.Data.{InstrData, FunctionData}
 use Rattle.gi_mir.specs.Edit.{all_instrs}
-use Rattle.gi_mir.specs.Formed.{fits, fits_one_of, is_formed}
+use Rattle.gi_mir.specs.Formed.{fits, fits_one_of, has_access, is_formed}
 use Rattle.gi_mir.specs.Registers.{kind_of, type_of_kind}
-use Rattle.gi_mir.specs.Row.{rows_of, typing_of}
+use Rattle.gi_mir.specs.Row.{access_of, memory_of, rows_of, typing_of}
 use Rattle.gi_mir.specs.Types.{is_condition, is_of, is_scalar, same_type, scalar_bits}
 use Rattle.gi_mir.specs.Typings.{TypingData, carry_out, carry_through, comparison, extension, joining, merge, one_alike, one_pointer, selection, two_alike}
+use Rattle.gi_mir.specs.declared.entry.InMemory.TheVariants as memory
 use Rattle.gi_mir.specs.declared.opcode.Opcode.{Opcode}
 use Rattle.gi_mir.specs.declared.opcode.Opcode.TheVariants as op
 use Rattle.gi_mir.specs.declared.operand.Flags.{Flags}
 use Rattle.gi_mir.specs.declared.operand.Kind.{Kind}
 use Rattle.gi_mir.specs.declared.operand.Kind.TheVariants as kinds
+use Rattle.gi_mir.specs.declared.operand.MemOp.{MemOp}
 use Rattle.gi_mir.specs.declared.operand.Operand.{Operand}
 use Rattle.gi_mir.specs.declared.operand.Operand.TheVariants as operand
 use Rattle.gi_mir.specs.declared.operand.Pred.{Pred}
@@ -34,24 +36,24 @@ use Rattle.gi_mir.specs.declared.typing.Class.TheVariants as class
 use Rattle.gi_mir.specs.declared.typing.Letter.{Letter}
 use Rattle.gi_mir.specs.declared.typing.Letter.TheVariants as letter
 use Rattle.gi_mir.specs.declared.typing.Relation.TheVariants as relation
-use Rattle.gi_meaning.specs.Meaning.{Meaning, Copying, Generic, Loading, Storing, MachineLoading, MachineStoring, Machine, Jumping, Branching, MachineBranching, Calling, Returning, Nothing, Joining, is_joining, meaning_of}
+use Rattle.gi_meaning.specs.Meaning.{Meaning, Copying, Generic, Loading, Storing, MachineLoading, MachineStoring, Machine, Jumping, Branching, MachineBranching, Calling, Returning, Nothing, Joining, Extension, Anything, Zeros, Signs, is_joining, meaning_of}
 use Rattle.gi_meaning.specs.Runs.{Setting, places_of, setting_of, width_of_kind}
 use Rattle.gi_meaning.specs.State.{Place, Virtual}
 use Rattle.gi_refine.specs.Fitting.{always_fits, is_fitting_constant, phi_fits, uses_have}
 use Rattle.gi_refine.specs.RuleUse.{width_in}
 use Rattle.gi_refine.specs.Worded.{has_virtual}
-use Rattle.gi_valid.specs.Typing.{Typed, known, may_relate, meets, places_of_letter, results_in, sources_in, type_in, unmet}
+use Rattle.gi_valid.specs.Typing.{Typed, holds_more, is_roomy, known, may_relate, meets, places_of_letter, results_in, roomless, sources_in, type_in, unmet}
 use Rattle.gi_valid.specs.Valid.{IsValid}
-use Rattle.gi_valid.proofs.Suited.{suited}
+use Rattle.gi_valid.proofs.Suited.{IsSuited, suited}
 use Rattle.gi_soundness.proofs.Rule.{one_passes}
 use Rattle.gi_soundness.proofs.Valid.{instr_met}
 use Rattle.gi_refining.specs.Known.{FitsAnywhere, are_formed, is_sized}
 use Rattle.gi_refining.specs.KnownTypes.{has_type, have_types}
 use Rattle.gi_refining.specs.Numbered.{is_numbered}
 use Rattle.gi_refining.specs.Whole.{IsReadyFunction}
-use Rattle.gi_refining.specs.Widths.{accepts_widths, fits_by_widths, has_accepted, have_bits, holds_all, is_fitting_address, is_fitting_result, keeps_values, none_wider, total, widths_read, widths_written}
+use Rattle.gi_refining.specs.Widths.{fits_by_widths, has_machine_words, have_bits, holds_all, is_fitting_address, is_fitting_load, is_fitting_result, keeps_values, machine_has_words, none_wider, total, widths_read, widths_written}
 use Rattle.gi_refining.proofs.KnownTypes.{all_known, known_of_letter, of_letter, length_mapped, met_registers, some_is}
-use Rattle.gi_refining.proofs.Sized.{constants_fit, has_row}
+use Rattle.gi_refining.proofs.Sized.{HasRow, constants_fit, has_row, holds}
 use Rattle.gi_refining.proofs.WidthsKept.{all_kept}
 
 -- ══ The types of registers ══
@@ -597,41 +599,89 @@ results_pass x names f flags op.GenericCountTrailingZerosNotOfZero os always gen
 results_pass x names f flags op.GenericByteSwap os always generic h = by_widths (setting_of x names f) op.GenericByteSwap os (unary_row x names f class.Swappable os (only (fits unary_forms os) h.row) h.owned h.met)
 results_pass x names f flags _ os always generic h = cc
 
+-- ══ Loads ══
+
+more_room : (x : ℕ) (value in_memory : Llt) → holds_more value in_memory ≡ true → nat_le (width_of x in_memory) (width_of x value) ≡ true
+more_room x (Scalar n) (Scalar m) more = let less : m < n = ltb-true m n more in le-leb m n (omega (arith, less))
+more_room x (Scalar n) Pointer more = cc
+more_room x Pointer in_memory more = cc
+
+kind_room : (x : ℕ) (kind : Kind) (in_memory : Llt) → is_some (type_of_kind kind) ≡ true → is_roomy memory.Extended (type_of_kind kind) in_memory ≡ true → nat_le (width_of x in_memory) (width_of_kind x kind) ≡ true
+kind_room x (kinds.Generic ty) in_memory some roomy = more_room x ty in_memory roomy
+kind_room x (kinds.Banked ty) in_memory some roomy = more_room x ty in_memory roomy
+kind_room x kinds.Class in_memory some roomy = cc
+
+abbrev PassesZeros : (x : ℕ) (names : List (List ℕ)) (f : FunctionData) (mem : MemOp) (os : List Operand) → Type 0
+PassesZeros x names f mem os =
+    list_all (has_type f) os ≡ true → roomless (type_in Typed f) memory.Extended (Some mem) os ≡ None → is_fitting_load x Zeros (Some mem) (widths_written (setting_of x names f) os) ≡ true
+
+zeros_row : (x : ℕ) (names : List (List ℕ)) (f : FunctionData) (mem : MemOp) (os : List Operand) → fits unary_typed_forms os ≡ true → PassesZeros x names f mem os
+zeros_row x names f mem os fit = take_def (λ l. PassesZeros x names f mem l) (form.TypedUse ∷ []) os fit (λ r kind rest left owned room.
+    kind_room x (kind_of f r.0) mem.ty (and_parts (is_typed f r.0) (list_all (has_type f) rest) owned).0 (holds (is_roomy memory.Extended (type_of_kind (kind_of f r.0)) mem.ty) r.0 room))
+
+abbrev is_loading_zeros : Meaning → Bool
+is_loading_zeros (Loading Zeros) = true
+is_loading_zeros _ = false
+
+zeros_pass : (x : ℕ) (names : List (List ℕ)) (f : FunctionData) (flags : Flags) (o : Opcode) (mem : Option MemOp) (os : List Operand) → is_loading_zeros (meaning_of flags o) ≡ true → fits_one_of (rows_of o) os ≡ true
+    → has_access (access_of o) mem ≡ true → list_all (has_type f) os ≡ true → roomless (type_in Typed f) (memory_of o) mem os ≡ None → is_fitting_load x Zeros mem (widths_written (setting_of x names f) os) ≡ true
+zeros_pass x names f flags op.GenericZeroExtendLoad None os zeros row access owned room = cc
+zeros_pass x names f flags op.GenericZeroExtendLoad (Some mem) os zeros row access owned room = zeros_row x names f mem os (only (fits unary_typed_forms os) row) owned room
+zeros_pass x names f flags _ mem os zeros row access owned room = cc
+
+-- what is known of an instruction: of its operands and of its memory
+record IsKnownAll (x : ℕ) (f : FunctionData) (i : InstrData) : Type 0 where
+  operands : IsKnownBy x f i.op i.operands
+  access : has_access (access_of i.op) i.mem ≡ true
+  room : roomless (type_in Typed f) (memory_of i.op) i.mem i.operands ≡ None
+
+loads_pass : (x : ℕ) (names : List (List ℕ)) (f : FunctionData) (i : InstrData) (above : Extension) → meaning_of i.flags i.op ≡ Loading above → IsKnownAll x f i
+    → is_fitting_load x above i.mem (widths_written (setting_of x names f) i.operands) ≡ true
+loads_pass x names f i Anything is h = refl
+loads_pass x names f i Signs is h = refl
+loads_pass x names f i Zeros is h = zeros_pass x names f i.flags i.op i.mem i.operands (subst (λ m. is_loading_zeros m ≡ true) (sym is) refl) h.operands.row h.access h.operands.owned h.room
+
 -- ══ Functions ══
 
-instruction_passes : (x : ℕ) (names : List (List ℕ)) (f : FunctionData) (i : InstrData) (m : Meaning) → meaning_of i.flags i.op ≡ m → accepts_widths (setting_of x names f) m i ≡ true → IsKnownBy x f i.op i.operands
+instruction_passes : (x : ℕ) (names : List (List ℕ)) (f : FunctionData) (i : InstrData) (m : Meaning) → meaning_of i.flags i.op ≡ m → machine_has_words (setting_of x names f) m i ≡ true → IsKnownAll x f i
     → keeps_values (setting_of x names f) m i ≡ true
 instruction_passes x names f i Copying is accepted h = refl
 instruction_passes x names f i (Generic gives) is accepted h = by (always_fits i.op) refl
   where
     by : (t : Bool) → always_fits i.op ≡ t → is_fitting_result (setting_of x names f) i.op i.operands ≡ true
     by true always = always_passes (setting_of x names f) i.op i.operands always
-    by false always = results_pass x names f i.flags i.op i.operands always (subst (λ m. is_generic m ≡ true) (sym is) refl) h
+    by false always = results_pass x names f i.flags i.op i.operands always (subst (λ m. is_generic m ≡ true) (sym is) refl) h.operands
 instruction_passes x names f i (Machine gives) is accepted h = accepted
-instruction_passes x names f i (Loading above) is accepted h = accepted
+instruction_passes x names f i (Loading above) is accepted h = loads_pass x names f i above is h
 instruction_passes x names f i Storing is accepted h = refl
 instruction_passes x names f i (MachineLoading exists bytes above) is accepted h = accepted
 instruction_passes x names f i (MachineStoring exists bytes) is accepted h = refl
 instruction_passes x names f i Jumping is accepted h = refl
 instruction_passes x names f i Branching is accepted h = refl
 instruction_passes x names f i (MachineBranching test) is accepted h = refl
-instruction_passes x names f i Calling is accepted h = calls_bare i.flags i.op i.operands (subst (λ m. is_calling m ≡ true) (sym is) refl) h.row
+instruction_passes x names f i Calling is accepted h = calls_bare i.flags i.op i.operands (subst (λ m. is_calling m ≡ true) (sym is) refl) h.operands.row
 instruction_passes x names f i Returning is accepted h = refl
 instruction_passes x names f i Nothing is accepted h = refl
-instruction_passes x names f i Joining is accepted h = phi_passes x names f i.flags i.op i.operands (subst (λ m. is_joining m ≡ true) (sym is) refl) h.row h.owned h.met
+instruction_passes x names f i Joining is accepted h = phi_passes x names f i.flags i.op i.operands (subst (λ m. is_joining m ≡ true) (sym is) refl) h.operands.row h.operands.owned h.operands.met
 
-pub widths_valid : (x : ℕ) (names : List (List ℕ)) (f : FunctionData) → (x ≡ 32) ⊎ (x ≡ 64) → IsValid x Typed f → are_formed f ≡ true → have_types f ≡ true → has_accepted (setting_of x names f) f ≡ true → FitsAnywhere x names f
+pub widths_valid : (x : ℕ) (names : List (List ℕ)) (f : FunctionData) → (x ≡ 32) ⊎ (x ≡ 64) → IsValid x Typed f → are_formed f ≡ true → have_types f ≡ true → has_machine_words (setting_of x names f) f ≡ true → FitsAnywhere x names f
 widths_valid x names f word valid formed owned accepted = all_kept x names f word (λ p there.
+    let has : HasRow p.1 = has_row p.1 (one_passes (λ q. is_formed q.1) p (all_instrs f.blocks) formed there) in
+    let suits : IsSuited x (type_in Typed f) p.1 = suited x Typed f p.1 refl (instr_met x Typed f valid p there) in
     instruction_passes x names f p.1 (meaning_of p.1.flags p.1.op) refl
-    (one_passes (λ q. accepts_widths (setting_of x names f) (meaning_of q.1.flags q.1.op) q.1) p (all_instrs f.blocks) accepted there)
+    (one_passes (λ q. machine_has_words (setting_of x names f) (meaning_of q.1.flags q.1.op) q.1) p (all_instrs f.blocks) accepted there)
     (record {
-      row = (has_row p.1 (one_passes (λ q. is_formed q.1) p (all_instrs f.blocks) formed there)).row;
-      owned = one_passes (λ q. list_all (has_type f) q.1.operands) p (all_instrs f.blocks) owned there;
-      met = (suited x Typed f p.1 refl (instr_met x Typed f valid p there)).row;
-      sized = one_passes (λ q. is_sized (width_in x f) q.1.op q.1.operands) p (all_instrs f.blocks) (constants_fit x f word valid formed owned) there;
+      operands = record {
+        row = has.row;
+        owned = one_passes (λ q. list_all (has_type f) q.1.operands) p (all_instrs f.blocks) owned there;
+        met = suits.row;
+        sized = one_passes (λ q. is_sized (width_in x f) q.1.op q.1.operands) p (all_instrs f.blocks) (constants_fit x f word valid formed owned) there;
+      };
+      access = has.access;
+      room = suits.room;
     }))
 
 -- so nothing is left to be asked of states
-pub ready_tested : (x : ℕ) (names : List (List ℕ)) (f : FunctionData) → (x ≡ 32) ⊎ (x ≡ 64) → IsValid x Typed f → is_numbered f ≡ true → are_formed f ≡ true → have_types f ≡ true → has_accepted (setting_of x names f) f ≡ true
+pub ready_tested : (x : ℕ) (names : List (List ℕ)) (f : FunctionData) → (x ≡ 32) ⊎ (x ≡ 64) → IsValid x Typed f → is_numbered f ≡ true → are_formed f ≡ true → have_types f ≡ true → has_machine_words (setting_of x names f) f ≡ true
     → IsReadyFunction x names f
 ready_tested x names f word valid numbered formed owned accepted = record { valid = valid; numbered = numbered; formed = formed; typed = owned; fit = widths_valid x names f word valid formed owned accepted }

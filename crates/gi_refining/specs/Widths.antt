@@ -127,12 +127,11 @@ values_keep s f = list_all (λ p. keeps_values s (meaning_of p.1.flags p.1.op) p
 
 -- ══ What validity doesn't say ══
 
--- a load of zeros above reads no more bits than its register has, and instructions of the machine have words
-abbrev pub accepts_widths : Setting → Meaning → InstrData → Bool
-accepts_widths s (Loading extension) i = is_fitting_load s.x extension i.mem (widths_written s i.operands)
-accepts_widths s (Machine gives) i = has_words s i.operands
-accepts_widths s (MachineLoading exists bytes extension) i = has_words s i.operands
-accepts_widths s _ i = true
+-- instructions of the machine have words, where validity says nothing of their types
+abbrev pub machine_has_words : Setting → Meaning → InstrData → Bool
+machine_has_words s (Machine gives) i = has_words s i.operands
+machine_has_words s (MachineLoading exists bytes extension) i = has_words s i.operands
+machine_has_words s _ i = true
 
-abbrev pub has_accepted : Setting → FunctionData → Bool
-has_accepted s f = list_all (λ p. accepts_widths s (meaning_of p.1.flags p.1.op) p.1) (all_instrs f.blocks)
+abbrev pub has_machine_words : Setting → FunctionData → Bool
+has_machine_words s f = list_all (λ p. machine_has_words s (meaning_of p.1.flags p.1.op) p.1) (all_instrs f.blocks)

@@ -1,7 +1,7 @@
 //! What follows for a sound rule where it fits in a valid function.
 
 ghost use Rattle.std.specs.Prelude.{◌≡◌, ◌⊎◌, List, Some, [], false, true, ℕ};
-ghost use Rattle.gi_mir.specs.Data.{FunctionData, InstrData};
+ghost use Rattle.gi_mir.specs.Data.{FunctionData, InstrData, reg_of};
 ghost use Rattle.gi_mir.specs.Edit.{IsLive, home_of, instr_of};
 ghost use Rattle.gi_mir.specs.Formed.{is_formed};
 ghost use Rattle.gi_mir.specs.Ids.{AreOwnIds};
@@ -22,8 +22,10 @@ ghost use Rattle.gi_lifting.specs.Replaces.{replacing_of};
 ghost use Rattle.gi_lifting.specs.Sound.{IsCertainRule, IsSoundRule, Suits};
 ghost use Rattle.gi_lifting.specs.Uses.{IsUsed, front_of, on_values, placing_of, rule_of, rule_with};
 ghost use Rattle.gi_soundness.specs.Rules.{HasHadAll};
+ghost use Rattle.gi_valid.specs.Faults.{fault_at};
 ghost use Rattle.gi_valid.specs.Typing.{Phase, Typed};
-ghost use Rattle.gi_valid.specs.Valid.{IsValid};
+ghost use Rattle.gi_valid.specs.Valid.{IsInvalid, IsValid};
+ghost use Rattle.gi_valid.specs.declared.invalid.Invalid.TheVariants.{TypeMismatch};
 ghost use Rattle.gi_refining.specs.Numbered.{is_numbered};
 ghost use Rattle.gi_refining.specs.Replacing.{ReplacesAsWide, is_replacing};
 ghost use Rattle.gi_refining.specs.Whole.{IsReadyFunction, IsRefiningRule};
@@ -32,7 +34,7 @@ ghost use Rattle.gi_refine.specs.Fitting.{blocks_fit};
 ghost use Rattle.gi_refining.specs.Examples.{adds_the_rest, adds_zero, adds_zero_bound, goes_on, keeps_low_bits, loads_byte, loads_too_much, takes_five, takes_five_bound, takes_rest, takes_rest_bound};
 ghost use Rattle.gi_refining.specs.Known.{FitsAnywhere, FitsBefore, are_formed, are_sized, flags_found, knows_inputs};
 ghost use Rattle.gi_refining.specs.KnownTypes.{fills_rows, have_types};
-ghost use Rattle.gi_refining.specs.Widths.{has_accepted, values_keep};
+ghost use Rattle.gi_refining.specs.Widths.{has_machine_words, values_keep};
 
 /// A rule that meets the condition on its own list is used wherever it fits in a valid function, at an instruction that is
 /// formed: what is asked besides is what is known of the states that runs reach before it. The two functions share the
@@ -109,15 +111,14 @@ pub fn widely_tested_values_fit()
     ensures { (x : ℕ) (names : List (List ℕ)) (f : FunctionData) → (x ≡ 32) ⊎ (x ≡ 64) → values_keep (setting_of x names f) f ≡ true → FitsAnywhere x names f }
 {}
 
-/// In a valid function of formed instructions whose registers have types, values fit wherever runs come, if it passes the test of
-/// what validity doesn't say: what zero-extending loads read has room, and instructions of the machine have words. So a function is
-/// ready for sound rules by tests alone.
+/// In a valid function of formed instructions whose registers have types, values fit wherever runs come, if its instructions of the
+/// machine have words, where validity says nothing of their types. So a function is ready for sound rules by tests alone.
 pub fn valid_values_fit()
     ensures fit { (x : ℕ) (names : List (List ℕ)) (f : FunctionData) → (x ≡ 32) ⊎ (x ≡ 64)
-        → IsValid x Typed f → are_formed f ≡ true → have_types f ≡ true → has_accepted (setting_of x names f) f ≡ true
+        → IsValid x Typed f → are_formed f ≡ true → have_types f ≡ true → has_machine_words (setting_of x names f) f ≡ true
         → FitsAnywhere x names f }
     ensures ready { (x : ℕ) (names : List (List ℕ)) (f : FunctionData) → (x ≡ 32) ⊎ (x ≡ 64)
-        → IsValid x Typed f → is_numbered f ≡ true → are_formed f ≡ true → have_types f ≡ true → has_accepted (setting_of x names f) f ≡ true
+        → IsValid x Typed f → is_numbered f ≡ true → are_formed f ≡ true → have_types f ≡ true → has_machine_words (setting_of x names f) f ≡ true
         → IsReadyFunction x names f }
 {}
 
@@ -261,19 +262,19 @@ pub fn fitting_rules_are_used()
 pub fn remainders_are_used()
     ensures refused { blocks_fit (setting_of 32 [] takes_rest) takes_rest.blocks ≡ false }
     ensures passed { values_keep (setting_of 32 [] takes_rest) takes_rest ≡ true }
-    ensures accepted { has_accepted (setting_of 32 [] takes_rest) takes_rest ≡ true }
+    ensures accepted { has_machine_words (setting_of 32 [] takes_rest) takes_rest ≡ true }
     ensures ready { IsReadyFunction 32 [] takes_rest }
     ensures fits { binding_at takes_rest remainder_by_power 9 ≡ Some takes_rest_bound }
     ensures becomes { applied 32 remainder_by_power takes_rest_bound 9 takes_rest ≡ keeps_low_bits }
     ensures refines { IsRefinement 32 [] takes_rest keeps_low_bits }
 {}
 
-/// A load with zeros above, by whose memory the test tells apart two functions that are valid and formed: in one of them values fit,
-/// and in the other two bytes come into a register of eight bits.
-pub fn loads_are_tested()
+/// A load with zeros above, whose memory validity looks at: a function that loads a byte into a register of 32 bits is ready, and
+/// one that loads two bytes into a register of eight bits is invalid by this load alone, as its instructions are formed and its
+/// registers have types.
+pub fn loads_have_room()
     ensures ready { IsReadyFunction 32 [] loads_byte }
-    ensures valid { IsValid 32 Typed loads_too_much }
     ensures formed { are_formed loads_too_much ≡ true }
     ensures typed { have_types loads_too_much ≡ true }
-    ensures refused { has_accepted (setting_of 32 [] loads_too_much) loads_too_much ≡ false }
+    ensures invalid { IsInvalid 32 Typed loads_too_much (fault_at 8 (TypeMismatch (reg_of 1))) }
 {}
