@@ -1,10 +1,9 @@
 -- Definitions counted one after the other.
-use Rattle.std.proofs.Common.{◌≡◌, ℕ, zero, suc, ◌+◌, Bool, true, false, cond, ◌==◌, List, [], ◌∷◌, ◌++◌, Option, Some, None, refl, sym, ap, ◌∙◌, arith}
+use Rattle.std.proofs.Common.{◌≡◌, ℕ, zero, suc, ◌+◌, Bool, true, false, cond, ◌==◌, List, [], ◌∷◌, ◌++◌, Some, refl, sym, ap, ◌∙◌, arith}
 use Rattle.std.proofs.lemmas.Bool.{eqb-true, false_from_ne_true}
 use Rattle.gi_valid.specs.Faults.{times}
 use Rattle.gi_verify.specs.Counted.{counted, kept_of, once_more, is_once, AreCounted}
 use Rattle.gi_verify.specs.declared.definitions.Counted.{Counted}
-use Rattle.gi_verify.specs.declared.definitions.Times.{Times}
 
 pub once_kept : (n : ℕ) → is_once (kept_of n) ≡ (n == 1)
 once_kept zero = refl

@@ -1,6 +1,6 @@
 -- What the top call says of the reason to stop.
-use Rattle.std.proofs.Common.{◌≡◌, ◌≢◌, ◌⊎◌, ℕ, ◌≤◌, List, inl, inr, refl, ◌∙◌, sym, subst, ap, arith}
-use Rattle.std.specs.Prelude.{Result, Ok, Err, codes, IfErr}
+use Rattle.std.proofs.Common.{◌≡◌, ◌⊎◌, ℕ, List, inl, inr, refl, ◌∙◌, sym, subst, arith}
+use Rattle.std.specs.Prelude.{Result, Ok, codes}
 use Rattle.gisel.specs.Answers.{RefusesWith}
 use Rattle.gisel.specs.Options.{OptionsData, options_of}
 use Rattle.gisel.specs.Stop.{IsCause, UsageOf, UsageSaid, status_of, message_of}

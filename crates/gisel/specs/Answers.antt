@@ -1,5 +1,5 @@
 -- What the program answers to an input: the text that it writes, or why it refuses the input.
-use Rattle.std.specs.Prelude.{◌≡◌, ◌⊎◌, ℕ, ◌≤◌, ◌<◌, ◌==◌, Bool, true, false, List, ◌++◌, length, codes, Option, Some, None, Result, Ok, Err, if◌then◌else◌}
+use Rattle.std.specs.Prelude.{◌≡◌, ◌⊎◌, ℕ, ◌≤◌, ◌<◌, Bool, true, false, List, ◌++◌, length, codes, Option, Some, None, Result, Ok, Err}
 use Rattle.gi_io.specs.Writing.{AppendsPrefix}
 use Rattle.gi_mir.specs.Data.{ModuleData}
 use Rattle.gi_mir.specs.Numbering.{numbered_module}

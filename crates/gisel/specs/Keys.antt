@@ -5,7 +5,7 @@
 --     regbankselect                                true       true             false
 --     instruction-select                           true       true             true
 -- (LLVM's MachineFunctionProperties: Legalized, RegBankSelected, Selected.)
-use Rattle.std.specs.Prelude.{ℕ, Bool, true, false, not, List, [], ◌∷◌, Option, Some, None, if◌then◌else◌, codes, nat_le}
+use Rattle.std.specs.Prelude.{ℕ, Bool, true, false, not, List, [], ◌∷◌, Option, Some, None, if◌then◌else◌, codes}
 use Rattle.gi_mir.specs.Data.{FunctionData, ModuleData}
 use Rattle.gi_mir.specs.Names.{name_at}
 use Rattle.gi_observe.specs.declared.pass.Pass.{Pass}

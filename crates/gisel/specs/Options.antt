@@ -5,7 +5,7 @@
 --     -o FILE                       where the text goes; `-` is standard output
 -- Without FILE, or with `-`, standard input is read. Each word is looked at from the left; the first is at fault that is
 -- no such word, that sets a thing again, or behind which a FILE is missing. A stop before the start is found last.
-use Rattle.std.specs.Prelude.{ℕ, Bool, true, false, List, [], ◌∷◌, Option, Some, None, Result, Ok, Err, is_some, nat_eq, nat_lt, bytes_eq, codes, if◌then◌else◌, option_map, unwrap_or, ◌==◌}
+use Rattle.std.specs.Prelude.{ℕ, Bool, true, false, List, [], ◌∷◌, Option, Some, None, Result, Ok, Err, is_some, nat_lt, bytes_eq, codes, if◌then◌else◌, option_map, unwrap_or, ◌==◌}
 use Rattle.std.specs.Option.{option_map_or}
 use Rattle.gi_observe.specs.declared.pass.Pass.{Pass}
 use Rattle.gi_observe.specs.declared.pass.Pass.TheVariants.{Select}

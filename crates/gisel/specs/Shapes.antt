@@ -1,7 +1,7 @@
 -- The five shapes of instructions that are selected so far: registers of 32 bits and of the bank `gprb` are copied from and
 -- to physical ones, made of short constants and added, and the function returns.
 -- (Machine IR (MIR) Format Reference Manual, "Machine Basic Blocks".)
-use Rattle.std.specs.Prelude.{◌≡◌, ℕ, Bool, true, false, not, ◌&&◌, ◌||◌, List, [], ◌∷◌, Option, Some, None, nat_lt, nat_le, ◌==◌}
+use Rattle.std.specs.Prelude.{◌≡◌, ℕ, Bool, true, false, not, ◌&&◌, ◌||◌, List, [], ◌∷◌, None, nat_lt, nat_le, ◌==◌}
 use Rattle.std.specs.List.{list_any}
 use Rattle.std.specs.Option.{is_none}
 use Rattle.gi_llt.specs.declared.Llt.TheVariants.{Scalar}

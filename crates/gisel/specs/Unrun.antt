@@ -2,7 +2,7 @@
 -- function is generic code: no pass is run there, and the module is printed as it was read.
 use Rattle.std.specs.Prelude.{ℕ, Bool, true, false, not, ◌||◌, List, [], ◌∷◌, ◌==◌, Option, Some, None, option_map, if◌then◌else◌}
 use Rattle.std.specs.List.{list_any}
-use Rattle.gi_mir.specs.Data.{InstrData, BlockData, FunctionData, ModuleData}
+use Rattle.gi_mir.specs.Data.{InstrData, BlockData, FunctionData}
 use Rattle.gi_mir.specs.Stages.{is_kind_of, is_opcode_of}
 use Rattle.gi_mir.specs.declared.opcode.Opcode.{Opcode}
 use Rattle.gi_mir.specs.declared.operand.Operand.{Operand}

@@ -1,5 +1,5 @@
 use Rattle.std.proofs.Common.{◌≡◌, drop}
-use Rattle.gisel.specs.Keys.{keys_after, wrong_in, wrong_among}
+use Rattle.gisel.specs.Keys.{wrong_in, wrong_among}
 use Rattle.gisel.proofs.keys.wrong_in.Given as goal
 
 abbrev pub invariant-loop-function : goal.invariant-loop-function

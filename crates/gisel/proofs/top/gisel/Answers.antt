@@ -1,5 +1,5 @@
-use Rattle.std.proofs.Common.{◌≡◌, ◌≢◌, List, ℕ, Option, map, refl, ap, sym, subst, ◌∙◌, arith}
-use Rattle.std.specs.Prelude.{Ok, string_bytes, codes}
+use Rattle.std.proofs.Common.{◌≡◌, List, ℕ, Option, map, refl, ap, sym, subst, ◌∙◌, arith}
+use Rattle.std.specs.Prelude.{Ok, string_bytes}
 use Rattle.gisel.specs.Stop.{Says, IsCause}
 use Rattle.gisel.specs.Answers.{input_in}
 use Rattle.gisel.proofs.TopLemmas.{refuses, says_no_usage, says_read_fault}

@@ -1,4 +1,4 @@
-use Rattle.std.proofs.Common.{ap, subst}
+use Rattle.std.proofs.Common.{subst}
 use Rattle.gisel.specs.Options.{OptionsData}
 use Rattle.gisel.specs.Stop.{IsCause}
 use Rattle.gisel.proofs.top.text_for.Goals as goal
