@@ -1,5 +1,0 @@
-use Rattle.gisel.proofs.ValidShapes.{valid_selectable}
-use Rattle.gisel.proofs.laws.valid_function_is_selectable.Goals as goal
-
-pub returns : goal.returns
-returns c = valid_selectable

@@ -1,5 +1,0 @@
-use Rattle.gisel.proofs.NormalForms.{one_normal_form}
-use Rattle.gisel.proofs.normal_form.normal_form_is_one.Goals as goal
-
-pub returns : goal.returns
-returns c = one_normal_form

@@ -1,5 +1,0 @@
-use Rattle.gisel.proofs.AnyTexts.{any_refine}
-use Rattle.gisel.proofs.same.any_spelled_modules_refine.Goals as goal
-
-pub returns : goal.returns
-returns c = any_refine

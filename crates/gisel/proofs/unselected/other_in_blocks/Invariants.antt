@@ -1,6 +1,0 @@
-use Rattle.std.proofs.Common.{◌≡◌, drop}
-use Rattle.gisel.specs.Unselected.{other_in_blocks}
-use Rattle.gisel.proofs.unselected.other_in_blocks.Given as goal
-
-abbrev pub invariant-loop-block : goal.invariant-loop-block
-invariant-loop-block l = other_in_blocks l.function.blocks ≡ other_in_blocks (drop l.block l.function.blocks)
