@@ -17,9 +17,5 @@ mod place;
 pub mod routine;
 pub mod row;
 pub mod stage;
-#[cfg(test)]
-mod table_tests;
-#[cfg(test)]
-mod tests;
 pub mod types;
 pub mod typing;

@@ -1,14 +1,14 @@
 //! Examples of what is read from the table of opcodes.
 
-use crate::accepted::{
+use gi_llt::{Llt, Target};
+use gi_mir::accepted::{
     accepts, is_constant_type, is_in_register, is_memory_type, is_result_type, is_source_type,
 };
-use crate::opcode::Opcode;
-use crate::operand::Kind;
-use crate::routine::{Routine, routine_of};
-use crate::row::Access;
-use crate::stage::Stage;
-use gi_llt::{Llt, Target};
+use gi_mir::opcode::Opcode;
+use gi_mir::operand::Kind;
+use gi_mir::routine::{Routine, routine_of};
+use gi_mir::row::Access;
+use gi_mir::stage::Stage;
 
 const RV32: Target = Target {
     xlen: 32,

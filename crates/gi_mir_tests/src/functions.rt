@@ -2,15 +2,15 @@
 
 ghost use Rattle.std.specs.Prelude.{◌<◌, length};
 
-use crate::block::{Block, InstrId};
-use crate::formed::formed;
-use crate::function::Function;
-use crate::instr::Instr;
-use crate::module::Module;
-use crate::names::Names;
-use crate::opcode::Opcode;
-use crate::operand::{Flags, Kind, Operand, Reg};
 use gi_llt::Llt;
+use gi_mir::block::{Block, InstrId};
+use gi_mir::formed::formed;
+use gi_mir::function::Function;
+use gi_mir::instr::Instr;
+use gi_mir::module::Module;
+use gi_mir::names::Names;
+use gi_mir::opcode::Opcode;
+use gi_mir::operand::{Flags, Kind, Operand, Reg};
 use smallvec::SmallVec;
 use std::alloc::Global;
 use std::test::Fail;
