@@ -17,6 +17,3 @@ pub use standard::{StdInput, StdOutput};
 /// A call failed; the count of faults rose in it.
 #[derive(Clone, Copy, Debug, PartialEq, Eq)]
 pub struct Failed;
-
-#[cfg(test)]
-mod tests;

@@ -38,6 +38,3 @@ pub fn width(ty: Llt, target: Target) -> u16
         Llt::Pointer => target.xlen,
     }
 }
-
-#[cfg(test)]
-mod tests;

@@ -14,6 +14,3 @@ pub use cursor::Cursor;
 pub use cut::{next_token, tokens};
 pub use numbers::{digit_value, number};
 pub use token::{LineError, NextToken, Number, Place, SizeError, TextError, Token, TokenKind};
-
-#[cfg(test)]
-mod tests;

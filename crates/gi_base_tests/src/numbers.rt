@@ -1,4 +1,4 @@
-use crate::{Llt, Target, high_product, part, sext, width, wrap};
+use gi_llt::{Llt, Target, high_product, part, sext, width, wrap};
 
 #[test]
 fn takes_bits(rt: HostRuntime) {

@@ -1,6 +1,6 @@
 //! Lines and their tokens, written by hand from the table of tokens.
 
-use crate::{Cursor, LineError, Number, Place, Token, TokenKind, number, tokens};
+use gi_text::{Cursor, LineError, Number, Place, Token, TokenKind, number, tokens};
 use std::alloc::{AllocError, Global};
 use std::test::Fail;
 

@@ -1,4 +1,4 @@
-use crate::{
+use gi_io::{
     Input, MemInput, MemOutput, Output, ReadError, StdInput, StdOutput, read_all, write_all,
 };
 use std::alloc::Global;
