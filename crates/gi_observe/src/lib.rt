@@ -12,6 +12,3 @@ pub use editor::Editor;
 pub use laws::replays_compose;
 pub use observer::{ChangeObserver, Journal, Silent};
 pub use pass::Pass;
-
-#[cfg(test)]
-mod tests;

@@ -15,6 +15,3 @@ pub use asking::can_apply;
 pub use binding::{Binding, BoundValue};
 pub use fitting::test;
 pub use rule::{Make, MakeSlot, Match, Rule, Slot, Test, TypeExpr, ValueExpr};
-
-#[cfg(test)]
-mod tests;

@@ -1,14 +1,5 @@
 //! Rules where they fit and where they don't, and what they make.
 
-use crate::applying::apply;
-use crate::asking::can_apply;
-use crate::binding::Binding;
-use crate::examples::{
-    difference_of_same, difference_with_constant, product_by_power, remainder_by_power,
-    sum_with_short_constant, sum_with_zero, truncated_extension, unmerged_pair,
-};
-use crate::fitting::test;
-use crate::rule::Rule;
 use gi_llt::{Llt, Target};
 use gi_mir::block::{Block, InstrId};
 use gi_mir::formed::formed;
@@ -17,6 +8,11 @@ use gi_mir::instr::Instr;
 use gi_mir::opcode::Opcode;
 use gi_mir::operand::{Flags, Kind, Operand, Reg};
 use gi_observe::{ChangeKind, Editor, Journal, Pass};
+use gi_pattern::examples::{
+    difference_of_same, difference_with_constant, product_by_power, remainder_by_power,
+    sum_with_short_constant, sum_with_zero, truncated_extension, unmerged_pair,
+};
+use gi_pattern::{Binding, Rule, apply, can_apply, test};
 use smallvec::SmallVec;
 use std::alloc::Global;
 use std::test::Fail;

@@ -1,9 +1,5 @@
 //! Passes by their words, and what is told of edits.
 
-use crate::change::{Change, ChangeKind};
-use crate::editor::Editor;
-use crate::observer::{ChangeObserver, Journal, Silent};
-use crate::pass::Pass;
 use gi_llt::Llt;
 use gi_mir::block::{Block, InstrId};
 use gi_mir::formed::formed;
@@ -11,6 +7,7 @@ use gi_mir::function::Function;
 use gi_mir::instr::Instr;
 use gi_mir::opcode::Opcode;
 use gi_mir::operand::{Flags, Kind, Operand, Reg};
+use gi_observe::{Change, ChangeKind, ChangeObserver, Editor, Journal, Pass, Silent};
 use smallvec::SmallVec;
 use std::alloc::Global;
 use std::test::Fail;

@@ -1,0 +1,7 @@
+//! Tests of `gi_observe` and `gi_pattern`: edits and what is told of them, and rules where they fit.
+#![tactic(auto)]
+
+#[cfg(test)]
+mod edits;
+#[cfg(test)]
+mod rules;
