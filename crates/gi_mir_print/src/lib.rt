@@ -7,7 +7,5 @@ mod hashing;
 mod instruction;
 mod pieces;
 mod registers;
-#[cfg(test)]
-mod tests;
 
 pub use functions::{print, print_instr};

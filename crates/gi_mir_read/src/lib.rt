@@ -51,6 +51,3 @@ mod wrongs;
 pub use read::{ir_number, read_mir};
 pub use sizes::check_sizes;
 pub use triples::triple;
-
-#[cfg(test)]
-mod line_tests;

@@ -146,6 +146,3 @@ pub fn ir_number(alloc: Global, text: &[u8], place: usize) -> Result<u32, Memory
         Err(_) => Err(Memory),
     }
 }
-
-#[cfg(test)]
-mod tests;

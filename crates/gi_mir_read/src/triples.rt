@@ -97,6 +97,3 @@ pub fn triple(module: &Module) -> Option<(usize, Token)>
         None => None,
     }
 }
-
-#[cfg(test)]
-mod tests;

@@ -2,7 +2,6 @@
 
 ghost use Rattle.std.specs.Prelude.{◌<◌, length};
 
-use crate::{print, print_instr};
 use gi_llt::Llt;
 use gi_mir::block::Block;
 use gi_mir::formed::formed;
@@ -12,6 +11,7 @@ use gi_mir::module::Module;
 use gi_mir::names::Names;
 use gi_mir::opcode::Opcode;
 use gi_mir::operand::{Flags, Kind, MemOp, Operand, Pred, Reg, StackObject, SymbolFlag};
+use gi_mir_print::{print, print_instr};
 use smallvec::SmallVec;
 use std::alloc::Global;
 use std::process::Abort;

@@ -1,10 +1,10 @@
 //! Texts and what is read of them, by a table.
 
-use crate::read_mir;
 use gi_mir::block::Numbered;
 use gi_mir::function::Function;
 use gi_mir::module::Module;
 use gi_mir::names::Names;
+use gi_mir_read::read_mir;
 use std::alloc::{AllocError, Global};
 use std::test::Fail;
 

@@ -1,8 +1,8 @@
 //! The target triple of IR blocks, by a table.
 
-use crate::triples::triple;
 use gi_mir::module::Module;
 use gi_mir::names::Names;
+use gi_mir_read::triple;
 use std::test::Fail;
 
 #[test]
