@@ -4,8 +4,6 @@
 mod examples;
 mod invalid;
 mod laws;
-#[cfg(test)]
-mod tests;
 
 pub use examples::{a_loop_is_invalid, a_loop_runs, examples_are_invalid, examples_are_valid};
 pub use invalid::{Fault, Invalid};

@@ -18,8 +18,6 @@ mod registers;
 mod room;
 mod settled;
 mod site;
-#[cfg(test)]
-mod tests;
 mod tree;
 mod typing;
 mod uses;

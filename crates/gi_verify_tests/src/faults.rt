@@ -1,7 +1,7 @@
 //! Faults are alike where they are one kind and name one thing.
 
-use crate::Invalid;
 use gi_mir::operand::{Operand, Reg};
+use gi_valid::Invalid;
 
 #[test]
 fn faults_are_told_apart(rt: HostRuntime) {

@@ -2,7 +2,6 @@
 
 ghost use Rattle.std.specs.Prelude.{◌≡◌, ◌<◌, ◌+◌, length, IfOk};
 
-use crate::{VerifyError, verify};
 use gi_llt::{Llt, Target};
 use gi_mir::block::Block;
 use gi_mir::formed::formed;
@@ -12,6 +11,7 @@ use gi_mir::opcode::Opcode;
 use gi_mir::operand::{Flags, Kind, Operand, Reg};
 use gi_mir::stage::Stage;
 use gi_valid::Invalid;
+use gi_verify::{VerifyError, verify};
 use smallvec::SmallVec;
 use std::alloc::Global;
 use std::test::Fail;
