@@ -6,6 +6,3 @@ pub mod laws;
 pub mod selection;
 
 pub use constants::{Sequence, Step, materialise};
-
-#[cfg(test)]
-mod tests;

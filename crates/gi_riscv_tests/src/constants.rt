@@ -2,13 +2,13 @@
 
 ghost use Rattle.std.specs.Prelude.{◌≡◌, ◌⊎◌};
 
-use crate::{Sequence, Step, materialise};
 use gi_llt::Target;
 use gi_meaning::bits::has_bits;
 use gi_meaning::gives::Gives;
 use gi_meaning::words::{of_immediate, of_number, word_of_number};
 use gi_mir::opcode::Opcode;
 use gi_mir::operand::Flags;
+use gi_riscv::{Sequence, Step, materialise};
 use std::alloc::{AllocError, Global};
 
 // A sequence as one line of text.

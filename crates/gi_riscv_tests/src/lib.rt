@@ -1,0 +1,5 @@
+//! Tests of `gi_riscv`: constants by instructions.
+#![tactic(auto)]
+
+#[cfg(test)]
+mod constants;
