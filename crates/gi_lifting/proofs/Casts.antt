@@ -9,7 +9,7 @@ use Rattle.gi_mir.specs.declared.operand.Flags.{Flags}
 use Rattle.gi_meaning.specs.Act.{Results}
 use Rattle.gi_meaning.specs.State.{World, Outside}
 use Rattle.gi_refine.specs.Values.{Correspond, Defines, Environment, Holds, IsCertain, IsSound, Makes, MayMake, Rule, StandAt}
-use Rattle.gi_refine.specs.TrialRules.{on_one}
+use Rattle.gi_refine.specs.ValueRules.{on_one}
 use Rattle.gi_refine.proofs.RuleSteps.{OneOf, entry_value, exactly, from_low_bits}
 use Rattle.gi_pattern.specs.Examples.{truncated_extension}
 use Rattle.gi_pattern.specs.declared.binding.Binding.{Binding}

@@ -27,10 +27,9 @@ use Rattle.std.proofs.lemmas.Bool.Decides.{nat_tests}
 use Rattle.gi_meaning.specs.State.{World}
 use Rattle.gi_meaning.specs.Act.{Answers, Results}
 use Rattle.gi_refine.specs.Values.{Correspond, Defines, Environment, Fact, IsCertain, IsSound, Makes, MayMake, Rule}
-use Rattle.gi_refine.specs.TrialRules.{add_zero, constant, on_two, remainder_to_mask, subtract_self}
+use Rattle.gi_refine.specs.ValueRules.{add_zero, constant, on_two, remainder_to_mask, subtract_self}
 use Rattle.gi_refine.proofs.RuleSteps.{answers_given, constant_known, entry_value, exactly, unless_given}
-use Rattle.gi_refine.proofs.TrialRulesMore.{remainder_to_mask_sound}
-use Rattle.gi_refine.proofs.TrialRules.{add_zero_sound, subtract_self_sound, sum_with_zero as sum_with_nothing}
+use Rattle.gi_refine.proofs.ValueRules.{remainder_to_mask_sound, add_zero_sound, subtract_self_sound, sum_with_zero as sum_with_nothing}
 use Rattle.gi_pattern.specs.Examples.{difference_of_same, difference_with_constant, product_by_power, remainder_by_power, sum_with_zero}
 use Rattle.gi_pattern.specs.declared.binding.Binding.{Binding}
 use Rattle.gi_lifting.specs.OnValues.{Types, values_of}

@@ -1,5 +1,5 @@
 -- A register that nothing but one constant defines holds it wherever it has a value.
-use Rattle.gi_refine.specs.TrialRules.{constant}
+use Rattle.gi_refine.specs.ValueRules.{constant}
 use Rattle.gi_refine.specs.Lifting.{Reads}
 use Rattle.gi_refine.specs.Values.{Environment, Holds, Defines}
 use Rattle.std.proofs.Common.{◌≡◌, ℕ, zero, suc, true, false, not, ◌&&◌, ◌==◌, List, [], ◌∷◌, ◌++◌, Option, Some, None, slice_get, ⊎_elim, refl, sym, ap, ◌∙◌, subst, eqb-true}

@@ -1,10 +1,10 @@
 -- Runs that have one way to go, put together from steps that have.
-use Rattle.std.proofs.Common.{◌≡◌, ℕ, zero, suc, List, [], ◌∷◌, map, Option, Some, slice_get, refl, sym, ap, ◌∙◌, subst}
+use Rattle.std.proofs.Common.{◌≡◌, ℕ, suc, List, [], ◌∷◌, map, Option, Some, slice_get, refl, sym, ap, ◌∙◌, subst}
 use Rattle.gi_mir.specs.Data.{InstrData, BlockData}
 use Rattle.gi_mir.specs.declared.operand.MemOp.{MemOp}
 use Rattle.gi_meaning.specs.Argument.{Argument}
 use Rattle.gi_meaning.specs.Given.{one}
-use Rattle.gi_meaning.specs.State.{World, State, Outside, outside_of, Outcome, Going}
+use Rattle.gi_meaning.specs.State.{World, State, Outside, outside_of, Outcome}
 use Rattle.gi_meaning.specs.Meaning.{Meaning, meaning_of}
 use Rattle.gi_meaning.specs.Act.{Answer, Results, Answers, Act}
 use Rattle.gi_meaning.specs.Runs.{Setting, arguments_of, written_places, width_of_place, progress_of, Progress, On, Left, Over, StepsFrom, Steps, After, Executes, phis_of, after_phis, joined, Follows, RunsAfterPhis, RunsBlock, Enters}
@@ -64,9 +64,6 @@ pub record EntersSo (s : Setting) (w : World) (blocks : List BlockData) (n : ℕ
   pub can : Enters s w blocks n from b state o
   pub only : (other : Outcome) → Enters s w blocks n from b state other → other ≡ o
 
-pub enters_none : (s : Setting) (w : World) (blocks : List BlockData) (from : Option ℕ) (b : ℕ) (state : State) → EntersSo s w blocks zero from b state (Going state.memory state.taken)
-enters_none s w blocks from b state = record { can = refl; only = λ other run. run }
-
 -- a block whose body is over
 pub enters_over : (s : Setting) (w : World) (blocks : List BlockData) (n : ℕ) (from : Option ℕ) (b : ℕ) (state middle : State) (block : BlockData) (o : Outcome)
     → slice_get blocks b ≡ Some block → joined state from (phis_of block.instrs) ≡ Some middle → DoesAll s w (after_phis block.instrs) middle (Over o) → EntersSo s w blocks (suc n) from b state o
@@ -77,17 +74,4 @@ enters_over s w blocks n from b state middle block o here phis body = record {
       let ran : RunsAfterPhis s w b block (Enters s w blocks n) (Some middle) other =
       subst (λ st. RunsAfterPhis s w b block (Enters s w blocks n) st other) phis (subst (λ k. RunsBlock s w k (Enters s w blocks n) from b state other) here run) in
       subst (λ p. Follows b block.successors (Enters s w blocks n) p other) (body.only ran.0 ran.1) ran.2;
-}
-
--- a block that is left for another
-pub enters_left : (s : Setting) (w : World) (blocks : List BlockData) (n : ℕ) (from : Option ℕ) (b c : ℕ) (state middle last : State) (block : BlockData) (o : Outcome)
-    → slice_get blocks b ≡ Some block → joined state from (phis_of block.instrs) ≡ Some middle → DoesAll s w (after_phis block.instrs) middle (Left c last)
-    → EntersSo s w blocks n (Some b) c last o → EntersSo s w blocks (suc n) from b state o
-enters_left s w blocks n from b c state middle last block o here phis body next = record {
-  can = subst (λ k. RunsBlock s w k (Enters s w blocks n) from b state o) (sym here)
-      (subst (λ st. RunsAfterPhis s w b block (Enters s w blocks n) st o) (sym phis) (Left c last, body.can, next.can));
-  only = λ other run.
-      let ran : RunsAfterPhis s w b block (Enters s w blocks n) (Some middle) other =
-      subst (λ st. RunsAfterPhis s w b block (Enters s w blocks n) st other) phis (subst (λ k. RunsBlock s w k (Enters s w blocks n) from b state other) here run) in
-      next.only other (subst (λ p. Follows b block.successors (Enters s w blocks n) p other) (body.only ran.0 ran.1) ran.2);
 }

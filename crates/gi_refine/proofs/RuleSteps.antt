@@ -4,9 +4,9 @@ use Rattle.std.proofs.Math.Nat.{mod-one}
 use Rattle.gi_meaning.specs.Argument.{Argument, Value}
 use Rattle.gi_meaning.specs.Given.{Given, Exactly, LowBits, Undefined, IsGiven, one, in_low_bits, unless_broken}
 use Rattle.gi_meaning.specs.State.{World, Outside}
-use Rattle.gi_meaning.specs.Act.{Answer, Results, Breaks, AllReadAs, Answers, AnswersWords, all_fitted, IsWordOf}
+use Rattle.gi_meaning.specs.Act.{Answer, Results, Breaks, Answers, AnswersWords, all_fitted, IsWordOf}
 use Rattle.gi_refine.specs.Values.{Environment, appended, answered, Then, Holds, Defines, StandAt}
-use Rattle.gi_refine.specs.TrialRules.{constant}
+use Rattle.gi_refine.specs.ValueRules.{constant}
 use Rattle.gi_refine.proofs.Basics.{not_below_itself}
 
 -- ══ What is given ══
@@ -57,24 +57,6 @@ entry_value n a m b h = ap value_of h
 pub whole_word : (x a : ℕ) (word : Argument) → IsWordOf x x a word → word ≡ Value x a
 whole_word x a word h =
     subst (λ b. cond b ((u : ℕ) × (u < 2 ^ x) × (u % 2 ^ x ≡ a) × (word ≡ Value x u)) (word ≡ Value x a)) (not_below_itself x) h
-
--- what is written to a register of a word's width stays whole
--- two registers as words
-pub record ReadTwo (x m n a b : ℕ) (words : List Argument) : Type 0 where
-  pub left : Argument
-  pub right : Argument
-  pub left_of : IsWordOf x m a left
-  pub right_of : IsWordOf x n b right
-  pub both : words ≡ left ∷ right ∷ []
-
-pub read_two : (x m n a b : ℕ) (words : List Argument) → AllReadAs x (Value m a ∷ Value n b ∷ []) words → ReadTwo x m n a b words
-read_two x m n a b words h = record {
-  left = h.0;
-  right = h.3.0;
-  left_of = h.2;
-  right_of = h.3.2;
-  both = h.4 ∙ ap (λ rest. h.0 ∷ rest) (h.3.4 ∙ ap (λ rest. h.3.0 ∷ rest) h.3.3);
-}
 
 -- the one list of words that a machine instruction gives
 pub words_exactly : (x : ℕ) (widths words : List ℕ) (outside : Outside) (answer : Answer) (env : Environment) (rest : Environment → Option Environment → Type 0) (made : Option Environment)

@@ -4,11 +4,10 @@ use Rattle.std.proofs.lemmas.Bool.{or_parts}
 use Rattle.gi_mir.specs.Data.{InstrData, BlockData, FunctionData}
 use Rattle.gi_mir.specs.Registers.{first_there, kind_in_operands, kind_in_instrs, kind_in_blocks}
 use Rattle.gi_mir.specs.declared.operand.Kind.{Kind}
-use Rattle.gi_mir.specs.declared.operand.Kind.TheVariants.{Class}
 use Rattle.gi_mir.specs.declared.operand.Operand.{Operand}
 use Rattle.gi_mir.specs.declared.operand.Operand.TheVariants as operand
 use Rattle.gi_meaning.specs.State.{State}
-use Rattle.gi_meaning.specs.Runs.{Setting, setting_of, is_phi, phis_of, after_phis, from_block, width_of_kind}
+use Rattle.gi_meaning.specs.Runs.{Setting, setting_of, is_phi, phis_of, after_phis, from_block}
 use Rattle.gi_refine.specs.Kept.{reused_operand, reused, without_kind, IsKept, AreKept, AreSeenAs, AllSeenAs, HasSameValue, UsesHold, EntryHolds, EntriesHold, PhisHold, BodyHolds}
 use Rattle.gi_refine.specs.OnePlace.{OnePlace, only_virtual, StaysAt, RewritesOnePlace}
 use Rattle.gi_refine.specs.Refinement.{IsRefinement}
@@ -244,12 +243,3 @@ replaced_in_place x names f g r replaced =
 
 pub replacement_refines : (x : ℕ) (names : List (List ℕ)) (f g : FunctionData) (r : Replacement) → IsReplaced x names f g r → IsRefinement x names f g
 replacement_refines x names f g r replaced = one_place_refines x names f g (place_of_replacement r) (replaced_in_place x names f g r replaced)
-
--- a register that the new instructions define as the old ones do keeps its width
-pub width_replaced : (x : ℕ) (names : List (List ℕ)) (f g : FunctionData) (r : Replacement) (block : BlockData) → slice_get f.blocks r.block ≡ Some block → block.instrs ≡ r.before ++ (r.old ++ r.after)
-    → g.blocks ≡ slice_set f.blocks r.block (record block { instrs = r.before ++ (r.new ++ r.after) }) → (q : ℕ) → kind_in_instrs q r.new ≡ kind_in_instrs q r.old
-    → (setting_of x names g).width q ≡ (setting_of x names f).width q
-width_replaced x names f g r block here instrs blocks q same =
-    let new_block : BlockData = record block { instrs = r.before ++ (r.new ++ r.after) } in
-    ap (λ k. width_of_kind x (unwrap_or k Class))
-    (ap (kind_in_blocks q) blocks ∙ kind_set q f.blocks r.block block new_block here (kind_replaced q r.before r.old r.new r.after same ∙ ap (kind_in_instrs q) (sym instrs)))

@@ -1,12 +1,8 @@
 pub mod Agreement
-pub mod CallTrial
 pub mod Constants
 pub mod Evaluation
 pub mod Examples
 pub mod Fitting
-pub mod Idle
-pub mod IdleValues
-pub mod IdleValuesMore
 pub mod Invariant
 pub mod Kept
 pub mod Lifting
@@ -18,10 +14,7 @@ pub mod Replacing
 pub mod Rewriting
 pub mod RuleUse
 pub mod Simulation
-pub mod TargetExamples
 pub mod TestedUse
-pub mod TrialFunctions
-pub mod TrialRules
-pub mod Trials
+pub mod ValueRules
 pub mod Values
 pub mod Worded

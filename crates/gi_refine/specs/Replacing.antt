@@ -34,9 +34,6 @@ reused_pair rename i = (i.0, reused rename i.1)
 abbrev pub all_reused : (rename : ℕ → ℕ) → List (ℕ × InstrData) → List (ℕ × InstrData)
 all_reused rename is = map (reused_pair rename) is
 
-abbrev pub reused_block : (rename : ℕ → ℕ) → BlockData → BlockData
-reused_block rename block = record block { instrs = all_reused rename block.instrs }
-
 -- ══ A replacement ══
 
 -- The block; what stands in it before the place (its phis too), the old and the new instructions, and what stands after; and

@@ -7,7 +7,7 @@ use Rattle.gi_refine.specs.Constants.{only_constant}
 use Rattle.gi_refine.specs.Fitting.{blocks_fit}
 use Rattle.gi_refine.specs.Lifting.{Placing, IsPlaced, takes, first_slots}
 use Rattle.gi_refine.specs.RuleUse.{width_in}
-use Rattle.gi_refine.specs.TrialRules.{constant}
+use Rattle.gi_refine.specs.ValueRules.{constant}
 use Rattle.gi_refine.specs.Values.{Fact, Defines, Rule, Slot, IsSound}
 
 -- an input that is a constant: its place in the rule, its register and its value

@@ -1,7 +1,8 @@
-//! The law that lifts a rule on values to instructions over registers.
+//! The law that lifts a rule on values to instructions over registers, and rules that are sound on values.
 
 ghost use Rattle.std.specs.Prelude.{ℕ, ◌++◌, Bool, List};
-ghost use Rattle.gi_mir.specs.Data.{FunctionData, InstrData};
+ghost use Rattle.gi_mir.specs.Data.{FunctionData, InstrData, no_flags};
+ghost use Rattle.gi_mir.specs.declared.operand.Flags.{Flags};
 ghost use Rattle.gi_meaning.specs.Runs.{setting_of};
 ghost use Rattle.gi_meaning.specs.State.{IsWorld, Place, State, World};
 ghost use Rattle.gi_refine.specs.Agreement.{Agree, AgreeAt, setting};
@@ -9,7 +10,8 @@ ghost use Rattle.gi_refine.specs.Lifting.{AgreeKnown, AgreeReady, AllSame, IsPla
 ghost use Rattle.gi_refine.specs.Reached.{IsReached, WhereReached};
 ghost use Rattle.gi_refine.specs.RuleUse.{IsCertainUse, IsRuleUse};
 ghost use Rattle.gi_refine.specs.Simulation.{IsFollowed};
-ghost use Rattle.gi_refine.specs.Values.{IsSound, Rule};
+ghost use Rattle.gi_refine.specs.ValueRules.{add_zero, remainder_to_mask, subtract_self};
+ghost use Rattle.gi_refine.specs.Values.{IsCertain, IsSound, Rule};
 
 /// A rule that is sound on values lifts to instructions that show its operations on registers: from states that
 /// agree, where the old one has values of which the facts of the rule hold, what the new instructions do, the old
@@ -58,4 +60,13 @@ pub fn replaced_uses_hold()
         → (w : World) → IsWorld x w
         → (state : State) → IsReached (setting_of x names f) w f.blocks block (before ++ old) state
         → AllSame state.values (all_grown placing.inputs placing.old) (rule w).kept }
+{}
+
+/// Rules that are sound at every width: a difference with itself is zero, a sum with zero is its first summand, also
+/// wherever it is used, and a remainder by a power of two is a mask.
+pub fn value_rules_are_sound()
+    ensures subtract_self { (x : ℕ) (w : World) (flags : Flags) (n : ℕ) → IsSound x w (subtract_self flags n) }
+    ensures add_zero { (x : ℕ) (w : World) (flags : Flags) (n : ℕ) → IsSound x w (add_zero flags n) }
+    ensures add_zero_is_certain { (x : ℕ) (w : World) (n : ℕ) → IsCertain x w (add_zero no_flags n) }
+    ensures remainder_to_mask { (x : ℕ) (w : World) (n k : ℕ) → IsSound x w (remainder_to_mask n k) }
 {}

@@ -16,7 +16,7 @@ use Rattle.gi_meaning.specs.Machine.{add_immediate, by_amount, on_immediate, on_
 use Rattle.gi_meaning.specs.Meaning.{Generic, meaning_of}
 use Rattle.gi_meaning.specs.State.{World}
 use Rattle.gi_meaning.specs.Act.{Answers, copied}
-use Rattle.gi_refine.specs.TrialRules.{on_one}
+use Rattle.gi_refine.specs.ValueRules.{on_one}
 use Rattle.gi_refine.specs.Values.{Environment, At, Fixed, Operation, Makes, IsSound}
 use Rattle.gi_refine.proofs.RuleSteps.{same_given}
 use Rattle.gi_riscv.specs.SelectionRules.{leave_free, no_operands, stack_address, address_and_zero, with_number, zero_extend, sign_extend, sign_extend_in_register, by_copy, truncate, any_extend, pointer_to_integer, integer_to_pointer, freeze}

@@ -17,7 +17,7 @@ use Rattle.gi_meaning.specs.State.{World, Outside}
 use Rattle.gi_meaning.specs.Act.{Answer, Act}
 use Rattle.gi_meaning.proofs.Numbers.{unsigned_below}
 use Rattle.gi_refine.specs.Values.{Environment, At, Operation, Makes, Then, answered, IsSound}
-use Rattle.gi_refine.specs.TrialRules.{on_two}
+use Rattle.gi_refine.specs.ValueRules.{on_two}
 use Rattle.gi_riscv.specs.SelectionRules.{with_zero, choose}
 use Rattle.gi_riscv.proofs.ComparisonsSelected.{is_above}
 use Rattle.gi_riscv.proofs.LowBits.{KeepsLow, low_is, low_reads, unsigned_low}

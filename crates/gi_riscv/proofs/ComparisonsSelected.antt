@@ -18,7 +18,7 @@ use Rattle.gi_meaning.specs.Machine.{on_words, on_immediate, is_immediate, less_
 use Rattle.gi_meaning.specs.Meaning.{Machine, meaning_of}
 use Rattle.gi_meaning.specs.State.{World, Outside}
 use Rattle.gi_refine.specs.Values.{Environment, At, Fixed, Operation, Fact, Defines, Makes, MayMake, IsSound}
-use Rattle.gi_refine.specs.TrialRules.{constant, on_two}
+use Rattle.gi_refine.specs.ValueRules.{constant, on_two}
 use Rattle.gi_refine.proofs.RuleSteps.{constant_known, entry_value}
 use Rattle.gi_riscv.specs.SelectionRules.{compare, compared, compared_with, with_number, with_zero, compare_ult, compare_ugt, compare_slt, compare_sgt, compare_uge, compare_ule, compare_sge, compare_sle, compare_eq, compare_ne, compare_eq_zero, compare_ne_zero, compare_ult_number, compare_slt_number}
 use Rattle.gi_riscv.proofs.MachineSteps.{rule_of, may_make}

@@ -1,11 +1,12 @@
 -- The low bits of words.
-use Rattle.std.proofs.Common.{◌≡◌, ℕ, ◌+◌, ◌-◌, ◌*◌, ◌/◌, ◌%◌, ◌^◌, ◌<◌, ◌≤◌, Bool, true, false, cond, refl, sym, ap, ap₂, ◌∙◌, subst, arith, nat_lt, ℤ, pos, negsuc}
+use Rattle.std.proofs.Common.{◌≡◌, ℕ, ◌+◌, ◌-◌, ◌*◌, ◌/◌, ◌%◌, ◌^◌, ◌<◌, ◌≤◌, Bool, true, false, cond, refl, sym, ap, ap₂, ◌∙◌, subst, arith, nat_lt, ℤ, pos, negsuc, ⊎_elim}
 use Rattle.std.proofs.lemmas.Nat.{pow_pos, mod_below, div_below, pow-add, mod-mul-add}
-use Rattle.std.proofs.lemmas.Bool.{ltb-false}
+use Rattle.std.proofs.lemmas.Bool.{cases_lt, ltb-false}
+use Rattle.std.specs.Prelude.{neg_ℤ}
 use Rattle.std.proofs.Math.Nat.{div-add-mod', mod-eq_of_lt}
 use Rattle.std.proofs.Math.Pow.{mod-mod-pow}
-use Rattle.gi_meaning.proofs.Numbers.{unsigned_below}
-use Rattle.gi_llt.specs.Bits.{unsigned, wrapped}
+use Rattle.gi_meaning.proofs.Numbers.{signed-low, signed-high, unsigned-neg, unsigned_below}
+use Rattle.gi_llt.specs.Bits.{sign_extended, signed, unsigned, wrapped}
 use Rattle.gi_meaning.specs.Given.{Given}
 use Rattle.gi_meaning.specs.Act.{fitted}
 use Rattle.gi_riscv.proofs.MachineSteps.{MayGive, IsReadAs}
@@ -70,3 +71,21 @@ low_reads_at false x n m is within fits = let e : x ≡ n = omega (arith, ltb-fa
 -- a word is what a register that holds its low bits may be read as
 pub low_reads : (x n m : ℕ) → n ≤ x → m < 2 ^ x → IsReadAs x n (wrapped n m) m
 low_reads x n m within fits = low_reads_at (nat_lt n x) x n m refl within fits
+
+-- ══ The low half of a word to which it was extended with its sign ══
+
+extended_low_below : (v : ℕ) → v < 2 ^ 31 → wrapped 32 (sign_extended 32 64 v) ≡ v
+extended_low_below v low =
+    let whole : wrapped 32 v ≡ v = mod-eq_of_lt (omega (arith, low)) in
+    ap (λ u. wrapped 32 (unsigned 64 (signed 32 u))) whole ∙ ap (λ z. wrapped 32 (unsigned 64 z)) (signed-low 32 v low) ∙ omega (arith, low)
+
+extended_low_above : (v : ℕ) → v < 2 ^ 32 → 2 ^ 31 ≤ v → wrapped 32 (sign_extended 32 64 v) ≡ v
+extended_low_above v fits high =
+    let whole : wrapped 32 v ≡ v = mod-eq_of_lt fits in
+    let size : ℕ = 2 ^ 32 - v in
+    let bits : unsigned 64 (neg_ℤ (pos size)) ≡ 2 ^ 64 - 1 - (size % 2 ^ 64 - 1) = unsigned-neg 64 size (omega (arith, fits, high)) in
+    ap (λ u. wrapped 32 (unsigned 64 (signed 32 u))) whole ∙ ap (λ z. wrapped 32 (unsigned 64 z)) (signed-high 32 v high) ∙ ap (wrapped 32) bits ∙ omega (arith, fits, high)
+
+-- the low 32 bits of a word that they were extended to with their sign
+pub extended_low : (v : ℕ) → v < 2 ^ 32 → wrapped 32 (sign_extended 32 64 v) ≡ v
+extended_low v fits = ⊎_elim (λ low. extended_low_below v low) (λ high. extended_low_above v fits high) (cases_lt v (2 ^ 31))

@@ -13,10 +13,10 @@ use Rattle.gi_meaning.specs.Meaning.{Generic, Machine, meaning_of}
 use Rattle.gi_meaning.specs.State.{World, Outside}
 use Rattle.gi_meaning.specs.Act.{Answer, Act, fitted}
 use Rattle.gi_refine.specs.Values.{Environment, At, Defines, Makes, IsSound}
-use Rattle.gi_refine.specs.TrialRules.{constant, on_two}
+use Rattle.gi_refine.specs.ValueRules.{constant, on_two}
 use Rattle.gi_refine.proofs.Basics.{whole_fitted}
 use Rattle.gi_refine.proofs.RuleSteps.{constant_known, entry_value}
-use Rattle.gi_refine.proofs.TrialArithmetic.{extended_low}
+use Rattle.gi_riscv.proofs.LowBits.{extended_low}
 use Rattle.gi_riscv.specs.SelectionRules.{on_registers, by_number, by_first_number, with_number}
 use Rattle.gi_riscv.proofs.MachineSteps.{MayGive, may_make, IsReadAs, whole_read, OnTwo, on_two_words, OnNumber, on_word_and_number}
 

@@ -14,7 +14,7 @@ use Rattle.gi_mir.specs.declared.operand.SymbolFlag.{SymbolFlag}
 use Rattle.gi_mir.specs.declared.operand.SymbolFlag.TheVariants.{Hi, Lo}
 use Rattle.gi_meaning.specs.Argument.{Value, Number, Symbol, Test}
 use Rattle.gi_refine.specs.Values.{Slot, At, Fixed, Operation, Fact, Defines, Rule}
-use Rattle.gi_refine.specs.TrialRules.{constant, on_one, on_two}
+use Rattle.gi_refine.specs.ValueRules.{constant, on_one, on_two}
 
 -- ══ Forms ══
 

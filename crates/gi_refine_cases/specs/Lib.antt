@@ -1,0 +1,9 @@
+pub mod CallTrial
+pub mod Examples
+pub mod Idle
+pub mod IdleValues
+pub mod IdleValuesMore
+pub mod TargetExamples
+pub mod TrialFunctions
+pub mod TrialRules
+pub mod Trials
