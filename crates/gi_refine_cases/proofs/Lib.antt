@@ -5,14 +5,10 @@ pub mod ExampleRuns
 pub mod FreeRuns
 pub mod IdleBlocks
 pub mod IdleCases
-pub mod IdleHeld
-pub mod IdleKept
 pub mod IdlePieces
 pub mod IdlePlaces
-pub mod IdleReads
 pub mod IdleValues
 pub mod IdleValuesMore
-pub mod IdleWidths
 pub mod Inserting
 pub mod NarrowRuns
 pub mod OneBlock
