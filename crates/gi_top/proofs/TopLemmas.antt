@@ -1,8 +1,8 @@
 -- What the top call says of the reason to stop.
 use Rattle.std.proofs.Common.{◌≡◌, ◌⊎◌, ℕ, List, inl, inr, refl, ◌∙◌, sym, subst, arith}
 use Rattle.std.specs.Prelude.{Result, Ok, codes}
-use Rattle.gi_top.specs.Answers.{RefusesWith}
-use Rattle.gi_top.specs.Options.{OptionsData, options_of}
+use Rattle.gi_answer.specs.Answers.{RefusesWith}
+use Rattle.gi_options.specs.Options.{OptionsData, options_of}
 use Rattle.gi_top.specs.Stop.{IsCause, UsageOf, UsageSaid, status_of, message_of}
 use Rattle.gi_top.specs.declared.stop.Stop.{Stop}
 use Rattle.gi_top.specs.declared.stop.Stop.TheVariants as stop

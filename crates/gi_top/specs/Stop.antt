@@ -1,8 +1,8 @@
 -- The status of each reason to stop before a text is written, and what the program says of it.
 use Rattle.std.specs.Prelude.{◌≡◌, ◌⊎◌, ◌<◌, ◌≤◌, length, ℕ, List, [], ◌∷◌, ◌++◌, codes, IsTrue, Result, Ok, Err, is_ok}
 use Rattle.gi_io.specs.Faults.{Rose}
-use Rattle.gi_top.specs.Answers.{limit, IsRefusedText}
-use Rattle.gi_top.specs.Options.{OptionsData}
+use Rattle.gi_answer.specs.Answers.{limit, IsRefusedText}
+use Rattle.gi_options.specs.Options.{OptionsData}
 use Rattle.gi_top.specs.declared.stop.Stop.{Stop}
 use Rattle.gi_top.specs.declared.stop.Stop.TheVariants as stop
 

@@ -3,15 +3,14 @@
 ghost use Rattle.std.specs.Prelude.{ℕ, List, Result, Ok, is_ok, ◌≡◌, ◌≢◌, ◌⊎◌, ◌≤◌, ◌<◌, ◌^◌, ◌-◌, ◌++◌, [], None, IsTrue, IfOk, OnOk, IfErr, IfSome, IsSome, IsErrOf, length, map, string_bytes, Some, codes};
 ghost use Rattle.gi_io.specs.Faults.{Rose};
 ghost use Rattle.gi_io.specs.Writing.{AppendsPrefix};
-ghost use Rattle.gi_top.specs.Answers.{limit, input_of, IsAnswer, IsOutput, AppendsOutput, AppendsPartOfOutput, RefusesWith};
-ghost use Rattle.gi_top.specs.Promise.{IsCompiled, AppendsCompiled};
+ghost use Rattle.gi_answer.specs.Answers.{limit, input_of, IsAnswer, IsOutput, AppendsOutput, AppendsPartOfOutput, RefusesWith};
+ghost use Rattle.gi_answer.specs.Promise.{IsCompiled, AppendsCompiled};
 ghost use Rattle.gi_top.specs.Stop.{IsCause, UsageOf, UsageSaid, Says};
 ghost use Rattle.std.specs.Option.{option_copied};
-ghost use Rattle.gi_top.specs.Options.{OptionsData, options_of, fault_or, chosen, no_choice};
+ghost use Rattle.gi_options.specs.Options.{OptionsData, options_of, fault_or, chosen, no_choice};
 
-use crate::answer::answer;
-use crate::messages::Refused;
-use crate::options::{Options, fault_with_last};
+use gi_answer::{Refused, answer};
+use gi_options::options::{Options, fault_with_last};
 use crate::stop::{LIMIT, Stop, end_with, say};
 use gi_io::{Input, Output, ReadError, read_all, write_all};
 use std::alloc::Global;

@@ -1,7 +1,7 @@
 use Rattle.std.proofs.Common.{◌≡◌, List, ℕ, Option, map, refl, ap, sym, subst, ◌∙◌, arith}
 use Rattle.std.specs.Prelude.{Ok, string_bytes}
 use Rattle.gi_top.specs.Stop.{Says, IsCause}
-use Rattle.gi_top.specs.Answers.{input_in}
+use Rattle.gi_answer.specs.Answers.{input_in}
 use Rattle.gi_top.proofs.TopLemmas.{refuses, says_no_usage, says_read_fault}
 use Rattle.gi_top.proofs.top.gisel.Goals as goal
 

@@ -1,5 +1,5 @@
 use Rattle.std.proofs.Common.{subst}
-use Rattle.gi_top.specs.Options.{OptionsData}
+use Rattle.gi_options.specs.Options.{OptionsData}
 use Rattle.gi_top.specs.Stop.{IsCause}
 use Rattle.gi_top.proofs.top.text_for.Goals as goal
 

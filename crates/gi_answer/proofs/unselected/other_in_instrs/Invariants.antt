@@ -1,0 +1,6 @@
+use Rattle.std.proofs.Common.{◌≡◌, drop}
+use Rattle.gi_answer.specs.Unselected.{other_in_instrs}
+use Rattle.gi_answer.proofs.unselected.other_in_instrs.Given as goal
+
+abbrev pub invariant-loop-numbered : goal.invariant-loop-numbered
+invariant-loop-numbered l = other_in_instrs l.instrs ≡ other_in_instrs (drop l.numbered-index l.instrs)

@@ -1,0 +1,15 @@
+pub mod AddRuns
+pub mod Answers
+pub mod Checks
+pub mod Keys
+pub mod Messages
+pub mod NormalForm
+pub mod Promise
+pub mod Rows
+pub mod Selectable
+pub mod Selecting
+pub mod Selection
+pub mod Shapes
+pub mod Unrun
+pub mod Unselected
+pub mod Validity

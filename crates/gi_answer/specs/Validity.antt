@@ -1,0 +1,85 @@
+-- Whether the functions of a module are valid in the stage in which the start leaves them, and what is said of the first
+-- that isn't.
+use Rattle.std.specs.Prelude.{◌≡◌, ℕ, ◌-◌, ⊤, ◌⊎◌, List, [], ◌∷◌, ◌++◌, codes, decimal}
+use Rattle.gi_mir.specs.Data.{FunctionData}
+use Rattle.gi_mir.specs.declared.operand.Operand.{Operand}
+use Rattle.gi_mir.specs.declared.operand.Operand.TheVariants.{Use, Phys, ImplicitUse}
+use Rattle.gi_mir.specs.declared.stage.Stage.{Stage}
+use Rattle.gi_mir.specs.declared.stage.Stage.TheVariants as stage
+use Rattle.gi_observe.specs.declared.pass.Pass.{Pass}
+use Rattle.gi_observe.specs.declared.pass.Pass.TheVariants.{IrTranslator, PreCombiner, Legalizer, PostCombiner, RegBankSelect, Select}
+use Rattle.gi_valid.specs.Typing.{Phase, phase_of}
+use Rattle.gi_valid.specs.Valid.{IsInvalid, IsValid}
+use Rattle.gi_valid.specs.declared.invalid.Fault.{Fault}
+use Rattle.gi_valid.specs.declared.invalid.Invalid.{Invalid}
+use Rattle.gi_valid.specs.declared.invalid.Invalid.TheVariants.{DoubleDefinition, NotAvailable, TypeMismatch, UnknownBlock, PhiEntries, PhysicalAcross, Terminator}
+use Rattle.gi_verify.specs.declared.verifying.VerifyError.{VerifyError}
+use Rattle.gi_verify.specs.declared.verifying.VerifyError.TheVariants as refusal
+use Rattle.gi_options.specs.Machine.{width_of}
+use Rattle.gi_answer.specs.Messages.{at_line}
+use Rattle.gi_options.specs.declared.machine.Machine.{Machine}
+
+-- the stage behind each pass
+abbrev pub stage_after : Pass → Stage
+stage_after IrTranslator = stage.Before
+stage_after PreCombiner = stage.Before
+stage_after Legalizer = stage.Legalized
+stage_after PostCombiner = stage.Legalized
+stage_after RegBankSelect = stage.Banked
+stage_after Select = stage.Selected
+
+-- ══ What is said ══
+
+-- `%7`, `$x10`
+abbrev pub register_word : ℕ → List ℕ
+register_word number = codes "%" ++ decimal number
+
+abbrev pub physical_word : ℕ → List ℕ
+physical_word number = codes "$x" ++ decimal number
+
+abbrev pub used_word : Operand → List ℕ
+used_word (Use reg) = register_word reg.0
+used_word (Phys number) = physical_word number
+used_word (ImplicitUse number) = physical_word number
+used_word operand = []
+
+-- a block that isn't there is kept with its number, 65536 higher
+abbrev pub invalid_words : Invalid → List ℕ
+invalid_words (DoubleDefinition reg) = codes "double definition " ++ register_word reg.0
+invalid_words (NotAvailable operand) = codes "not available " ++ used_word operand
+invalid_words (TypeMismatch reg) = codes "type mismatch " ++ register_word reg.0
+invalid_words (UnknownBlock block) = codes "unknown block " ++ decimal (block - 65536)
+invalid_words PhiEntries = codes "phi entries"
+invalid_words (PhysicalAcross number) = codes "physical across " ++ physical_word number
+invalid_words Terminator = codes "terminator"
+
+abbrev pub message_of_invalid : Fault → List ℕ
+message_of_invalid fault = at_line fault.line (invalid_words fault.what)
+
+-- ══ Functions ══
+
+abbrev pub AreValid : (x : ℕ) → Phase → List FunctionData → Type 0
+AreValid x phase [] = ⊤
+AreValid x phase (f ∷ functions) = IsValid x phase f × AreValid x phase functions
+
+-- the first function that isn't valid has this fault
+abbrev pub HasFault : (x : ℕ) → Phase → List FunctionData → Fault → Type 0
+HasFault x phase [] fault = ⊥
+HasFault x phase (f ∷ functions) fault = IsInvalid x phase f fault ⊎ (IsValid x phase f × HasFault x phase functions fault)
+
+abbrev pub AreValidFor : Machine → (start : Pass) → List FunctionData → Type 0
+AreValidFor machine start functions = AreValid (width_of machine) (phase_of (stage_after start)) functions
+
+abbrev pub HasFaultFor : Machine → (start : Pass) → List FunctionData → Fault → Type 0
+HasFaultFor machine start functions fault = HasFault (width_of machine) (phase_of (stage_after start)) functions fault
+
+-- what is said of the first that isn't valid
+pub record SaysFaultOf (machine : Machine) (start : Pass) (functions : List FunctionData) (message : List ℕ) : Type 0 where
+  pub fault : Fault
+  pub found : HasFaultFor machine start functions fault
+  pub says : message ≡ message_of_invalid fault
+
+-- what is said of what the verifier answers: of want of memory nothing
+abbrev pub SaysError : VerifyError → (message : List ℕ) → Type 0
+SaysError (refusal.Invalid line what) message = message ≡ message_of_invalid (record { line = line; what = what })
+SaysError refusal.Memory message = ⊥

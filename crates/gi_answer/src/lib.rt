@@ -1,0 +1,26 @@
+//! What gisel answers to a text of Machine IR: the text that the passes leave, or why the text is refused.
+#![tactic(auto)]
+
+mod answering;
+mod checks;
+mod example;
+mod keys;
+mod laws;
+mod messages;
+mod normal_form;
+mod same;
+mod select;
+mod shapes;
+mod unrun;
+mod unselected;
+mod validity;
+
+pub use answering::answer;
+pub use example::example_is_compiled;
+pub use laws::{
+    normal_form_is_there, printed_text_is_read_back, selected_function_refines,
+    selected_text_is_one, valid_function_is_selectable,
+};
+pub use messages::Refused;
+pub use normal_form::normal_form_is_one;
+pub use same::{any_spelled_modules_refine, same_functions_run_alike};

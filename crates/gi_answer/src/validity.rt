@@ -1,0 +1,131 @@
+//! Whether the functions of a module are valid, and what is said of the first that isn't.
+
+ghost use Rattle.std.specs.Prelude.{◌≡◌, IfErr, IfOk, OnOk, string_bytes};
+ghost use Rattle.gi_answer.specs.Messages.{Tells, at_line};
+ghost use Rattle.gi_answer.specs.Validity.{AreValidFor, SaysError, SaysFaultOf, invalid_words, message_of_invalid, physical_word, register_word, stage_after, used_word};
+
+use crate::messages::Refused;
+use gi_llt::Memory;
+use gi_mir::function::Function;
+use gi_mir::operand::Operand;
+use gi_mir::stage::Stage;
+use gi_observe::Pass;
+use gi_options::machine::Machine;
+use gi_valid::{Fault, Invalid};
+use gi_verify::{VerifyError, verify};
+use std::alloc::Global;
+
+/// The stage behind a pass.
+fn stage_after(pass: Pass) -> Stage
+    ensures { result ≡ stage_after pass }
+{
+    match pass {
+        Pass::IrTranslator | Pass::PreCombiner => Stage::Before,
+        Pass::Legalizer | Pass::PostCombiner => Stage::Legalized,
+        Pass::RegBankSelect => Stage::Banked,
+        Pass::Select => Stage::Selected,
+    }
+}
+
+/// Words about a line.
+fn at_line(alloc: Global, line: u32, words: &str) -> Result<Vec<u8>, Memory>
+    ensures { IfOk result (λ message. message.items ≡ at_line line words.now) }
+{
+    let text = format!(in alloc; "gisel: line {line}: {words}").map_err(|_| Memory)?;
+    Ok(text.into_bytes())
+}
+
+/// A virtual register, as it is written.
+fn register_word(alloc: Global, number: u32) -> Result<String, Memory>
+    ensures { IfOk result (λ word. string_bytes word ≡ register_word number) }
+{
+    format!(in alloc; "%{number}").map_err(|_| Memory)
+}
+
+/// A physical register, as it is written.
+fn physical_word(alloc: Global, number: u8) -> Result<String, Memory>
+    ensures { IfOk result (λ word. string_bytes word ≡ physical_word number) }
+{
+    format!(in alloc; "$x{number}").map_err(|_| Memory)
+}
+
+/// The register of an operand that uses one, as it is written.
+fn used_word(alloc: Global, operand: Operand) -> Result<String, Memory>
+    ensures { IfOk result (λ word. string_bytes word ≡ used_word operand) }
+{
+    match operand {
+        Operand::Use(reg) => register_word(alloc, reg.0),
+        Operand::Phys(number) | Operand::ImplicitUse(number) => physical_word(alloc, number),
+        _ => Ok(String::new(alloc)),
+    }
+}
+
+/// What is wrong, in words.
+fn invalid_words(alloc: Global, what: Invalid) -> Result<String, Memory>
+    ensures { IfOk result (λ words. string_bytes words ≡ invalid_words what) }
+{
+    match what {
+        Invalid::DoubleDefinition(reg) => {
+            let word = register_word(alloc, reg.0)?;
+            format!(in alloc; "double definition {word}").map_err(|_| Memory)
+        }
+        Invalid::NotAvailable(operand) => {
+            let word = used_word(alloc, operand)?;
+            format!(in alloc; "not available {word}").map_err(|_| Memory)
+        }
+        Invalid::TypeMismatch(reg) => {
+            let word = register_word(alloc, reg.0)?;
+            format!(in alloc; "type mismatch {word}").map_err(|_| Memory)
+        }
+        Invalid::UnknownBlock(block) => {
+            let number = block.saturating_sub(65536);
+            format!(in alloc; "unknown block {number}").map_err(|_| Memory)
+        }
+        Invalid::PhiEntries => String::from_str(alloc, "phi entries").map_err(|_| Memory),
+        Invalid::PhysicalAcross(number) => {
+            let word = physical_word(alloc, number)?;
+            format!(in alloc; "physical across {word}").map_err(|_| Memory)
+        }
+        Invalid::Terminator => String::from_str(alloc, "terminator").map_err(|_| Memory),
+    }
+}
+
+/// What is said of a fault.
+fn message_of(alloc: Global, fault: Fault) -> Result<Vec<u8>, Memory>
+    ensures { IfOk result (λ message. message.items ≡ message_of_invalid fault) }
+{
+    let words = invalid_words(alloc, fault.what)?;
+    at_line(alloc, fault.line, words.as_str())
+}
+
+/// Why a function that the verifier refuses is refused.
+fn refused(alloc: Global, error: VerifyError) -> Refused
+    ensures { Tells result (SaysError error) }
+{
+    match error {
+        VerifyError::Invalid { line, what } => match message_of(alloc, Fault { line, what }) {
+            Ok(message) => Refused::Message(message),
+            Err(Memory) => Refused::Memory,
+        },
+        VerifyError::Memory => Refused::Memory,
+    }
+}
+
+/// Refuses functions of which one isn't valid.
+pub fn check_valid(
+    alloc: Global,
+    machine: Machine,
+    start: Pass,
+    functions: &[Function],
+) -> Result<(), Refused>
+    ensures right { OnOk result (AreValidFor machine start functions.now) }
+    ensures refused { IfErr result (λ why. Tells why (SaysFaultOf machine start functions.now)) }
+{
+    for function in functions {
+        match verify(alloc, function, machine.target(), stage_after(start)) {
+            Ok(()) => {}
+            Err(error) => return Err(refused(alloc, error)),
+        }
+    }
+    Ok(())
+}

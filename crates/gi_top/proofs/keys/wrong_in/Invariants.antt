@@ -1,6 +1,0 @@
-use Rattle.std.proofs.Common.{◌≡◌, drop}
-use Rattle.gi_top.specs.Keys.{wrong_in, wrong_among}
-use Rattle.gi_top.proofs.keys.wrong_in.Given as goal
-
-abbrev pub invariant-loop-function : goal.invariant-loop-function
-invariant-loop-function l = wrong_among l.m.names l.keys (drop l.function-index l.function-items) ≡ wrong_in l.fn.start l.fn.m

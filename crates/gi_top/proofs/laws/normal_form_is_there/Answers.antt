@@ -1,5 +1,0 @@
-use Rattle.gi_top.proofs.SelectLoops.{selectable_normal}
-use Rattle.gi_top.proofs.laws.normal_form_is_there.Goals as goal
-
-pub returns : goal.returns
-returns c = selectable_normal

@@ -1,5 +1,0 @@
-use Rattle.gi_top.proofs.CompileLaws.{selected_refines}
-use Rattle.gi_top.proofs.laws.selected_function_refines.Goals as goal
-
-pub returns : goal.returns
-returns c = λ names f g h made. selected_refines names f h g made

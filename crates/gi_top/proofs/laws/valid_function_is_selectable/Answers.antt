@@ -1,5 +1,0 @@
-use Rattle.gi_top.proofs.ValidShapes.{valid_selectable}
-use Rattle.gi_top.proofs.laws.valid_function_is_selectable.Goals as goal
-
-pub returns : goal.returns
-returns c = valid_selectable

@@ -1,5 +1,0 @@
-use Rattle.gi_top.proofs.NormalForms.{one_normal_form}
-use Rattle.gi_top.proofs.normal_form.normal_form_is_one.Goals as goal
-
-pub returns : goal.returns
-returns c = one_normal_form

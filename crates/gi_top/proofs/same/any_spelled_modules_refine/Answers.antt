@@ -1,5 +1,0 @@
-use Rattle.gi_top.proofs.AnyTexts.{any_refine}
-use Rattle.gi_top.proofs.same.any_spelled_modules_refine.Goals as goal
-
-pub returns : goal.returns
-returns c = any_refine

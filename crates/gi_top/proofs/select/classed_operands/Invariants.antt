@@ -1,6 +1,0 @@
-use Rattle.std.proofs.Common.{◌≡◌, map, take}
-use Rattle.gi_top.specs.Selection.{classed_operand}
-use Rattle.gi_top.proofs.select.classed_operands.Given as goal
-
-abbrev pub invariant-loop-operand : goal.invariant-loop-operand
-invariant-loop-operand l = l.classed.items ≡ map classed_operand (take l.operand-index l.operands)

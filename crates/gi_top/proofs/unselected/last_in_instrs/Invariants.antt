@@ -1,6 +1,0 @@
-use Rattle.std.proofs.Common.{◌≡◌, drop}
-use Rattle.gi_top.specs.Unselected.{last_in_instrs}
-use Rattle.gi_top.proofs.unselected.last_in_instrs.Given as goal
-
-abbrev pub invariant-loop-numbered : goal.invariant-loop-numbered
-invariant-loop-numbered l = last_in_instrs l.fn.before l.instrs ≡ last_in_instrs l.last (drop l.numbered-index l.instrs)
