@@ -1,4 +1,4 @@
--- Rules on values are sound: a difference with itself, a sum with zero, and a remainder by a power of two.
+-- Rules are sound: a difference with itself, a sum with zero, a remainder by a power of two.
 use Rattle.std.proofs.Common.{◌≡◌, ℕ, ◌+◌, ◌-◌, ◌%◌, ◌^◌, ◌<◌, ◌==◌, Bool, true, false, cond, [], ◌∷◌, Some, inl, refl, sym, ap, ◌∙◌, subst, arith}
 use Rattle.std.specs.Prelude.{bit_and}
 use Rattle.std.proofs.lemmas.Option.{same_Some}

@@ -1,4 +1,4 @@
-//! The law that lifts a rule on values to instructions over registers, and rules that are sound on values.
+//! The law that lifts a rule on values to instructions over registers, and rules that are sound.
 
 ghost use Rattle.std.specs.Prelude.{ℕ, ◌++◌, Bool, List};
 ghost use Rattle.gi_mir.specs.Data.{FunctionData, InstrData, no_flags};
@@ -62,11 +62,13 @@ pub fn replaced_uses_hold()
         → AllSame state.values (all_grown placing.inputs placing.old) (rule w).kept }
 {}
 
-/// Rules that are sound at every width: a difference with itself is zero, a sum with zero is its first summand, also
-/// wherever it is used, and a remainder by a power of two is a mask.
+/// Rules that are sound at every width: a difference with itself is zero, a sum with zero is its
+/// first summand, also wherever it is used, and a remainder by a power of two is a mask.
 pub fn value_rules_are_sound()
-    ensures subtract_self { (x : ℕ) (w : World) (flags : Flags) (n : ℕ) → IsSound x w (subtract_self flags n) }
-    ensures add_zero { (x : ℕ) (w : World) (flags : Flags) (n : ℕ) → IsSound x w (add_zero flags n) }
+    ensures subtract_self { (x : ℕ) (w : World) (flags : Flags) (n : ℕ)
+        → IsSound x w (subtract_self flags n) }
+    ensures add_zero { (x : ℕ) (w : World) (flags : Flags) (n : ℕ)
+        → IsSound x w (add_zero flags n) }
     ensures add_zero_is_certain { (x : ℕ) (w : World) (n : ℕ) → IsCertain x w (add_zero no_flags n) }
     ensures remainder_to_mask { (x : ℕ) (w : World) (n k : ℕ) → IsSound x w (remainder_to_mask n k) }
 {}

@@ -18,8 +18,8 @@ use Rattle.gi_refine.specs.Rewriting.{Piece, Kept, Changed, old_of, all_old, all
 use Rattle.gi_refine.specs.Replacing.{Replacement, IsReplaced}
 use Rattle.gi_refine.specs.Simulation.{IsFollowed}
 
--- the premises of rewriting one place: of those outside it, each is of the phis of its block, of what stands before it and
--- of what stands behind it
+-- the premises of rewriting one place; each of those outside it is of the phis of its block, of what
+-- stands before it and of what stands behind it
 pub data Premise : Type 0 where
   -- the block keeps its successors
   Successors : Premise

@@ -7,9 +7,10 @@ ghost use Rattle.gi_refine_cases.specs.Idle.{IsByReach, IsNotIdle, IsPieceNotIdl
 ghost use Rattle.gi_refine.specs.OnePlace.{OnePlace, RewritesOnePlace};
 ghost use Rattle.gi_refine.specs.Rewriting.{IsRewritten};
 
-/// For each premise of `one_place_follows`, and for each of `rewriting_follows`, there is a case in which all others hold
-/// and the new function doesn't refine the old one. What the first law asks outside its place, of the phis of the block
-/// and of what stands before the place and behind it, counts as one premise, also where the law names it three times.
+/// For each premise of `one_place_follows`, and for each of `rewriting_follows`, there is a case in
+/// which all others hold and the new function doesn't refine the old one. The first law asks the same
+/// of the phis of the block, of what stands before the place and of what stands behind it: the three
+/// count as one premise.
 pub fn no_premise_is_idle()
     ensures place { (x : ℕ) (f g : FunctionData) (p : OnePlace) → OwesAllBut None x f g p → RewritesOnePlace x names f g p }
     ensures of_place { (dropped : Premise) → IsNotIdle dropped }

@@ -1,5 +1,5 @@
-//! Cases of the laws of refinement: what small functions come to, trial rules, and for each premise of the laws a case
-//! that needs it.
+//! Cases of the laws of refinement: what small functions come to, trial rules, and for each premise of
+//! the laws of rewriting and of lifting a case that needs it.
 #![tactic(auto)]
 
 mod examples;

@@ -41,8 +41,8 @@ pub fn trial_uses_refine()
     ensures shifted { IsRefinement 32 names (on_chosen product_by_eight) (on_chosen shift_by_three) }
 {}
 
-/// Tests on which rules on values rest pass: values fit their widths in a function with a sum and in one with branches and
-/// a phi, and nothing but a constant defines the zero of the sum.
+/// Tests on which uses of rules rest pass: values fit their widths in a function with a sum and in one
+/// with branches and a phi, and nothing but a constant defines the zero of the sum.
 pub fn tests_pass()
     ensures sums_fit { blocks_fit (setting_of 32 names adds_zero) adds_zero.blocks ≡ true }
     ensures branches_fit { blocks_fit (setting_of 32 names chooses) chooses.blocks ≡ true }
