@@ -12,11 +12,12 @@ use Rattle.gi_spelling.specs.Documents.{Document, read_document, tables_of}
 use Rattle.gi_spelling.specs.Lines.{Line, Section}
 use Rattle.gi_spelling.specs.Named.{IsNamedFunction}
 use Rattle.gi_spelling.specs.Read.{IsReadAs}
-use Rattle.gi_mir_read.specs.Begun.{IsNumberOf, begun, keyed}
+use Rattle.gi_resolve.specs.Meant.{IsNumberOf}
+use Rattle.gi_mir_read.specs.Begun.{begun, keyed}
 use Rattle.gi_mir_read.specs.Keyed.{under_bar, word_of}
 use Rattle.gi_mir_read.specs.declared.keys.Key.TheVariants.{Body}
 use Rattle.gi_mir_read.specs.ReadBlocks.{BlocksAreRead, tables_in}
-use Rattle.gi_mir_read.proofs.NamingLemmas.{number-kept}
+use Rattle.gi_resolve.proofs.NamingLemmas.{number-kept}
 
 -- stack objects are all that is added
 stacked-name : (f : FunctionData) (objects : List StackObject) → (fold with_stack f objects).name ≡ f.name

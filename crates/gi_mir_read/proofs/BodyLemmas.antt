@@ -21,7 +21,7 @@ use Rattle.gi_spelling.specs.Resolved.{Tables, resolved}
 use Rattle.gi_spelling.specs.Written.{WrittenData}
 use Rattle.gi_spelling.proofs.NamedLemmas.{named_instrs}
 use Rattle.gi_mir_read.specs.Bodies.{BodyData, IsReadSoFar, Reads, with_defined, with_instr}
-use Rattle.gi_mir_read.specs.Meant.{IsMeantInstr}
+use Rattle.gi_resolve.specs.Meant.{IsMeantInstr}
 use Rattle.gi_mir_read.specs.Noted.{NotesData, with_lowest, with_notes, with_operand}
 use Rattle.gi_mir_read.proofs.NoteLemmas.{sources-kept}
 

@@ -1,19 +1,10 @@
--- Runs at the front as slices, and the value of digits up to a bound.
-use Rattle.std.proofs.Common.{subst, get_or, drop-cons, add-one, ◌≡◌, ℕ, suc, ◌+◌, ◌*◌, ◌<◌, ◌≤◌, Bool, true, false, List, [], ◌∷◌, length, take, drop, refl, ap, ◌∙◌, arith}
+-- What stands behind a run as a slice, and the value of digits up to a bound.
+use Rattle.std.proofs.Common.{subst, get_or, drop-cons, add-one, ◌≡◌, ℕ, suc, ◌+◌, ◌*◌, ◌<◌, ◌≤◌, Bool, true, false, List, [], ◌∷◌, length, drop, refl, ap, ◌∙◌, arith}
 use Rattle.std.specs.Prelude.{min, if◌then◌else◌, nat_le}
 use Rattle.std.proofs.lemmas.Bool.Decides.{nat_tests}
 use Rattle.gi_llt.specs.Tokens.{run_of, past_run}
 use Rattle.gi_text.specs.Numbers.{digit_value, value_after}
 use Rattle.gi_text.proofs.NumberLemmas.{value-le}
-
-pub take-run : (test : ℕ → Bool) (xs : List ℕ) → take (length (run_of test xs)) xs ≡ run_of test xs
-take-run test [] = refl
-take-run test (x ∷ xs) = chosen (test x) (take-run test xs)
-  where
-    chosen : (passes : Bool) → take (length (run_of test xs)) xs ≡ run_of test xs
-        → take (length (if passes then x ∷ run_of test xs else [])) (x ∷ xs) ≡ (if passes then x ∷ run_of test xs else [])
-    chosen true later = ap (λ ys. x ∷ ys) later
-    chosen false later = refl
 
 pub drop-run : (test : ℕ → Bool) (xs : List ℕ) → drop (length (run_of test xs)) xs ≡ past_run test xs
 drop-run test [] = refl

@@ -1,14 +1,8 @@
 -- A function before its blocks.
-use Rattle.std.specs.Prelude.{◌≡◌, ◌<◌, ℕ, List, fold, length}
+use Rattle.std.specs.Prelude.{ℕ, fold}
 use Rattle.gi_mir.specs.Data.{FunctionData}
 use Rattle.gi_mir.specs.Edit.{empty_function, with_keys, with_stack}
 use Rattle.gi_spelling.specs.Documents.{Document}
-use Rattle.gi_spelling.specs.Printed.{name_at}
-
--- a name has this number
-pub record IsNumberOf (names : List (List ℕ)) (name : List ℕ) (number : ℕ) : Type 0 where
-  pub within : number < length names
-  pub named : name_at names number ≡ name
 
 -- the function of this number with the keys of a document, and with its stack objects
 abbrev pub keyed : (number : ℕ) → Document → FunctionData

@@ -6,9 +6,7 @@ pub mod Flagged
 pub mod Grouped
 pub mod Implied
 pub mod Keyed
-pub mod Meant
 pub mod Noted
-pub mod Numbered
 pub mod Parted
 pub mod Placed
 pub mod ReadBlocks

@@ -6,11 +6,11 @@ ghost use Rattle.gi_mir.specs.Edit.{with_stack};
 ghost use Rattle.gi_spelling.specs.Documents.{read_document};
 ghost use Rattle.gi_spelling.specs.Lines as spelled;
 ghost use Rattle.gi_spelling.specs.Named.{Extends};
-ghost use Rattle.gi_mir_read.specs.Begun.{IsNumberOf, keyed};
+ghost use Rattle.gi_resolve.specs.Meant.{IsNumberOf};
+ghost use Rattle.gi_mir_read.specs.Begun.{keyed};
 ghost use Rattle.gi_mir_read.specs.Keyed.{AreFirsts, AreFirstsIn};
 
 use crate::keys::{Firsts, Key};
-use crate::numbering::Classes;
 use crate::objects::objects;
 use crate::registers::registers;
 use crate::stated::{is_key_true, list_under};
@@ -18,6 +18,7 @@ use gi_llt::Memory;
 use gi_mir::function::Function;
 use gi_mir::names::Names;
 use gi_mir::operand::StackObject;
+use gi_resolve::numbering::Classes;
 use gi_spelling::token::RegisterClass;
 use std::alloc::Global;
 

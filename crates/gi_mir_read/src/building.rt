@@ -7,11 +7,11 @@ ghost use Rattle.gi_mir_read.specs.Implied.{head_by, successors_by};
 
 use crate::body::{Body, Lists};
 use crate::successors::{implied_successors, stated_successors};
-use crate::tables::Tables;
 use gi_llt::Memory;
 use gi_mir::block::Block;
 use gi_mir::function::Function;
 use gi_mir::instr::Instr;
+use gi_resolve::tables::Tables;
 use std::alloc::Global;
 
 /// Puts instructions at the end of a block.

@@ -1,13 +1,11 @@
 //! Reading Machine IR: from a text to the module that it spells, or to its first line that spells nothing.
 #![tactic(auto)]
 
-mod access;
 mod beginning;
 mod block;
 mod blocks;
 mod body;
 mod building;
-mod constant;
 mod definition;
 mod document;
 mod document_lines;
@@ -23,16 +21,13 @@ mod line_bytes;
 mod lines;
 mod list;
 mod memory;
-mod naming;
 mod notes;
 mod number;
-mod numbering;
 mod objects;
 mod parts;
 mod read;
 mod refusal;
 mod registers;
-mod resolve;
 mod sections;
 mod sizes;
 mod source;
@@ -40,7 +35,6 @@ mod split;
 mod stated;
 mod stop;
 mod successors;
-mod tables;
 mod told;
 mod triples;
 mod values;

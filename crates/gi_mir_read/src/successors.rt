@@ -7,11 +7,11 @@ ghost use Rattle.gi_spelling.specs.Resolved.{block_place};
 ghost use Rattle.gi_mir_read.specs.Implied.{implied_by, runs_past, with_branch, with_target};
 
 use crate::list::push;
-use crate::tables::Tables;
 use gi_llt::Memory;
 use gi_mir::instr::Instr;
 use gi_mir::opcode::Opcode;
 use gi_mir::operand::Operand;
+use gi_resolve::tables::Tables;
 use indexmap::IndexSet;
 use std::alloc::Global;
 

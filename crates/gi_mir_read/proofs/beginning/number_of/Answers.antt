@@ -1,5 +1,5 @@
 use Rattle.std.proofs.lemmas.Str.{IsUtf8-from_is_utf8}
-use Rattle.gi_mir_read.proofs.NamingLemmas.{number-named}
+use Rattle.gi_resolve.proofs.NamingLemmas.{number-named}
 use Rattle.gi_mir_read.proofs.beginning.number_of.Goals as goal
 
 pub returns-in-Ok-clause-named : goal.returns-in-Ok-clause-named

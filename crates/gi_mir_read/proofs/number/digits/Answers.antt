@@ -1,6 +1,6 @@
 use Rattle.std.proofs.Common.{◌∙◌, ap, take}
 use Rattle.gi_llt.specs.Tokens.{is_digit}
-use Rattle.gi_mir_read.proofs.NumberLemmas.{take-run}
+use Rattle.gi_resolve.proofs.NamingLemmas.{take-run}
 use Rattle.gi_mir_read.proofs.number.digits.Goals as goal
 
 pub returns : goal.returns
