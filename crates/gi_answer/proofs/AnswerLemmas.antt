@@ -6,13 +6,12 @@ use Rattle.gi_mir_read.specs.Sizes.{size_fault}
 use Rattle.gi_observe.specs.declared.pass.Pass.{Pass}
 use Rattle.gi_observe.specs.declared.pass.Pass.TheVariants.{RegBankSelect, Select}
 use Rattle.gi_text.specs.declared.token.SizeError.{SizeError}
-use Rattle.gi_answer.specs.Answers.{limit, IsAnswer, IsChecked, IsNotBuilt, IsTextOf}
+use Rattle.gi_answer.specs.Answers.{limit, IsAnswer, IsChecked, IsTextOf}
 use Rattle.gi_spelling.specs.There.{NamesBlocksThatAreThere}
 use Rattle.gi_valid.specs.Typing.{phase_of}
 use Rattle.gi_answer.specs.Checks.{checked, fitting, keyed, sized, target_of}
 use Rattle.gi_answer.specs.Keys.{WrongKey, wrong_in}
 use Rattle.gi_options.specs.Machine.{width_of}
-use Rattle.gi_answer.specs.Messages.{Tells}
 use Rattle.gi_options.specs.Options.{OptionsData}
 use Rattle.gi_answer.specs.Promise.{Compiles, IsCompiled, IsTarget}
 use Rattle.gi_answer.specs.Selectable.{AllSelectable}
@@ -20,21 +19,10 @@ use Rattle.gi_answer.specs.Unrun.{selects, unbuilt}
 use Rattle.gi_answer.specs.Validity.{stage_after}
 use Rattle.gi_options.specs.declared.machine.Machine.{Machine}
 use Rattle.gi_options.specs.declared.machine.Machine.TheVariants.{Riscv32, Riscv64}
-use Rattle.gi_answer.specs.declared.messages.Refused.{Refused}
-use Rattle.gi_answer.specs.declared.messages.Refused.TheVariants as refused
 use Rattle.gi_answer.proofs.CompileLaws.{compiled}
 use Rattle.gi_answer.proofs.PrintedLaws.{kept}
 use Rattle.gi_answer.proofs.ValidBlocks.{all_there}
 use Rattle.gi_answer.proofs.ValidShapes.{built_selectable}
-
-pub tells_not_built : (options : OptionsData) (read : List ℕ) (start : Pass) (machine : Machine) (source : ModuleData) → IsChecked options read start machine source
-    → (why : Refused) → Tells why (λ message. unbuilt start options.stop machine source.functions ≡ Some message) → Tells why (IsNotBuilt options read)
-tells_not_built options read start machine source passes (refused.Message message) told =
-    record { start = start; machine = machine; source = source; passes = passes; says = told }
-tells_not_built options read start machine source passes refused.Memory told = told
-
-pub tells_memory : (why : Refused) (Such : List ℕ → Type 0) → why ≡ refused.Memory → Tells why Such
-tells_memory why Such is = subst (λ r. Tells r Such) (sym is) tt
 
 -- ══ The machine ══
 

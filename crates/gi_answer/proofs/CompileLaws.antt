@@ -1,15 +1,12 @@
 -- A text that is printed of what is selected from a read one keeps the promise.
-use Rattle.std.proofs.Common.{◌≡◌, ℕ, suc, true, ◌&&◌, List, [], ◌∷◌, length, map, inl, inr, refl, sym, ap, ap₂, ◌∙◌, subst}
+use Rattle.std.proofs.Common.{◌≡◌, ℕ, suc, true, List, [], ◌∷◌, length, map, inl, inr, refl, sym, ap, ap₂, ◌∙◌, subst}
 use Rattle.std.specs.Prelude.{nat_le, nat_lt, ◌^◌}
 use Rattle.std.specs.List.{AllByRecursion, AllZip, list_all}
 use Rattle.std.specs.Cmp.Derive.{both_true}
 use Rattle.std.proofs.lemmas.Bool.{and_parts}
 use Rattle.gi_mir.specs.Data.{InstrData, BlockData, FunctionData, ModuleData}
-use Rattle.gi_mir.specs.declared.operand.Operand.{Operand}
-use Rattle.gi_mir.specs.declared.operand.Operand.TheVariants as operand
 use Rattle.gi_mir.specs.declared.operand.StackObject.{StackObject}
 use Rattle.gi_mir.specs.Numbering.{order_of, number_in, numbered, numbered_module}
-use Rattle.gi_mir.specs.Renaming.{renamed_operand, renamed_pair}
 use Rattle.gi_spelling.specs.Documents.{is_name}
 use Rattle.gi_spelling.specs.Printable.{Counts, counts_of, IsPrintableInstr, IsPrintableBlock, is_writable_object, is_live_first, IsPrintableFunction, are_ir_lines, IsPrintableModule}
 use Rattle.gi_spelling.specs.Printed.{name_at, printed}
@@ -29,12 +26,12 @@ use Rattle.gi_refine.proofs.SameBlocks.{same_blocks_refine}
 use Rattle.gi_refine.proofs.Refining.{refines_through}
 use Rattle.gi_answer.specs.Rows.{selection_rows}
 use Rattle.gi_answer.specs.Selecting.{short_among}
-use Rattle.gi_answer.specs.Selection.{classed_operand, classed_block, selected_form, IsSameInstr, IsSameBlock, IsSameFunction, IsSelected, IsSelectedModule}
+use Rattle.gi_answer.specs.Selection.{classed_block, selected_form, IsSameInstr, IsSameBlock, IsSameFunction, IsSelected, IsSelectedModule}
 use Rattle.gi_answer.specs.Selectable.{IsOneBlock, IsSelectable, AllSelectable}
 use Rattle.gi_answer.specs.Promise.{Refines, Compiles}
 use Rattle.gi_answer.proofs.ClassedRuns.{classed_pairs, classed_refines}
 use Rattle.gi_answer.proofs.NormalForms.{one_normal_form}
-use Rattle.gi_answer.proofs.SelectShapes.{shaped, classed_all, is_nameless_operand, is_nameless, in_order}
+use Rattle.gi_answer.proofs.SelectShapes.{shaped, classed_all, in_order}
 use Rattle.gi_answer.proofs.SelectSteps.{Came}
 use Rattle.gi_answer.proofs.SelectLoops.{NormalOf, normal_of, normal_without_blocks}
 use Rattle.gi_answer.proofs.SelectedPrintable.{among_short, selected_fine}
@@ -86,23 +83,6 @@ selected_block f h g made =
     }
 
 -- ══ What is printed can be spelled ══
-
-nameless_operand : (number : ℕ → ℕ) (o : Operand) → is_nameless_operand (renamed_operand number (classed_operand o)) ≡ is_nameless_operand o
-nameless_operand number (operand.Def r k) = refl
-nameless_operand number (operand.Use r) = refl
-nameless_operand number o = refl
-
-nameless_operands : (number : ℕ → ℕ) (os : List Operand) → list_all is_nameless_operand (map (renamed_operand number) (map classed_operand os)) ≡ list_all is_nameless_operand os
-nameless_operands number [] = refl
-nameless_operands number (o ∷ os) = ap₂ (λ a b. a && b) (nameless_operand number o) (nameless_operands number os)
-
-pub nameless_instrs : (number : ℕ → ℕ) (is js : List (ℕ × InstrData)) → AllZip IsSameInstr (classed_pairs is) js → list_all is_nameless (map (renamed_pair number) js) ≡ list_all is_nameless is
-nameless_instrs number [] [] h = refl
-nameless_instrs number [] (j ∷ js) h = absurd h
-nameless_instrs number (i ∷ is) [] h = absurd h
-nameless_instrs number (i ∷ is) (j ∷ js) h =
-    ap₂ (λ a b. a && b) (ap (λ (d : InstrData). list_all is_nameless_operand (map (renamed_operand number) d.operands)) h.0 ∙ nameless_operands number i.1.operands)
-    (nameless_instrs number is js h.1)
 
 -- the same but for ids
 fine_same : (names : List (List ℕ)) (counts : Counts) (is js : List (ℕ × InstrData)) → AllZip IsSameInstr (classed_pairs is) js

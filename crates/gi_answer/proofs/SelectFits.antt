@@ -5,14 +5,13 @@ use Rattle.std.proofs.Math.Nat.{mod-eq_of_lt}
 use Rattle.std.specs.List.{list_any}
 use Rattle.std.specs.Option.{option_or}
 use Rattle.gi_llt.specs.Bits.{signed, unsigned}
-use Rattle.gi_mir.specs.Data.{InstrData, FunctionData, reg_of}
+use Rattle.gi_mir.specs.Data.{InstrData, reg_of}
 use Rattle.gi_answer.specs.Shapes.{MakeConstant, AddUp, shaped_instr, word_kind, is_short}
 use Rattle.gi_mir.specs.declared.opcode.Opcode.TheVariants.{Add, AddImmediate}
 use Rattle.gi_mir.specs.declared.operand.Operand.TheVariants.{Def, Use, Phys, Int}
 use Rattle.gi_meaning.specs.Machine.{is_immediate}
-use Rattle.gi_answer.specs.NormalForm.{first_fit}
 use Rattle.gi_mir.specs.Row.{is_generic_op}
-use Rattle.gi_answer.specs.Rows.{Site, selection_rows, is_used, short_in, short_number, short_sum, made, add_immediate, dead_made, constant_made, short_sum_made, sum_made}
+use Rattle.gi_answer.specs.Rows.{short_number, short_sum, made, add_immediate, dead_made, constant_made, short_sum_made, sum_made}
 use Rattle.gi_answer.specs.Selecting.{short_of, selected_where, selected_if_used, selected_root, selected_sum}
 use Rattle.gi_answer.specs.Selection.{classed_instr}
 use Rattle.gi_answer.specs.declared.select.Root.TheVariants as root
@@ -20,9 +19,6 @@ use Rattle.gi_answer.specs.declared.select.Root.TheVariants as root
 -- the first row that fits, by what is used and by the short constants
 abbrev pub fit_where : (used : ℕ → Bool) (constant : ℕ → Option ℤ) → InstrData → Option (List InstrData)
 fit_where used constant i = option_or (dead_made used i) (option_or (constant_made i) (option_or (short_sum_made constant i) (option_or (sum_made i) None)))
-
-pub fits_first : (f : FunctionData) (site : Site) (i : InstrData) → first_fit selection_rows f site i ≡ fit_where (is_used f) (short_in f) i
-fits_first f site i = refl
 
 -- ══ Short constants ══
 

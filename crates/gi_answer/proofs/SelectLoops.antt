@@ -323,11 +323,6 @@ selectable_at [] k f h within at = absurd (omega (arith, within))
 selectable_at (g ∷ fs) zero f h within at = subst IsSelectable (sym at) h.0
 selectable_at (g ∷ fs) (suc k) f h within at = selectable_at fs k f h.1 (omega (arith, within)) at
 
--- the block's instructions are of the five shapes
-pub block_shaped : (f : FunctionData) (h : IsOneBlock f) (instrs : List (ℕ × InstrData)) → instrs ≡ (block_at f 0).instrs → AreShaped instrs
-block_shaped f h instrs is =
-    record { shapes = h.shapes; same = subst (AllZip IsShapedInstr h.shapes) (sym (is ∙ ap (λ (b : BlockData). b.instrs) (only_block f h))) h.shaped; ordered = h.ordered }
-
 -- one more function
 pub functions_more : (fs gs : List FunctionData) (k : ℕ) (f g : FunctionData) → AllZip IsSelected (take k fs) gs → k < length fs → f ≡ get_or fs k f → IsSelected f g
     → AllZip IsSelected (take (suc k) fs) (gs ++ g ∷ [])

@@ -60,14 +60,6 @@ act-same x w m symmetric mem widths l a k b outside answer act =
 
 -- ---- and so do the operations
 
--- the operation with what it takes the other way round
-abbrev pub other-way : List Slot → List Slot
-other-way (a ∷ b ∷ []) = b ∷ a ∷ []
-other-way slots = slots
-
-abbrev pub turned : Operation → Operation
-turned o = record o { slots = other-way o.slots }
-
 pub acts-turned : (x : ℕ) (w : World) (o : Operation) (i j : ℕ) → is_commutative o.op ≡ true → o.slots ≡ At i ∷ At j ∷ [] → (outside : Outside) (env : Environment) (answer : Answer)
     → Acts x w o outside env answer → Acts x w (record o { slots = At j ∷ At i ∷ [] }) outside env answer
 acts-turned x w o i j commutative slots outside env answer acts =

@@ -14,10 +14,6 @@ use Rattle.gi_meaning.specs.Fold.{is_value, are_values, registers}
 use Rattle.gi_meaning.specs.Generic.{merged}
 use Rattle.gi_meaning.specs.Plain.{merged_of}
 
-pub record HasBits (x : ℕ) (ty : Llt) : Type 0 where
-  pub positive : 0 < width_of x ty
-  pub limit : width_of x ty ≤ 128
-
 by_width : (x n : ℕ) → (x ≡ 32) ⊎ (x ≡ 64) → n ≤ 2 * x → n ≤ 128
 by_width x n (inl e) h = omega arith
 by_width x n (inr e) h = omega arith
@@ -70,12 +66,6 @@ same_width x (Scalar m) (Scalar n) h = eqb-true m n h
 same_width x (Scalar m) Pointer h = absurd (false≢true h)
 same_width x Pointer (Scalar n) h = absurd (false≢true h)
 same_width x Pointer Pointer h = refl
-
-pub same_is : (a b : Llt) → same_type a b ≡ true → a ≡ b
-same_is (Scalar m) (Scalar n) h = ap Scalar (eqb-true m n h)
-same_is (Scalar m) Pointer h = absurd (false≢true h)
-same_is Pointer (Scalar n) h = absurd (false≢true h)
-same_is Pointer Pointer h = refl
 
 -- values of equal parts
 pub record AreParts (x w : ℕ) (types : List Llt) (values : List ℕ) : Type 0 where

@@ -1,15 +1,11 @@
 -- Equal parts put together, a step at a time.
 use Rattle.std.proofs.Common.{◌≡◌, ℕ, ◌+◌, ◌-◌, ◌*◌, ◌/◌, ◌%◌, ◌^◌, ◌<◌, ◌≤◌, sym, ◌∙◌, ap, arith, add-one, List, ◌∷◌, length, get_or, drop, lit<, All}
-use Rattle.std.proofs.Math.Seq.{drop-cons, drop-length}
+use Rattle.std.proofs.Math.Seq.{drop-cons}
 use Rattle.std.proofs.lemmas.List.Elements.{All-get_or}
 use Rattle.std.proofs.Math.Nat.{mod-eq_of_lt, mod-lt, div-eq_of_lt, pow-le-pow_right, mul-le-mul_left}
 use Rattle.std.proofs.lemmas.Nat.{pow-add, mul-add-lt}
 use Rattle.gi_meaning.specs.Plain.{merged_of}
 use Rattle.gi_meaning.specs.Generic.{parts_of}
-
-pub merged_start : (w : ℕ) (values : List ℕ) → merged_of w (drop (length values - 0) values) ≡ 0
-merged_start w values =
-    let e : length values - 0 ≡ length values = omega arith in ap (λ k. merged_of w (drop k values)) e ∙ ap (merged_of w) (drop-length values)
 
 pub merged_step : (w i : ℕ) (values : List ℕ) → i < length values → merged_of w (drop i values) ≡ get_or values i 0 + 2 ^ w * merged_of w (drop (i + 1) values)
 merged_step w i values h =

@@ -7,14 +7,10 @@ use Rattle.std.proofs.lemmas.Nat.Bits.{ones_shr}
 use Rattle.std.proofs.lemmas.Bool.{lt-ltb, le-ltb, le-leb, lt-leb, cases_lt}
 use Rattle.std.proofs.lemmas.Bool.Decides.{nat_tests}
 use Rattle.std.proofs.lemmas.Int.{ints}
-use Rattle.std.proofs.Math.Nat.{suc-mod, mod-eq_of_lt, mod_self, mod-lt, pow-suc, zero-mod, pow-le-pow_right, add-mul-mod_self_left, lt_of_lt_of_le, le_trans}
+use Rattle.std.proofs.Math.Nat.{suc-mod, mod-eq_of_lt, mod_self, mod-lt, zero-mod, pow-le-pow_right, add-mul-mod_self_left, lt_of_lt_of_le, le_trans}
 use Rattle.gi_llt.specs.Bits.{signed, unsigned, wrapped, sign_extended}
 use Rattle.gi_meaning.specs.Plain.{with_sign, differ}
 use Rattle.gi_meaning.specs.Generic.{leaves_signed, difference_of}
-
-pub twice-half : (n : ℕ) → 0 < n → 2 ^ n ≡ 2 * 2 ^ (n - 1)
-twice-half zero h = absurd (omega arith)
-twice-half (suc k) h = omega (arith, pow-suc 2 k, ap (λ m. 2 ^ m) (let e : suc k - 1 ≡ k = omega arith in e))
 
 pub greatest_is : (n : ℕ) → n ≤ 128 → (2 ^ 128 - 1) / 2 ^ (128 - n) ≡ 2 ^ n - 1
 greatest_is n h =
@@ -107,9 +103,6 @@ leaves_too_great n m false h g =
 
 pub too_great : (n m : ℕ) → n ≤ 128 → 2 ^ 128 ≤ m → nat_le (2 ^ n) m ≡ true
 too_great n m h g = le-leb (2 ^ n) m (le_trans (power_le n h) g)
-
-size-low : (n a : ℕ) → a < 2 ^ (n - 1) → nat_abs (signed n a) ≡ a
-size-low n a h = ap nat_abs (signed-low n a h)
 
 pub with_sign-mul : (b c : Bool) (m k : ℕ) → with_sign b m *ℤ with_sign c k ≡ with_sign (differ b c) (m * k)
 with_sign-mul true true zero zero = refl

@@ -78,10 +78,6 @@ pub data Place : Type 0 where
 abbrev pub word_in : State → ℕ → ℕ
 word_in state register = if register == 0 then 0 else state.words register
 
-abbrev pub value_in : State → Place → Option ℕ
-value_in state (Virtual register) = state.values register
-value_in state (Physical register) = Some (word_in state register)
-
 abbrev pub put : State → Place → ℕ → State
 put state (Virtual register) value = record state { values = λ r. if r == register then Some value else state.values r }
 put state (Physical register) value = record state { words = λ r. if r == register then value else state.words r }

@@ -1,11 +1,11 @@
 -- Each edit keeps each id with one instruction.
-use Rattle.std.proofs.Common.{◌≡◌, ℕ, zero, suc, ◌+◌, ◌<◌, ◌≤◌, List, [], ◌∷◌, ◌++◌, length, get_or, set, refl, sym, ap, ◌∙◌, arith}
+use Rattle.std.proofs.Common.{◌≡◌, ℕ, zero, suc, ◌+◌, ◌<◌, ◌≤◌, List, [], ◌∷◌, length, get_or, set, refl, sym, ap, ◌∙◌, arith}
 use Rattle.std.specs.Prelude.{insert, remove, ◌==◌, if◌then◌else◌}
 use Rattle.std.proofs.lemmas.Bool.Decides.{nat_tests}
-use Rattle.std.proofs.lemmas.List.Sums.{sum_by-set, sum_by-append, sum_by-cons}
+use Rattle.std.proofs.lemmas.List.Sums.{sum_by-set, sum_by-cons}
 use Rattle.std.proofs.lemmas.List.Sorted.{IsPermutation-insert, sum_by-IsPermutation}
 use Rattle.gi_mir.specs.Data.{InstrData, BlockData}
-use Rattle.gi_mir.specs.Edit.{HeadData, block_with, changed_at}
+use Rattle.gi_mir.specs.Edit.{changed_at}
 use Rattle.gi_mir.proofs.FormedLemmas.{changed_at-suc}
 use Rattle.gi_mir.specs.Ids.{uses_among, uses_in, uses_of, AreOwnIds}
 
@@ -68,15 +68,6 @@ uses_among-remove id (p ∷ ps) (suc k) =
 pub AreOwnIds-removed : (blocks : List BlockData) (n b at : ℕ) (body : BlockData) → b < length blocks → body ≡ get_or blocks b body → AreOwnIds blocks n → AreOwnIds (set blocks b (record body { instrs = remove body.instrs at })) n
 AreOwnIds-removed blocks n b at body h same own =
     AreOwnIds-set blocks n b body (record body { instrs = remove body.instrs at }) h same (λ id. uses_among-remove id body.instrs at) own
-
-pub AreOwnIds-with_block : (blocks : List BlockData) (n : ℕ) (head : HeadData) → AreOwnIds blocks n → AreOwnIds (blocks ++ block_with head ∷ []) n
-AreOwnIds-with_block blocks n head own = record {
-  once = λ id. let e = uses id in omega (arith, own.once id);
-  given = λ id more. let e = uses id in omega (arith, own.given id more);
-}
-  where
-    uses : (id : ℕ) → uses_of id (blocks ++ block_with head ∷ []) ≡ uses_of id blocks
-    uses id = sum_by-append (uses_in id) blocks (block_with head ∷ []) ∙ omega arith
 
 -- an edit of the instruction leaves its id
 pub uses_among-changed_at : (id : ℕ) (edit : InstrData → InstrData) (instrs : List (ℕ × InstrData)) (k : ℕ) → uses_among id (changed_at (λ p. (p.0, edit p.1)) k instrs) ≡ uses_among id instrs

@@ -44,9 +44,6 @@ further l (Some m) ty types = by (is_letter l m)
     by true = refl
     by false = refl
 
-letter_at-past : (more : Option Letter) (place : ℕ) → letter_at [] more place ≡ more
-letter_at-past more place = refl
-
 types_step : (l : Letter) (ls : List Letter) (more : Option Letter) (types : List Llt) (k : ℕ) (d : Llt) → k < length types
     → types_at l (drop k ls) more (drop k types) ≡ with_there (is_there l (letter_at ls more k)) (get_or types k d) (types_at l (drop (suc k) ls) more (drop (suc k) types))
 types_step l ls more [] k d h = absurd (omega arith)

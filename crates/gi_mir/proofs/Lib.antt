@@ -5,12 +5,12 @@ pub mod Keys
 pub mod KindLemmas
 pub mod LettersLemmas
 pub mod Lists
-pub mod Live
 pub mod Located
 pub mod Mentioned
 pub mod NamesLemmas
 pub mod Noted
 pub mod NumberingLaws
+pub mod OrLemmas
 pub mod Places
 pub mod Replaced
 pub mod Replacing

@@ -1,19 +1,17 @@
 -- Where the instructions stand, and what an edit does to their places.
-use Rattle.std.proofs.Common.{◌≡◌, ℕ, zero, suc, ◌+◌, ◌<◌, ◌≤◌, ◌≢◌, Bool, true, false, not, ◌||◌, cond, List, [], ◌∷◌, ◌++◌, Option, Some, None, ◌⊎◌, ⊎_elim, ◌↔◌, length, take, drop, get_or, set, refl, sym, subst, ap, ◌∙◌, arith, eqb-true, eq-eqb}
+use Rattle.std.proofs.Common.{◌≡◌, ℕ, zero, suc, ◌+◌, ◌<◌, ◌≤◌, ◌≢◌, Bool, true, false, not, ◌||◌, cond, List, [], ◌∷◌, ◌++◌, Option, Some, None, ◌⊎◌, ⊎_elim, ◌↔◌, length, take, drop, get_or, set, refl, sym, ap, ◌∙◌, arith, eqb-true, eq-eqb}
 use Rattle.std.specs.Prelude.{insert, remove, slice_get, ◌==◌, IsTrue, Contains, map}
 use Rattle.std.specs.List.{list_any, sum_by}
 use Rattle.std.proofs.lemmas.Bool.{cases_eq}
 use Rattle.std.proofs.lemmas.List.{get_or-set_same, get_or-set_other, length-set}
 use Rattle.std.proofs.lemmas.List.Sums.{sum_by-cons, get_or-le-sum_by}
-use Rattle.std.proofs.Math.Seq.{take-append_seam, take-length, drop-length}
-use Rattle.gi_mir.specs.declared.block.InstrId.{InstrId}
 use Rattle.gi_mir.specs.declared.place.Place.{Place}
 use Rattle.gi_mir.specs.Data.{InstrData, BlockData, FunctionData}
-use Rattle.gi_mir.specs.Edit.{HeadData, block_with, empty_block, has_instr, has_at, home_of, place_in_block, place_of, ids_of, IsLive, changed_at, spot_in, instrs_with, block_changed_at}
+use Rattle.gi_mir.specs.Edit.{empty_block, has_instr, has_at, home_of, place_in_block, place_of, ids_of, IsLive, changed_at, block_changed_at}
 use Rattle.gi_mir.specs.Ids.{uses_among, uses_in, uses_of, AreOwnIds}
 use Rattle.gi_mir.specs.Places.{place, nth_id, id_in, HasPlaces, HasGivenIds, HasDistinctIds, IsRenumbered}
 use Rattle.gi_mir.proofs.FormedLemmas.{changed_at-suc}
-use Rattle.gi_mir.proofs.Live.{or_left, or_right}
+use Rattle.gi_mir.proofs.OrLemmas.{or_left, or_right}
 use Rattle.gi_mir.proofs.Places.{position_or_len-passes}
 
 -- ---- ids in a list
@@ -149,16 +147,6 @@ HasGivenIds-in blocks n b own = record { given = λ k id h. by id (cases n id) (
     by id c some =
         ⊎_elim (λ (lt : id < n). lt) (λ (ge : n ≤ id). absurd (omega (arith, own.given id ge))) c
 
-pub HasDistinctIds-set : (blocks : List BlockData) (n b : ℕ) (body : BlockData) → b < length blocks → AreOwnIds (set blocks b body) n → HasDistinctIds body.instrs
-HasDistinctIds-set blocks n b body within own =
-    let has = HasDistinctIds-in (set blocks b body) n b (rw (length-set blocks b body) within) own in
-    subst (λ (x : BlockData). HasDistinctIds x.instrs) (get_or-set_same blocks b body empty_block within) has
-
-pub HasGivenIds-set : (blocks : List BlockData) (n b : ℕ) (body : BlockData) → b < length blocks → AreOwnIds (set blocks b body) n → HasGivenIds body.instrs n
-HasGivenIds-set blocks n b body within own =
-    let has = HasGivenIds-in (set blocks b body) n b own in
-    subst (λ (x : BlockData). HasGivenIds x.instrs n) (get_or-set_same blocks b body empty_block within) has
-
 -- ---- edits
 
 -- an element, whatever stands past the end
@@ -166,14 +154,6 @@ pub get_or-within : {X : Type 0} (xs : List X) (i : ℕ) (d e : X) → i < lengt
 get_or-within [] i d e h = absurd (omega arith)
 get_or-within (x ∷ xs) zero d e h = refl
 get_or-within (x ∷ xs) (suc i) d e h = get_or-within xs i d e (omega arith)
-
--- what stands in a slice that was written back
-pub written_back : {X : Type 0} (n : ℕ) (xs ys : List X) → length xs ≡ n → take n (xs ++ drop (length xs) ys) ≡ xs
-written_back n xs ys e = rw (← e) (take-append_seam xs (drop (length xs) ys))
-
-pub instrs_with-spot : (instrs : List (ℕ × InstrData)) (before : Option InstrId) (new : ℕ × InstrData) → insert instrs (spot_in instrs before) new ≡ instrs_with instrs before new
-instrs_with-spot instrs None new = rw (take-length, drop-length) refl
-instrs_with-spot instrs (Some id) new = refl
 
 pub HasPlaces-push : (places : List Place) (more : Place) (blocks : List BlockData) → HasPlaces places blocks → HasPlaces (places ++ more ∷ []) blocks
 HasPlaces-push places more blocks has = record {
@@ -184,17 +164,6 @@ HasPlaces-push places more blocks has = record {
     longer [] i x h = cc
     longer (y ∷ ys) zero x h = h
     longer (y ∷ ys) (suc i) x h = longer ys i x h
-
-id_in-with_block : (id : ℕ) (blocks : List BlockData) (head : HeadData) (b k : ℕ) → id_in (blocks ++ block_with head ∷ []) b k ≡ Some id → id_in blocks b k ≡ Some id
-id_in-with_block id [] head zero k h = cc
-id_in-with_block id [] head (suc b) k h = cc
-id_in-with_block id (c ∷ cs) head zero k h = h
-id_in-with_block id (c ∷ cs) head (suc b) k h = id_in-with_block id cs head b k h
-
-pub HasPlaces-with_block : (places : List Place) (blocks : List BlockData) (head : HeadData) → HasPlaces places blocks → HasPlaces places (blocks ++ block_with head ∷ [])
-HasPlaces-with_block places blocks head has = record {
-  located = λ id b k h. has.located id b k (id_in-with_block id blocks head b k h);
-}
 
 id_in-set_same : (blocks : List BlockData) (b : ℕ) (new : BlockData) (k : ℕ) → b < length blocks → id_in (set blocks b new) b k ≡ nth_id new.instrs k
 id_in-set_same blocks b new k within =

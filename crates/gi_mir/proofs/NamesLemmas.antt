@@ -63,9 +63,6 @@ first-append-last p (x ∷ xs) y h passes = by (p x) h (λ g. first-append-last 
 bytes_eq-same : (bs : List ℕ) → bytes_eq bs bs ≡ true
 bytes_eq-same bs = (bytes_eq-Decides bs bs).1 refl
 
-pub AreDistinct-none : AreDistinct []
-AreDistinct-none = record { apart = λ k h. absurd (omega arith) }
-
 pub AreDistinct-append : (names : List (List ℕ)) (name : List ℕ) → number_of names name ≡ None → AreDistinct names → AreDistinct (names ++ name ∷ [])
 AreDistinct-append names name absent distinct = record { apart = λ k h. by k (split k (length names)) h }
   where

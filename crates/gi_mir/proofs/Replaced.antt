@@ -16,7 +16,7 @@ use Rattle.gi_mir.specs.Formed.{admits, taken, fits, is_in_range, is_formed}
 use Rattle.gi_mir.specs.Edit.{is_use_of, uses}
 use Rattle.gi_mir.specs.Mentions.{use_key, is_mention}
 use Rattle.gi_mir.specs.Uses.{operand_replaced, instr_replaced, entry_replaced}
-use Rattle.gi_mir.proofs.Live.{or_left, or_right}
+use Rattle.gi_mir.proofs.OrLemmas.{or_left, or_right}
 
 -- ---- which register is used isn't looked at
 

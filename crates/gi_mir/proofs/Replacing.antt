@@ -127,12 +127,6 @@ pub record IsReplacing (old new : ℕ) (before after : List BlockData) : Type 0 
   pub partly : ArePartlyReplaced old new before after
   pub whole : map (block_replaced old new) after ≡ map (block_replaced old new) before
 
-pub IsReplacing-start : (old new : ℕ) (blocks : List BlockData) → IsReplacing old new blocks blocks
-IsReplacing-start old new blocks = record {
-  partly = record { done = 0; frames = refl; replaced = refl; left = refl };
-  whole = refl;
-}
-
 all_instrs-replaced : (old new : ℕ) (blocks : List BlockData) → all_instrs (map (block_replaced old new) blocks) ≡ map (entry_replaced old new) (all_instrs blocks)
 all_instrs-replaced old new [] = refl
 all_instrs-replaced old new (b ∷ bs) =

@@ -12,15 +12,15 @@ use Rattle.gi_mir.specs.declared.operand.Operand.{Operand}
 use Rattle.gi_mir.specs.declared.operand.Operand.TheVariants as operand
 use Rattle.gi_mir.specs.declared.place.Place.{Place}
 use Rattle.gi_mir.specs.Data.{InstrData, BlockData}
-use Rattle.gi_mir.specs.Edit.{HeadData, block_with, empty_block, all_instrs, block_changed_at, changed_at, of_kind, with_kind, with_operand}
+use Rattle.gi_mir.specs.Edit.{empty_block, all_instrs, block_changed_at, changed_at, of_kind, with_kind, with_operand}
 use Rattle.gi_mir.specs.Ids.{AreOwnIds}
 use Rattle.gi_mir.specs.Mentions.{is_mention, is_mentioned, mention_of, operands_of, operands_at, mentions, mentioning, precedes, listed, HasSameLists, IsNoted, IsForgotten, IsSorted, Lacks}
 use Rattle.gi_mir.specs.Places.{place, comes_before, body_at, id_in, with_inserted, with_removed, HasPlaces, IsRenumbered}
 use Rattle.gi_mir.specs.Tables.{IsTabled}
-use Rattle.gi_mir.proofs.Live.{or_right}
+use Rattle.gi_mir.proofs.OrLemmas.{or_right}
 use Rattle.gi_mir.proofs.FormedLemmas.{changed_at-suc}
-use Rattle.gi_mir.proofs.IdsLemmas.{AreOwnIds-set, AreOwnIds-inserted, AreOwnIds-removed, AreOwnIds-with_block, uses_among-changed_at}
-use Rattle.gi_mir.proofs.Located.{get_or-within, HasPlaces-inserted, HasPlaces-removed, HasPlaces-changed, HasPlaces-push, HasPlaces-with_block, uses_of-id_in}
+use Rattle.gi_mir.proofs.IdsLemmas.{AreOwnIds-set, AreOwnIds-inserted, AreOwnIds-removed, uses_among-changed_at}
+use Rattle.gi_mir.proofs.Located.{get_or-within, HasPlaces-inserted, HasPlaces-removed, HasPlaces-changed, HasPlaces-push, uses_of-id_in}
 use Rattle.gi_mir.proofs.Mentioned.{IsSplit, IsListedAs, IsSplit-new, IsSplit-at, IsListedAs-with, IsListedAs-without, IsListedAs-noted, IsListedAs-forgotten, IsSorted-as, Lacks-as, mentions-with, mentions-without, ahead, behind, all-split, all-split-at, all-inserted, all-removed, all-changed}
 
 -- ---- lists that say the same
@@ -30,20 +30,6 @@ IsTabled-same_lists blocks places old new same has = record {
   own = has.own;
   has_places = has.has_places;
   has_mentions = λ key. same.same key ∙ has.has_mentions key;
-}
-
--- ---- a new block
-
-all_instrs-with_block : (blocks : List BlockData) (head : HeadData) → all_instrs (blocks ++ block_with head ∷ []) ≡ all_instrs blocks
-all_instrs-with_block [] head = refl
-all_instrs-with_block (b ∷ bs) head =
-    ap (λ (xs : List (ℕ × InstrData)). b.instrs ++ xs) (all_instrs-with_block bs head)
-
-pub IsTabled-with_block : (blocks : List BlockData) (places : List Place) (m : Mentions) (head : HeadData) → IsTabled blocks places m → IsTabled (blocks ++ block_with head ∷ []) places m
-IsTabled-with_block blocks places m head has = record {
-  own = AreOwnIds-with_block blocks (length places) head has.own;
-  has_places = HasPlaces-with_block places blocks head has.has_places;
-  has_mentions = λ key. has.has_mentions key ∙ ap (mentioning key) (sym (all_instrs-with_block blocks head));
 }
 
 -- ---- an instruction that is taken out

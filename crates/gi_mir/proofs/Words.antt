@@ -18,13 +18,6 @@ pub IfNone-opcode_of : (r : Option Opcode) (w : List ℕ) → r ≡ opcode_of w 
 IfNone-opcode_of None w h = λ op e. cc (h, opcode_of-word_of op, ap opcode_of e)
 IfNone-opcode_of (Some x) w h = tt
 
-pub word_of-injective : (a b : Opcode) → word_of a ≡ word_of b → a ≡ b
-word_of-injective a b e =
-    let p : opcode_of (word_of a) ≡ Some a = opcode_of-word_of a in
-    let q : opcode_of (word_of b) ≡ Some b = opcode_of-word_of b in
-    let r : opcode_of (word_of a) ≡ opcode_of (word_of b) = ap opcode_of e in
-    cc
-
 -- the opcodes whose word begins with `G_` stand before selection alone
 pub generic_by_word : (op : Opcode) → is_generic_op op ≡ is_before_selection (standing_of op)
 generic_by_word Copy = refl

@@ -214,7 +214,3 @@ with_new_reg f = record f { next_reg = f.next_reg + 1 }
 -- the ids of a block's instructions
 abbrev pub ids_of : BlockData → List ℕ
 ids_of b = map (λ p. p.0) b.instrs
-
--- the ids of all instructions, in layout order
-abbrev pub live_ids : FunctionData → List ℕ
-live_ids f = flat_map ids_of f.blocks

@@ -150,11 +150,6 @@ abbrev pub fits : List Form → List Operand → Bool
 fits fs [] = list_all is_repeated fs
 fits fs (x ∷ xs) = option_map_or (λ left. fits left xs) (taken x fs) false
 
--- the bytes that hold a value of this type, where the type says so
-abbrev pub bytes_of : Llt → Option ℕ
-bytes_of (Scalar bits) = Some ((bits + 7) / 8)
-bytes_of Pointer = None
-
 -- an alignment is a power of two, or the size in bytes; a pointer's may be left open by 0
 abbrev pub is_alignment : Llt → ℕ → Bool
 is_alignment (Scalar bits) align = is_power_of_two align || align == (bits + 7) / 8

@@ -36,9 +36,6 @@ with_place_some (p ∷ places) place = either (list_any (λ other. other == plac
     either true = refl
     either false = refl
 
-or_true : (a b : Bool) → a ≡ true → true ≡ (a || b)
-or_true a b h = rw h refl
-
 targets_some : (places : List ℕ) (xs : List Operand) → states_successors [] (with_targets places xs) ≡ (states_successors [] places || list_any is_target xs)
 targets_some [] [] = refl
 targets_some (p ∷ places) [] = refl

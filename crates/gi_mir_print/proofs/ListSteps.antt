@@ -27,12 +27,6 @@ on_ok_then P Q (Err e) f h = h
 pub drop_end : {X : Type 0} (xs : List X) (i : ℕ) → length xs ≤ i → drop i xs ≡ []
 drop_end xs i h = drop_of_length-le xs h
 
--- one more cell after its lead
-pub led_step : (o lead cell rest o1 o2 total : List ℕ) → o1 ≡ o ++ lead → o2 ≡ o1 ++ cell → o ++ (lead ++ (cell ++ rest)) ≡ total → o2 ++ rest ≡ total
-led_step o lead cell rest o1 o2 total first second all =
-    ap (λ bs. bs ++ rest) (second ∙ ap (λ bs. bs ++ cell) first)
-    ∙ append_assoc (o ++ lead) cell rest ∙ append_assoc o lead (cell ++ rest) ∙ all
-
 -- one more piece of text
 pub text_step : (o piece rest o1 total : List ℕ) → o1 ≡ o ++ piece → o ++ (piece ++ rest) ≡ total → o1 ++ rest ≡ total
 text_step o piece rest o1 total first all = ap (λ bs. bs ++ rest) first ∙ append_assoc o piece rest ∙ all

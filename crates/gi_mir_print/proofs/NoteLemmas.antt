@@ -30,14 +30,6 @@ noted_both a b c rs ss k l first second = record {
   kinds = λ r. second.kinds r ∙ ap (λ o. first_there o (l r)) (first.kinds r) ∙ first_there_assoc (kind_noted a.kinds r) (k r) (l r);
 }
 
--- a register and its kind, and a register alone
-pub noted_definition : (d e : RegistersData) (reg : ℕ) (k : ℕ → Option Kind) → e.order ≡ with_register d.order reg
-    → ((r : ℕ) → kind_noted e.kinds r ≡ first_there (kind_noted d.kinds r) (k r)) → IsNoted d e (reg ∷ []) k
-noted_definition d e reg k o h = record { order = o; kinds = h }
-
-pub noted_use : (d e : RegistersData) (reg : ℕ) → e.order ≡ with_register d.order reg → e.kinds ≡ d.kinds → IsNoted d e (reg ∷ []) (λ r. None)
-noted_use d e reg o h = record { order = o; kinds = λ r. ap (λ ks. kind_noted ks r) h ∙ sym (first_there_none (kind_noted d.kinds r)) }
-
 -- the number of a register stands for it
 register_at-placed : (order : List ℕ) (r : ℕ) (place : Option ℕ) → position (nat_eq r) order ≡ place → register_at order (unwrap_or place (length order + r)) ≡ r
 register_at-placed order r (Some i) h =
@@ -88,7 +80,3 @@ noted_instrs_end d xs h = subst (λ zs. IsNoted d d (flat_map registers_in_instr
 
 pub noted_blocks_end : (d : RegistersData) (xs : List BlockData) → xs ≡ [] → IsNoted d d (flat_map registers_in_block xs) (λ r. kind_in_blocks r xs)
 noted_blocks_end d xs h = subst (λ zs. IsNoted d d (flat_map registers_in_block zs) (λ r. kind_in_blocks r zs)) (sym h) (noted_none d)
-
--- the notes of a function, begun with none
-pub noted_kinds : (e : RegistersData) (rs : List ℕ) (k : ℕ → Option Kind) → IsNoted (record { order = []; kinds = [] }) e rs k → (r : ℕ) → kind_noted e.kinds r ≡ k r
-noted_kinds e rs k n = n.kinds

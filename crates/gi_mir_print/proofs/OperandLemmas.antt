@@ -1,5 +1,5 @@
 -- The operands of an instruction before `=` and after its opcode.
-use Rattle.std.proofs.Common.{◌≡◌, ℕ, suc, ◌+◌, Bool, true, false, not, cond, ◌==◌, if◌then◌else◌, List, [], ◌∷◌, ◌++◌, length, take, drop, map, refl, sym, ap, ◌∙◌, arith, eqb-true}
+use Rattle.std.proofs.Common.{◌≡◌, ℕ, suc, ◌+◌, Bool, true, false, not, cond, ◌==◌, if◌then◌else◌, List, [], ◌∷◌, ◌++◌, length, take, drop, map, refl, sym, ap, ◌∙◌, arith}
 use Rattle.std.specs.Prelude.{codes}
 use Rattle.std.specs.List.{list_all, position_or_len}
 use Rattle.gi_llt.specs.Tokens.{piece_bytes}
@@ -66,10 +66,6 @@ sources_renamed number (operand.PhysDef n ∷ xs) = sources_renamed number xs
 sources_renamed number (x ∷ xs) = refl
 
 -- `=` stands where something is defined
-pub equals_none : (number : ℕ → ℕ) (xs : List Operand) → (length xs == 0) ≡ true → equals_sign (definition_pieces (map (renamed_operand number) xs)) ≡ []
-equals_none number [] h = refl
-equals_none number (x ∷ xs) h = absurd (omega (arith, eqb-true (length (x ∷ xs)) 0 h))
-
 pub equals_some : (number : ℕ → ℕ) (xs : List Operand) → (length xs == 0) ≡ false → equals_sign (definition_pieces (map (renamed_operand number) xs)) ≡ codes " = "
 equals_some number [] h = cc
 equals_some number (x ∷ xs) h = refl

@@ -10,7 +10,7 @@ use Rattle.gi_mir.specs.Data.{InstrData, BlockData, FunctionData}
 use Rattle.gi_mir.specs.Edit.{IsLive, block_at, block_with_instr, empty_block, has_instr, home_of, id_after, ids_of, instr_of, instrs_with, place_in_block, place_of, with_instr, without_instr}
 use Rattle.gi_mir.specs.Places.{nth_id}
 use Rattle.gi_mir.specs.Uses.{block_replaced, entry_replaced, with_reg_replaced}
-use Rattle.gi_mir.proofs.Live.{or_left, or_right}
+use Rattle.gi_mir.proofs.OrLemmas.{or_left, or_right}
 use Rattle.gi_mir.proofs.Located.{has_instr-Contains, has_instr-nth_id, id_in-live, id_in-within, nth_id-place_of}
 use Rattle.gi_pattern.specs.Applying.{id_of, next_to, uses_replaced}
 use Rattle.gi_pattern.specs.Making.{register_or}
@@ -93,11 +93,6 @@ stands-erased f id live = by (id_after f id) refl
         let left : BlockData = record body { instrs = remove body.instrs (place_in_block f id) } in
         let has = has_instr-nth_id n left.instrs (place_in_block f id) (removed-next n body.instrs (place_in_block f id) h) in
         subst (λ (c : BlockData). Contains (ids_of c) n) (sym (get_or-set_same f.blocks (home_of f id) left empty_block (home-within f id live))) (Contains-has n left has)
-
-pub within-erased : (f : FunctionData) (id block : ℕ) → block < length f.blocks → block < length (without_instr f id).blocks
-within-erased f id block within =
-    let body = get_or f.blocks (home_of f id) empty_block in
-    rw (length-set f.blocks (home_of f id) (record body { instrs = remove body.instrs (place_in_block f id) })) within
 
 -- ---- the same of the function that an edit left
 

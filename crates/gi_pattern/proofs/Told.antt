@@ -82,10 +82,6 @@ stands-behind f g id block before live eb en eg =
 pub erasure-is : (f : FunctionData) (id : InstrId) (i : InstrData) (pass : Pass) → instr_of f id.0 ≡ Some i → erasure_told id.0 pass f ≡ change_of f.name pass (Erased id i) ∷ []
 erasure-is f id i pass there = ap (λ (o : Option InstrData). option_map_or (λ (j : InstrData). change_of f.name pass (Erased id j) ∷ []) o []) there
 
-pub at-some : {X : Type 0} (o : Option X) (x : X) (P : X → Type 0) → o ≡ Some x → IfSome o P → P x
-at-some None x P e h = cc
-at-some (Some y) x P e h = let same : y ≡ x = cc in subst P same h
-
 pub root-same : (id : ℕ) (made made' : List InstrData) (pass pass' : Pass) (f f' : FunctionData) → made ≡ made' → pass ≡ pass' → f ≡ f' → root_told id made pass f ≡ root_told id made' pass' f'
 root-same id made made' pass pass' f f' a b c = subst
     (λ (is : List InstrData). root_told id made pass f ≡ root_told id is pass' f')

@@ -1,23 +1,14 @@
 -- The normal form of a function by a table of rows: at the place that is chosen the first row that fits is applied, again
 -- and again, until no place is chosen or none fits there.
-use Rattle.std.specs.Prelude.{◌≡◌, ℕ, zero, suc, ◌<◌, ◌≤◌, Bool, true, List, [], ◌∷◌, Option, Some, None, find, is_some, option_map, reverse}
+use Rattle.std.specs.Prelude.{◌≡◌, ℕ, zero, suc, ◌<◌, ◌≤◌, Bool, true, List, [], ◌∷◌, Option, Some, None, is_some}
 use Rattle.std.specs.Option.{option_and_then, option_or}
 use Rattle.gi_mir.specs.Data.{FunctionData}
-use Rattle.gi_mir.specs.Edit.{all_instrs, live_ids}
-use Rattle.gi_mir.specs.Row.{is_generic_op}
-use Rattle.gi_pattern.specs.Applying.{applied}
-use Rattle.gi_pattern.specs.Data.{RuleData}
-use Rattle.gi_pattern.specs.Fitting.{binding_at}
 
 -- ══ Rows ══
 
 -- a row of a table: the function after it is applied at an instruction, if it fits there
 abbrev pub Row : Type 0
 Row = FunctionData → (id : ℕ) → Option FunctionData
-
--- a rule as a row, where x is the width of a machine register in bits
-abbrev pub row_of : (x : ℕ) → RuleData → Row
-row_of x rule f id = option_map (λ b. applied x rule b id f) (binding_at f rule id)
 
 -- what the first row makes that fits at an instruction
 abbrev pub first_fit : List Row → Row
@@ -29,14 +20,6 @@ first_fit (row ∷ rows) f id = option_or (row f id) (first_fit rows f id)
 -- how the place is chosen, from the test whether a row fits at an instruction
 abbrev pub Choice : Type 0
 Choice = (fits : ℕ → Bool) → FunctionData → Option ℕ
-
--- the first instruction in layout at which a row fits
-abbrev pub first_place : Choice
-first_place fits f = find fits (live_ids f)
-
--- the last instruction in layout that is generic, whether or not a row fits there
-abbrev pub last_generic : Choice
-last_generic fits f = option_map (λ p. p.0) (find (λ p. is_generic_op p.1.op) (reverse (all_instrs f.blocks)))
 
 -- ══ Normal forms ══
 

@@ -130,9 +130,6 @@ rule u = rule_with u.name u.root u.definitions u.tests u.replaces u.makes
 abbrev pub input_places : Fitting → List ℕ
 input_places u = inputs_of (u.root ∷ u.definitions)
 
-abbrev pub result_places : Fitting → List ℕ
-result_places u = places_defined u.root.slots
-
 -- the function after the rule is applied
 abbrev pub after : Fitting → FunctionData
 after u = applied u.x (rule u) u.b u.id u.f

@@ -194,9 +194,6 @@ inner_no_start line blank = no_start line (begins_no_minus line blank)
 pub raw_inner : (line : List ℕ) → IsInner line → IsRaw line
 raw_inner line inner = record { no_start = inner_no_start line inner.indented; no_feed = inner.no_feed }
 
-raw_empty : IsRaw []
-raw_empty = record { no_start = refl; no_feed = refl }
-
 -- what holds of a line that is indented and of an empty one holds of the lines of blocks
 module _ (P : List ℕ → Type 0) (of_inner : (line : List ℕ) → IsInner line → P line) (of_empty : P []) where
   each_set_off : (lines : List (List ℕ)) → EachLine IsInner lines → EachLine P (set_off lines)
@@ -223,7 +220,3 @@ module _ (P : List ℕ → Type 0) (of_inner : (line : List ℕ) → IsInner lin
       let parts = and_parts (is_named_block names block) (list_all (is_named_block names) (next ∷ blocks)) named in
       each-append P (block_lines kinds names place count block) ([] ∷ blocks_lines kinds names (suc place) count (next ∷ blocks))
       (each_block kinds names place count block parts.0) (of_empty, each_blocks kinds names (suc place) count (next ∷ blocks) parts.1)
-
-pub raw_blocks : (kinds : ℕ → Kind) (names : List (List ℕ)) (place count : ℕ) (blocks : List BlockData) → list_all (is_named_block names) blocks ≡ true
-    → EachLine IsRaw (blocks_lines kinds names place count blocks)
-raw_blocks kinds names place count blocks named = each_blocks IsRaw raw_inner raw_empty kinds names place count blocks named

@@ -96,10 +96,6 @@ constant_safe bits value after apart closed = (decimal_words bits, refl, go (bit
     go true = (bit_formed (value == 1), ended_from_stopped Word (piece_bytes after) closed, apart)
     go false = (signed_decimal_number (signed bits value), ended_from_stopped Number (piece_bytes after) closed, apart)
 
-predicate_formed : (pred : Pred) → is_formed Word (predicate_word pred) ≡ true
-predicate_formed Eq = refl
-predicate_formed _ = refl
-
 predicate_safe : (pred : Pred) → IsSafe (word (codes "intpred") ∷ bracketed (word (predicate_word pred) ∷ []))
 predicate_safe Eq after apart closed = (refl, refl, (refl, refl, (refl, refl, (refl, ended_from_stopped Mark (piece_bytes after) closed, apart))))
 predicate_safe _ after apart closed = (refl, refl, (refl, refl, (refl, refl, (refl, ended_from_stopped Mark (piece_bytes after) closed, apart))))

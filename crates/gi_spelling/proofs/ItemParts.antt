@@ -26,10 +26,6 @@ colon_is w e = absurd (cc)
 
 -- ══ Parts ══
 
-has_some : {X : Type 0} → List X → Bool
-has_some [] = false
-has_some (x ∷ xs) = true
-
 abbrev pub parts_whats : List (List Item) → List (List What)
 parts_whats parts = map (map what_in) parts
 

@@ -1,6 +1,6 @@
 -- What is named stays named where names grow.
 use Rattle.std.proofs.Common.{◌≡◌, ℕ, List, [], ◌∷◌, ◌++◌, ◌<◌, length, sym, ap, ◌∙◌, append_assoc, arith}
-use Rattle.std.proofs.lemmas.List.{append-nil, get_or_append_left, length-append}
+use Rattle.std.proofs.lemmas.List.{get_or_append_left, length-append}
 use Rattle.std.proofs.lemmas.Option.{unwrap_or-slice_get}
 use Rattle.std.specs.List.{AllZip}
 use Rattle.gi_mir.specs.Data.{InstrData, BlockData, FunctionData}
@@ -15,9 +15,6 @@ AllZip-implies P Q step [] [] all = tt
 AllZip-implies P Q step [] (y ∷ ys) all = absurd all
 AllZip-implies P Q step (x ∷ xs) [] all = absurd all
 AllZip-implies P Q step (x ∷ xs) (y ∷ ys) all = (step x y all.0, AllZip-implies P Q step xs ys all.1)
-
-pub extends_same : (names : List (List ℕ)) → Extends names names
-extends_same names = record { more = []; grown = sym (append-nil names) }
 
 pub extends_more : (first second third : List (List ℕ)) → Extends first second → Extends second third → Extends first third
 extends_more first second third a b = record { more = a.more ++ b.more; grown = b.grown ∙ ap (λ names. names ++ b.more) a.grown ∙ append_assoc first a.more b.more }

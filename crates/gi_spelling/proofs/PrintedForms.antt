@@ -76,12 +76,6 @@ still_first form.PhysicalDef forms defines first = first
 still_first form.Results forms defines first = first
 still_first _ forms defines first = absurd (false≢true defines)
 
-first_of_none : (forms : List Form) → none_defines forms ≡ true → defines_first forms ≡ true
-first_of_none [] none = refl
-first_of_none (f ∷ forms) none =
-    let parts = and_parts (not (is_defining f)) (none_defines forms) none in
-    rw (not-true (is_defining f) parts.0) parts.1
-
 -- the forms that are left where none defines
 record LeftNone (x : Operand) (left : List Form) : Type 0 where
   source : is_source x ≡ true

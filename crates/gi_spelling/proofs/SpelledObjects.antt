@@ -27,7 +27,6 @@ use Rattle.gi_spelling.specs.declared.written.EntryState.{EntryState}
 use Rattle.gi_spelling.specs.declared.written.EntryState.TheVariants as state
 use Rattle.gi_spelling.specs.declared.written.EntryKind.{EntryKind}
 use Rattle.gi_spelling.specs.declared.written.EntryKind.TheVariants as entry_kind
-use Rattle.gi_spelling.specs.declared.written.Fault.{Fault}
 use Rattle.gi_spelling.proofs.ItemBounds.{is_token_at, is_item, items_fine}
 use Rattle.gi_spelling.proofs.SpelledEntries.{there_fewer}
 
@@ -38,9 +37,6 @@ is_small fields = option_map_or (λ id. nat_lt id (2 ^ 128)) fields.id true
 
 stays : (e next : Entry) (read : Read Entry) → read ≡ Ok e → read ≡ Ok next → is_small e.fields ≡ true → is_small next.fields ≡ true
 stays e next read own is small = let same : e ≡ next = cc in subst (λ (e : Entry). is_small e.fields ≡ true) same small
-
-none_read : (error : Fault) (next : Entry) (read : Read Entry) → read ≡ Err error → read ≡ Ok next → is_small next.fields ≡ true
-none_read error next read own is = absurd (cc)
 
 size_fine : (text : List ℕ) (start : ℕ) (w : What) (n : ℕ) → is_token_at text start w ≡ true → size_by w ≡ Ok n → nat_lt n (2 ^ 128) ≡ true
 size_fine text start (what.Number number true) n fine is = chosen number.negative is

@@ -101,9 +101,6 @@ none_shown types kinds same (s ∷ shown) all =
     rw here (none_shown types kinds same shown parts.1)
 
 -- the numbers of heads are new
-not_any : (n e : ℕ) (numbers : List ℕ) → nat_eq n e ≡ false → list_any (nat_eq n) numbers ≡ false → list_any (nat_eq n) (e ∷ numbers) ≡ false
-not_any n e numbers other none = rw (other, none) refl
-
 flipped : (n e : ℕ) → nat_eq e n ≡ false → nat_eq n e ≡ false
 flipped n e other = grind (arith, nat_tests)
 

@@ -169,10 +169,6 @@ pub record Lists : Type 0 where
 abbrev pub no_lists : Lists
 no_lists = record { successors = None; liveins = None }
 
-abbrev pub read_of : {X : Type 0} → Read X → Option X
-read_of (Ok x) = Some x
-read_of (Err error) = None
-
 -- each list stands once at most, and liveins in the first block alone
 abbrev pub with_successors : Lists → Read (List ℕ) → Option Lists
 with_successors lists (Ok numbers) = if is_there lists.successors then None else Some (record lists { successors = Some numbers })

@@ -8,7 +8,7 @@ use Rattle.gi_text.specs.declared.step.Step.{Step}
 use Rattle.gi_text.specs.declared.step.Step.TheVariants as step
 use Rattle.gi_text.specs.declared.token.Token.{Token}
 use Rattle.gi_text.specs.declared.token.TokenKind.{TokenKind}
-use Rattle.gi_text.specs.declared.token.LineError.TheVariants.{BadToken, BadNumber}
+use Rattle.gi_text.specs.declared.token.LineError.TheVariants.{BadNumber}
 use Rattle.gi_text.specs.Kinds.{kind_of, lexeme_kind}
 use Rattle.gi_text.specs.Numbers.{is_too_great}
 use Rattle.gi_text.specs.Steps.{step_of, step_at}
@@ -73,19 +73,11 @@ cut_step place (first ∷ rest) = cut_found (found (start_of first) first rest) 
 pub cut_at : (s : Step) (place : ℕ) (line : List ℕ) → s ≡ step_at line → cut_line place line ≡ cut_by s place line
 cut_at s place line is = cut_step place line ∙ ap (λ t. cut_by t place line) (sym is)
 
-pub behind_none : (cut : Cut) → behind [] cut ≡ cut
-behind_none (Ok tokens) = refl
-behind_none (Err fault) = refl
-
 pub behind_one_more : (tokens : List Token) (token : Token) (cut : Cut) → behind (tokens ++ token ∷ []) cut ≡ behind tokens (behind (token ∷ []) cut)
 behind_one_more tokens token (Ok later) = ap Ok (append_assoc tokens (token ∷ []) later)
 behind_one_more tokens token (Err fault) = refl
 
 -- the steps of the loop
-pub after_blank : (tokens : List Token) (place : ℕ) (rest : List ℕ) (whole : Cut) → step.Blank ≡ step_at rest → behind tokens (cut_line place rest) ≡ whole
-    → behind tokens (cut_line (place + 1) (drop 1 rest)) ≡ whole
-after_blank tokens place rest whole is cut = ap (behind tokens) (sym (cut_at step.Blank place rest is)) ∙ cut
-
 pub at_end : (tokens : List Token) (place : ℕ) (rest : List ℕ) (whole : Cut) → step.End ≡ step_at rest → behind tokens (cut_line place rest) ≡ whole → whole ≡ Ok tokens
 at_end tokens place rest whole is cut = sym cut ∙ ap (behind tokens) (cut_at step.End place rest is) ∙ ap Ok (append-nil tokens)
 
@@ -103,9 +95,3 @@ pub at_great : (tokens : List Token) (kind : TokenKind) (more place line start :
 at_great tokens kind more place line start rest whole is great cut =
     let here : cut_line place rest ≡ Err (TooGreat place) = cut_at (step.Token kind more) place rest is ∙ rw great refl in
     subst (λ w. IsFaultOf w line start (BadNumber (told_place line start place))) (sym (ap (behind tokens) here) ∙ cut) refl
-
-pub at_nothing : (tokens : List Token) (place line start : ℕ) (rest : List ℕ) (whole : Cut) → step.Nothing ≡ step_at rest → behind tokens (cut_line place rest) ≡ whole
-    → IsFaultOf whole line start (BadToken (told_place line start place))
-at_nothing tokens place line start rest whole is cut =
-    let here : cut_line place rest ≡ Err (NoToken place) = cut_at step.Nothing place rest is in
-    subst (λ w. IsFaultOf w line start (BadToken (told_place line start place))) (sym (ap (behind tokens) here) ∙ cut) refl

@@ -1,6 +1,6 @@
 -- What comes next in a line.
 use Rattle.std.proofs.Common.{◌≡◌, ℕ, ◌+◌, ◌-◌, Bool, true, false, [], ◌∷◌, List, length, take, drop, refl, sym, ap, ◌∙◌, arith}
-use Rattle.std.specs.Prelude.{Ok, Err, if◌then◌else◌, is_err}
+use Rattle.std.specs.Prelude.{Err, if◌then◌else◌, is_err}
 use Rattle.std.proofs.lemmas.List.{drop-drop}
 use Rattle.gi_text.specs.declared.step.Step.TheVariants as step
 use Rattle.gi_text.specs.declared.token.Token.{Token}
@@ -20,12 +20,6 @@ past bytes place count = ap (cut_line (place + count)) (drop-drop count place by
 -- only a blank stands between
 pub past_blank : (bytes : List ℕ) (place : ℕ) → step.Blank ≡ step_at (drop place bytes) → cut_past_place bytes (place + 1) ≡ cut_past_place bytes place
 past_blank bytes place is = sym (past bytes place 1) ∙ sym (cut_at step.Blank place (drop place bytes) is)
-
-pub at_end : (bytes : List ℕ) (place : ℕ) → step.End ≡ step_at (drop place bytes) → cut_past_place bytes place ≡ Ok []
-at_end bytes place is = cut_at step.End place (drop place bytes) is
-
-pub at_nothing : (bytes : List ℕ) (place : ℕ) → step.Nothing ≡ step_at (drop place bytes) → is_err (cut_past_place bytes place) ≡ true
-at_nothing bytes place is = ap is_err (cut_at step.Nothing place (drop place bytes) is)
 
 pub at_great : (bytes : List ℕ) (place more : ℕ) (kind : TokenKind) → step.Token kind more ≡ step_at (drop place bytes)
     → is_too_great (lexeme_kind kind) (slice place (place + more + 1) bytes) ≡ true → is_err (cut_past_place bytes place) ≡ true

@@ -28,23 +28,6 @@ pub value-none : (base size : ℕ) (digit : ℕ) (digits : List ℕ) → 0 < bas
 value-none base size digit digits some none =
     bounded-none (size * base + digit_value digit) (value_after base (size * base + digit_value digit) digits) (value-le base (size * base + digit_value digit) digits some) none
 
-pub bounded-some : (m n : ℕ) → Some n ≡ bounded m → n ≡ m
-bounded-some m n held = chosen (nat_lt m (2 ^ 128)) held
-  where
-    chosen : (test : Bool) → Some n ≡ (if test then Some m else None) → n ≡ m
-    chosen true held = cc
-    chosen false held = cc
-
-pub bounded-below : (m n : ℕ) → Some n ≡ bounded m → n < 2 ^ 128
-bounded-below m n held = chosen (nat_lt m (2 ^ 128)) refl held
-  where
-    below : nat_lt m (2 ^ 128) ≡ true → n ≡ m → n < 2 ^ 128
-    below is same = grind (arith, nat_tests)
-
-    chosen : (test : Bool) → nat_lt m (2 ^ 128) ≡ test → Some n ≡ (if test then Some m else None) → n < 2 ^ 128
-    chosen true is held = below is cc
-    chosen false is held = cc
-
 held : (n : ℕ) → n < 2 ^ 128 → nat_lt n (2 ^ 128) ≡ true
 held n within = grind (arith, nat_tests)
 

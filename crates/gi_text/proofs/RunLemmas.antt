@@ -1,41 +1,9 @@
 -- Runs of bytes at the front of a line, and what stands there in a line's bytes.
-use Rattle.std.proofs.Common.{◌≡◌, ℕ, suc, ◌+◌, ◌≤◌, Bool, true, false, cond, List, [], ◌∷◌, ◌++◌, length, Option, Some, None, refl, sym, ap, ◌∙◌, ◌<◌, subst, drop, get_or, drop-cons, arith, add-one}
-use Rattle.std.proofs.lemmas.List.{drop_all}
+use Rattle.std.proofs.Common.{◌≡◌, ℕ, suc, ◌+◌, Bool, true, false, cond, List, [], ◌∷◌, ◌++◌, length, Option, Some, None, refl, sym, ap, ◌∙◌, arith}
 use Rattle.std.specs.Prelude.{if◌then◌else◌, option_map, ◌==◌}
 use Rattle.std.specs.List.{position_from, position}
 use Rattle.std.proofs.lemmas.Iterator.Adapters.{position_from-zero}
 use Rattle.gi_llt.specs.Tokens.{run_of, past_run, through}
-
--- the steps of a loop over a run
-run_at : (test : ℕ → Bool) (xs : List ℕ) (i whole : ℕ) → i < length xs → i + length (run_of test (drop i xs)) ≡ whole
-    → i + length (run_of test (get_or xs i 0 ∷ drop (suc i) xs)) ≡ whole
-run_at test xs i whole within run = subst (λ ys. i + length (run_of test ys) ≡ whole) (drop-cons xs i 0 within) run
-
-pub run_on : (test : ℕ → Bool) (xs : List ℕ) (i whole : ℕ) → i < length xs → test (get_or xs i 0) ≡ true → i + length (run_of test (drop i xs)) ≡ whole
-    → i + 1 + length (run_of test (drop (i + 1) xs)) ≡ whole
-run_on test xs i whole within passes run =
-    let more : i + length (if true then get_or xs i 0 ∷ run_of test (drop (suc i) xs) else []) ≡ whole =
-    subst (λ t. i + length (if t then get_or xs i 0 ∷ run_of test (drop (suc i) xs) else []) ≡ whole) passes (run_at test xs i whole within run) in
-    rw (add-one i) (let sum : suc i + length (run_of test (drop (suc i) xs)) ≡ whole = omega (arith, more) in sum)
-
-pub run_stops : (test : ℕ → Bool) (xs : List ℕ) (i whole : ℕ) → i < length xs → test (get_or xs i 0) ≡ false → i + length (run_of test (drop i xs)) ≡ whole → i ≡ whole
-run_stops test xs i whole within fails run =
-    let more : i + length (if false then get_or xs i 0 ∷ run_of test (drop (suc i) xs) else []) ≡ whole =
-    subst (λ t. i + length (if t then get_or xs i 0 ∷ run_of test (drop (suc i) xs) else []) ≡ whole) fails (run_at test xs i whole within run) in
-    omega (arith, more)
-
-pub run_ends : (test : ℕ → Bool) (xs : List ℕ) (i whole : ℕ) → i ≤ length xs → length xs ≤ i → i + length (run_of test (drop i xs)) ≡ whole → length xs ≡ whole
-run_ends test xs i whole within past run =
-    let none : i + length (run_of test []) ≡ whole = subst (λ ys. i + length (run_of test ys) ≡ whole) (drop_all i xs past) run in
-    omega (arith, none)
-
-pub run-le : (test : ℕ → Bool) (xs : List ℕ) → length (run_of test xs) ≤ length xs
-run-le test [] = omega arith
-run-le test (x ∷ xs) = chosen (test x) (run-le test xs)
-  where
-    chosen : (passes : Bool) → length (run_of test xs) ≤ length xs → length (if passes then x ∷ run_of test xs else []) ≤ suc (length xs)
-    chosen true later = omega (arith, later)
-    chosen false later = omega arith
 
 -- a run and what follows it
 pub run_split : (test : ℕ → Bool) (xs : List ℕ) → xs ≡ run_of test xs ++ past_run test xs

@@ -3,14 +3,13 @@ use Rattle.std.specs.List.{range_with_len}
 use Rattle.std.proofs.Common.{◌≡◌, ℕ, suc, ◌-◌, arith, ◌+◌, ◌<◌, ◌≤◌, Bool, true, false, cond, List, [], ◌∷◌, ◌++◌, length, get_or, drop, find, Some, None, refl, sym, ap, ◌∙◌, add-one}
 use Rattle.std.proofs.Math.Seq.{drop-cons}
 use Rattle.std.specs.Option.{option_or}
-use Rattle.gi_mir.specs.Data.{InstrData, BlockData}
+use Rattle.gi_mir.specs.Data.{InstrData}
 use Rattle.gi_mir.specs.Row.{is_phi_op}
 use Rattle.gi_mir.specs.declared.opcode.Opcode.{Opcode}
 use Rattle.gi_mir.specs.declared.opcode.Opcode.TheVariants as op
 use Rattle.gi_mir.specs.declared.operand.Flags.{Flags}
 use Rattle.gi_meaning.specs.Meaning.{meaning_of, is_joining}
 use Rattle.gi_meaning.specs.Runs.{is_phi}
-use Rattle.gi_mir.specs.Edit.{all_instrs, defines, empty_block}
 
 pub drop_step : {X : Type 0} (xs : List X) (i : ℕ) (d : X) → i < length xs → drop i xs ≡ get_or xs i d ∷ drop (i + 1) xs
 drop_step xs i d h = drop-cons xs i d h ∙ ap (λ n. get_or xs i d ∷ drop n xs) (sym (add-one i))
@@ -22,12 +21,6 @@ found_in_either p (x ∷ xs) ys = by (p x) (found_in_either p xs ys)
     by : (t : Bool) → find p (xs ++ ys) ≡ option_or (find p xs) (find p ys) → cond t (Some x) (find p (xs ++ ys)) ≡ option_or (cond t (Some x) (find p xs)) (find p ys)
     by true h = refl
     by false h = h
-
-pub found_from : (r : ℕ) (blocks : List BlockData) (b : ℕ) → b < length blocks
-    → find (defines r) (all_instrs (drop b blocks)) ≡ option_or (find (defines r) (get_or blocks b empty_block).instrs) (find (defines r) (all_instrs (drop (b + 1) blocks)))
-found_from r blocks b h =
-    ap (λ l. find (defines r) (all_instrs l)) (drop_step blocks b empty_block h)
-    ∙ found_in_either (defines r) (get_or blocks b empty_block).instrs (all_instrs (drop (b + 1) blocks))
 
 -- the phis are those whose meaning joins
 phi_op : (flags : Flags) (o : Opcode) → is_phi_op o ≡ is_joining (meaning_of flags o)

@@ -60,10 +60,3 @@ at_home f r id n own h =
     let at : FoundAt f.blocks r e.entry = found_at f.blocks r e.entry e.found in
     let same : home_of f id ≡ at.block = id_in-once id f.blocks n (home_of f id) at.block (place_in_block f id) at.place own (id_in-live f id (live_of f r id h)) (at.stands ∙ ap Some e.same) in
     ap (λ b. find (defines r) (get_or f.blocks b empty_block).instrs) same ∙ at.found ∙ sym e.found
-
-pub nowhere : (f : FunctionData) (r : ℕ) → None ≡ definition_of f r → definition f r ≡ None
-nowhere f r h = by (find (defines r) (all_instrs f.blocks)) refl h
-  where
-    by : (o : Option (ℕ × InstrData)) → find (defines r) (all_instrs f.blocks) ≡ o → None ≡ option_map (λ p. p.0) o → definition f r ≡ None
-    by (Some p) is l = cc
-    by None is l = is

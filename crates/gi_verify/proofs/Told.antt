@@ -6,7 +6,7 @@ use Rattle.std.proofs.lemmas.Option.{slice_get-get_or, same_Some}
 use Rattle.gi_mir.specs.Data.{InstrData, FunctionData}
 use Rattle.gi_mir.specs.Edit.{empty_block}
 use Rattle.gi_valid.specs.Available.{Extent, IsExtent}
-use Rattle.gi_valid.specs.Faults.{Site, sites_in, sites_from, sites, told, fault_in, with_fault, unknown_successors, double_definitions}
+use Rattle.gi_valid.specs.Faults.{Site, sites_in, sites_from, sites, told, fault_in, with_fault}
 use Rattle.gi_valid.specs.Typing.{Phase}
 use Rattle.gi_valid.specs.Valid.{IsValid, IsInvalid, IsGreatest, of_lowest_line}
 use Rattle.gi_valid.proofs.Existing.{greatest_sets}
@@ -106,11 +106,6 @@ all_blocks_told x phase f b past old new are = record {
 }
 
 -- ══ All faults ══
-
-pub all_faults : (x : ℕ) (phase : Phase) (f : FunctionData) (first second third : List Fault) → first ≡ double_definitions f → AllTold x phase f first second → third ≡ second ++ unknown_successors f 1 f.blocks → AreAllFaults x phase f third
-all_faults x phase f first second third double sited last = record {
-  by = λ extents greatest. last ∙ ap (λ l. l ++ unknown_successors f 1 f.blocks) (sited.by extents greatest ∙ ap (λ l. l ++ told (fault_in x phase f extents) (sites f)) double);
-}
 
 abbrev great : FunctionData → ℕ → Extent
 great f r = (greatest_sets f r).extent

@@ -1,6 +1,6 @@
 use Rattle.std.proofs.Common.{◌≡◌, ◌-◌, length, sym, ap, ◌∙◌, arith, length-drop}
 use Rattle.gi_text.specs.Steps.{step_at}
-use Rattle.gi_text.proofs.NextLemmas.{past_blank, at_end, at_nothing}
+use Rattle.gi_text.proofs.NextLemmas.{past_blank}
 use Rattle.gi_text.proofs.cut.next_token.Goals as goal
 
 pub loop-start-preserved : goal.loop-start-preserved
