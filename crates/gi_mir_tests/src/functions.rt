@@ -1,6 +1,4 @@
-//! Words against the table, and a small function built, read and changed.
-
-ghost use Rattle.std.specs.Prelude.{◌<◌, length};
+//! Words against the table, and small functions built, read and changed.
 
 use gi_llt::Llt;
 use gi_mir::block::{Block, InstrId};
@@ -23,63 +21,34 @@ fn crosses_threads() {
     needs::<Module>();
 }
 
-fn finds(word: &str, op: Opcode) -> bool {
-    Opcode::from_word(word) == Some(op) && op.word() == word
-}
-
 #[test]
 fn finds_words(rt: HostRuntime) {
-    assert!(rt; finds("COPY", Opcode::Copy));
-    assert!(rt; finds("PHI", Opcode::Phi));
-    assert!(rt; finds("G_PHI", Opcode::GenericPhi));
-    assert!(rt; finds("IMPLICIT_DEF", Opcode::ImplicitDef));
-    assert!(rt; finds("PseudoCALL", Opcode::PseudoCall));
-    assert!(rt; finds("ADJCALLSTACKUP", Opcode::AdjustCallStackUp));
-    assert!(rt; finds("G_PTR_ADD", Opcode::GenericPointerAdd));
-    assert!(rt; finds("G_SEXT_INREG", Opcode::GenericSignExtendInRegister));
-    assert!(rt;
-        finds(
+    for (word, op) in [
+        ("COPY", Opcode::Copy),
+        ("PHI", Opcode::Phi),
+        ("G_PHI", Opcode::GenericPhi),
+        ("IMPLICIT_DEF", Opcode::ImplicitDef),
+        ("PseudoCALL", Opcode::PseudoCall),
+        ("ADJCALLSTACKUP", Opcode::AdjustCallStackUp),
+        ("G_PTR_ADD", Opcode::GenericPointerAdd),
+        ("G_SEXT_INREG", Opcode::GenericSignExtendInRegister),
+        (
             "G_CTLZ_ZERO_UNDEF",
-            Opcode::GenericCountLeadingZerosNotOfZero
-        )
-    );
-    assert!(rt; finds("MULHU", Opcode::MultiplyHighUnsigned));
-    assert!(rt; finds("SRAIW", Opcode::ShiftRightArithmeticImmediateWord));
-    assert!(rt; finds("BGEU", Opcode::BranchGreaterEqualUnsigned));
-    assert_eq!(rt; Opcode::from_word("G_FADD"), None);
-    assert_eq!(rt; Opcode::from_word("copy"), None);
+            Opcode::GenericCountLeadingZerosNotOfZero,
+        ),
+        ("MULHU", Opcode::MultiplyHighUnsigned),
+        ("SRAIW", Opcode::ShiftRightArithmeticImmediateWord),
+        ("BGEU", Opcode::BranchGreaterEqualUnsigned),
+    ] {
+        assert!(rt; Opcode::from_word(word) == Some(op));
+        assert!(rt; op.word() == word);
+    }
+    for word in ["G_FADD", "copy"] {
+        assert!(rt; Opcode::from_word(word).is_none());
+    }
     assert!(rt; Opcode::GenericLoad.is_generic());
     assert!(rt; !Opcode::LoadWord.is_generic());
     assert!(rt; Opcode::PseudoReturn.is_terminator());
-}
-
-fn made(alloc: Global, op: Opcode, operands: &[Operand]) -> Result<Instr, Fail> {
-    Ok(Instr {
-        op,
-        flags: Flags::default(),
-        operands: SmallVec::from_slice(alloc, operands)?,
-        mem: None,
-        line: 1,
-    })
-}
-
-fn append(
-    function: &mut Function,
-    alloc: Global,
-    op: Opcode,
-    operands: &[Operand],
-) -> Result<InstrId, Fail>
-    requires { 0 < length function.old.blocks }
-    ensures { 0 < length function.new.blocks }
-{
-    let instr = made(alloc, op, operands)?;
-    if !formed(&instr) {
-        return Err(Fail::from("not formed"));
-    }
-    match function.insert_before(0, None, instr) {
-        Ok(id) => Ok(id),
-        Err(_) => Err(Fail::from("memory")),
-    }
 }
 
 #[test]
@@ -103,93 +72,123 @@ fn numbers_names(rt: HostRuntime) -> Result<(), Fail> {
     Ok(())
 }
 
-fn constant(alloc: Global, function: &mut Function, reg: u32) -> Result<InstrId, Fail>
-    requires { 0 < length function.old.blocks }
-    ensures { 0 < length function.new.blocks }
-{
-    let kind = Kind::Generic(Llt::Scalar(32));
-    append(
-        function,
-        alloc,
-        Opcode::GenericConstant,
-        &[Operand::Def(Reg(reg), kind), Operand::Constant(32, 7)],
-    )
+#[test]
+fn names_apart(rt: HostRuntime) {
+    Names::new(rt.alloc()).are_distinct();
 }
 
-#[test]
-fn builds_a_function(rt: HostRuntime) -> Result<(), Fail> {
-    let alloc = rt.alloc();
+/// Appends an instruction to the first block.
+fn append(
+    alloc: Global,
+    function: &mut Function,
+    op: Opcode,
+    operands: &[Operand],
+) -> Result<InstrId, Fail> {
+    let instr = Instr {
+        op,
+        flags: Flags::default(),
+        operands: SmallVec::from_slice(alloc, operands)?,
+        mem: None,
+        line: 1,
+    };
+    if function.block_count() == 0 || !formed(&instr) {
+        return Err(Fail::from("not formed"));
+    }
+    match function.insert_before(0, None, instr) {
+        Ok(id) => Ok(id),
+        Err(_) => Err(Fail::from("memory")),
+    }
+}
+
+/// A function of one block with these instructions, which are numbered from 0.
+fn built(alloc: Global, rows: &[(Opcode, &[Operand])]) -> Result<Function, Fail> {
     let mut function = Function::new(alloc, 3);
     let block = Block {
         successors: Vec::new(alloc),
         liveins: [10, 11].to_vec(alloc)?,
     };
-    assert_eq!(rt; function.add_block(block).ok().ok_or("memory")?, 0);
+    if function.add_block(block).ok() != Some(0) {
+        return Err(Fail::from("not the first block"));
+    }
+    for ((op, operands), number) in rows.iter().zip(0..) {
+        let id = append(alloc, &mut function, *op, operands)?;
+        if id != InstrId(number) {
+            return Err(Fail::from("not numbered in order"));
+        }
+    }
+    Ok(function)
+}
+
+const S32: Kind = Kind::Generic(Llt::Scalar(32));
+
+/// `%0` and twice `%1` as constants.
+fn constants(alloc: Global) -> Result<Function, Fail> {
+    let zero = [Operand::Def(Reg(0), S32), Operand::Constant(32, 7)];
+    let one = [Operand::Def(Reg(1), S32), Operand::Constant(32, 7)];
+    let rows: [(Opcode, &[Operand]); 3] = [
+        (Opcode::GenericConstant, &zero),
+        (Opcode::GenericConstant, &one),
+        (Opcode::GenericConstant, &one),
+    ];
+    built(alloc, &rows)
+}
+
+#[test]
+fn reads_a_function(rt: HostRuntime) -> Result<(), Fail> {
+    let function = constants(rt.alloc())?;
+    let (first, second, third) = (InstrId(0), InstrId(1), InstrId(2));
+    assert!(rt; function.next_reg() == 2);
     assert!(rt; function.block_count() == 1);
-    let first = constant(alloc, &mut function, 0)?;
-    let second = constant(alloc, &mut function, 1)?;
-    let third = constant(alloc, &mut function, 1)?;
-    assert_eq!(rt;
-        (first, second, third),
-        (InstrId(0), InstrId(1), InstrId(2))
-    );
-    assert_eq!(rt; function.next_reg(), 2);
-    assert!(rt; function.block_count() == 1);
-    assert_eq!(rt; function.instrs(0).len(), 3);
-    assert_eq!(rt; function.first_in(0), Some(first));
-    assert_eq!(rt; function.last_in(0), Some(third));
-    assert_eq!(rt; function.def_of(Reg(1)), Some(second));
-    assert_eq!(rt; function.kind_of(Reg(1)), Kind::Generic(Llt::Scalar(32)));
-    assert_eq!(rt; function.kind_of(Reg(5)), Kind::Class);
+    assert!(rt; function.instrs(0).len() == 3);
+    assert!(rt; function.first_in(0) == Some(first));
+    assert!(rt; function.last_in(0) == Some(third));
+    assert!(rt; function.def_of(Reg(1)) == Some(second));
+    assert!(rt; function.kind_of(Reg(1)) == S32);
+    assert!(rt; function.kind_of(Reg(5)) == Kind::Class);
     assert!(rt; function.is_live(second));
-    assert_eq!(rt; function.following(second), Some(third));
-    assert_eq!(rt; function.preceding(second), Some(first));
-    assert_eq!(rt; function.block_of(second), 0);
-    let erased = function.erase(second);
-    assert_eq!(rt; erased.op, Opcode::GenericConstant);
-    assert!(rt; !function.is_live(second));
-    assert_eq!(rt; function.def_of(Reg(1)), Some(third));
-    function.set_keys(true, false, false);
-    assert_eq!(rt; function.keys(), (true, false, false));
+    assert!(rt; function.following(second) == Some(third));
+    assert!(rt; function.preceding(second) == Some(first));
+    assert!(rt; function.block_of(second) == 0);
     Ok(())
 }
 
-fn sum(
-    alloc: Global,
-    function: &mut Function,
-    reg: u32,
-    left: u32,
-    right: u32,
-) -> Result<InstrId, Fail>
-    requires { 0 < length function.old.blocks }
-    ensures { 0 < length function.new.blocks }
-{
-    let kind = Kind::Generic(Llt::Scalar(32));
-    append(
-        function,
-        alloc,
-        Opcode::GenericAdd,
-        &[
-            Operand::Def(Reg(reg), kind),
-            Operand::Use(Reg(left)),
-            Operand::Use(Reg(right)),
-        ],
-    )
+#[test]
+fn erases_an_instruction(rt: HostRuntime) -> Result<(), Fail> {
+    let mut function = constants(rt.alloc())?;
+    let second = InstrId(1);
+    assert!(rt; function.is_live(second));
+    let erased = function.erase(second);
+    assert!(rt; erased.op == Opcode::GenericConstant);
+    assert!(rt; !function.is_live(second));
+    assert!(rt; function.def_of(Reg(1)) == Some(InstrId(2)));
+    Ok(())
+}
+
+#[test]
+fn sets_keys(rt: HostRuntime) {
+    let mut function = Function::new(rt.alloc(), 3);
+    function.set_keys(true, false, false);
+    assert!(rt; function.keys() == (true, false, false));
+}
+
+/// `%0` as a constant, and two sums that use it.
+fn sums(alloc: Global) -> Result<Function, Fail> {
+    let (a, b, c) = (Reg(0), Reg(1), Reg(2));
+    let constant = [Operand::Def(a, S32), Operand::Constant(32, 7)];
+    let twice = [Operand::Def(b, S32), Operand::Use(a), Operand::Use(a)];
+    let last = [Operand::Def(c, S32), Operand::Use(a), Operand::Use(b)];
+    let rows: [(Opcode, &[Operand]); 3] = [
+        (Opcode::GenericConstant, &constant),
+        (Opcode::GenericAdd, &twice),
+        (Opcode::GenericAdd, &last),
+    ];
+    built(alloc, &rows)
 }
 
 #[test]
 fn keeps_uses(rt: HostRuntime) -> Result<(), Fail> {
-    let alloc = rt.alloc();
-    let mut function = Function::new(alloc, 0);
-    let block = Block {
-        successors: Vec::new(alloc),
-        liveins: Vec::new(alloc),
-    };
-    assert_eq!(rt; function.add_block(block).ok().ok_or("memory")?, 0);
-    assert!(rt; function.block_count() == 1);
-    let first = constant(alloc, &mut function, 0)?;
-    let twice = sum(alloc, &mut function, 1, 0, 0)?;
-    let last = sum(alloc, &mut function, 2, 0, 1)?;
+    let mut function = sums(rt.alloc())?;
+    let (first, twice, last) = (InstrId(0), InstrId(1), InstrId(2));
     assert!(rt; function.is_live(first) && function.is_live(last));
     assert!(rt; function.before(first, last));
     assert!(rt; !function.before(last, first));
@@ -202,11 +201,6 @@ fn keeps_uses(rt: HostRuntime) -> Result<(), Fail> {
     ] {
         assert!(rt; function.uses_of(Reg(reg)) == users);
     }
-    assert_eq!(rt; function.next_reg(), 8);
+    assert!(rt; function.next_reg() == 8);
     Ok(())
-}
-
-#[test]
-fn names_apart(rt: HostRuntime) {
-    Names::new(rt.alloc()).are_distinct();
 }
