@@ -9,10 +9,10 @@ ghost use Rattle.gi_top.specs.Stop.{IsCause, UsageOf, UsageSaid, Says};
 ghost use Rattle.std.specs.Option.{option_copied};
 ghost use Rattle.gi_options.specs.Options.{OptionsData, options_of, fault_or, chosen, no_choice};
 
-use gi_answer::{Refused, answer};
-use gi_options::options::{Options, fault_with_last};
 use crate::stop::{LIMIT, Stop, end_with, say};
+use gi_answer::{Refused, answer};
 use gi_io::{Input, Output, ReadError, read_all, write_all};
+use gi_options::options::{Options, fault_with_last};
 use std::alloc::Global;
 
 /// All bytes of the input of this name.
