@@ -1,6 +1,5 @@
 -- What the program answers to an input: the text that it writes, or why it refuses the input.
-use Rattle.std.specs.Prelude.{◌≡◌, ◌⊎◌, ℕ, ◌≤◌, ◌<◌, Bool, true, false, List, ◌++◌, length, codes, Option, Some, None, Result, Ok, Err}
-use Rattle.gi_io.specs.Writing.{AppendsPrefix}
+use Rattle.std.specs.Prelude.{◌≡◌, ◌⊎◌, ℕ, ◌≤◌, ◌<◌, Bool, true, false, List, length, codes, Option, Some, None, Result, Ok, Err}
 use Rattle.gi_mir.specs.Data.{ModuleData}
 use Rattle.gi_mir.specs.Numbering.{numbered_module}
 use Rattle.gi_observe.specs.declared.pass.Pass.{Pass}
@@ -65,17 +64,6 @@ pub record IsOutput (words : List (List ℕ)) (read written : List ℕ) : Type 0
   pub options : OptionsData
   pub taken : options_of words ≡ Ok options
   pub answer : IsAnswer options read written
-
--- what is held is what was held and then the whole text, or a prefix of it
-pub record AppendsOutput (words : List (List ℕ)) (read before after : List ℕ) : Type 0 where
-  pub written : List ℕ
-  pub output : IsOutput words read written
-  pub appended : after ≡ before ++ written
-
-pub record AppendsPartOfOutput (words : List (List ℕ)) (read before after : List ℕ) : Type 0 where
-  pub written : List ℕ
-  pub output : IsOutput words read written
-  pub part : AppendsPrefix before after written
 
 -- ══ Why an input is refused ══
 

@@ -3,7 +3,8 @@
 ghost use Rattle.std.specs.Prelude.{ℕ, List, Result, Ok, is_ok, ◌≡◌, ◌≢◌, ◌⊎◌, ◌≤◌, ◌<◌, ◌^◌, ◌-◌, ◌++◌, [], None, IsTrue, IfOk, OnOk, IfErr, IfSome, IsSome, IsErrOf, length, map, string_bytes, Some, codes};
 ghost use Rattle.gi_io.specs.Faults.{Rose};
 ghost use Rattle.gi_io.specs.Writing.{AppendsPrefix};
-ghost use Rattle.gi_answer.specs.Answers.{limit, input_of, IsAnswer, IsOutput, AppendsOutput, AppendsPartOfOutput, RefusesWith};
+ghost use Rattle.gi_answer.specs.Answers.{limit, input_of, IsAnswer, RefusesWith};
+ghost use Rattle.gi_top.specs.Appended.{AppendsOutput, AppendsPartOfOutput};
 ghost use Rattle.gi_answer.specs.Promise.{IsCompiled, AppendsCompiled};
 ghost use Rattle.gi_top.specs.Stop.{IsCause, UsageOf, UsageSaid, Says};
 ghost use Rattle.std.specs.Option.{option_copied};
