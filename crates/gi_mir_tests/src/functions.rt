@@ -64,10 +64,10 @@ fn numbers_names(rt: HostRuntime) -> Result<(), Fail> {
     ] {
         assert!(rt; names.count() < 100);
         let given = names.number(name).ok().ok_or("memory")?;
-        assert_eq!(rt; given, number);
+        assert!(rt; given == number);
         assert!(rt; names.name(given) == name);
     }
-    assert_eq!(rt; names.count(), 4);
+    assert!(rt; names.count() == 4);
     assert!(rt; names.name(4) == "");
     Ok(())
 }
@@ -134,32 +134,42 @@ fn constants(alloc: Global) -> Result<Function, Fail> {
 }
 
 #[test]
-fn reads_a_function(rt: HostRuntime) -> Result<(), Fail> {
+fn has_instructions_in_order(rt: HostRuntime) -> Result<(), Fail> {
     let function = constants(rt.alloc())?;
-    let (first, second, third) = (InstrId(0), InstrId(1), InstrId(2));
-    assert!(rt; function.next_reg() == 2);
     assert!(rt; function.block_count() == 1);
     assert!(rt; function.instrs(0).len() == 3);
-    assert!(rt; function.first_in(0) == Some(first));
-    assert!(rt; function.last_in(0) == Some(third));
-    assert!(rt; function.def_of(Reg(1)) == Some(second));
+    assert!(rt; function.first_in(0) == Some(InstrId(0)));
+    assert!(rt; function.last_in(0) == Some(InstrId(2)));
+    Ok(())
+}
+
+#[test]
+fn has_neighbours(rt: HostRuntime) -> Result<(), Fail> {
+    let function = constants(rt.alloc())?;
+    assert!(rt; function.is_live(InstrId(1)));
+    assert!(rt; function.following(InstrId(1)) == Some(InstrId(2)));
+    assert!(rt; function.preceding(InstrId(1)) == Some(InstrId(0)));
+    assert!(rt; function.block_of(InstrId(1)) == 0);
+    Ok(())
+}
+
+#[test]
+fn has_registers(rt: HostRuntime) -> Result<(), Fail> {
+    let function = constants(rt.alloc())?;
+    assert!(rt; function.next_reg() == 2);
+    assert!(rt; function.def_of(Reg(1)) == Some(InstrId(1)));
     assert!(rt; function.kind_of(Reg(1)) == S32);
     assert!(rt; function.kind_of(Reg(5)) == Kind::Class);
-    assert!(rt; function.is_live(second));
-    assert!(rt; function.following(second) == Some(third));
-    assert!(rt; function.preceding(second) == Some(first));
-    assert!(rt; function.block_of(second) == 0);
     Ok(())
 }
 
 #[test]
 fn erases_an_instruction(rt: HostRuntime) -> Result<(), Fail> {
     let mut function = constants(rt.alloc())?;
-    let second = InstrId(1);
-    assert!(rt; function.is_live(second));
-    let erased = function.erase(second);
+    assert!(rt; function.is_live(InstrId(1)));
+    let erased = function.erase(InstrId(1));
     assert!(rt; erased.op == Opcode::GenericConstant);
-    assert!(rt; !function.is_live(second));
+    assert!(rt; !function.is_live(InstrId(1)));
     assert!(rt; function.def_of(Reg(1)) == Some(InstrId(2)));
     Ok(())
 }
@@ -173,10 +183,17 @@ fn sets_keys(rt: HostRuntime) {
 
 /// `%0` as a constant, and two sums that use it.
 fn sums(alloc: Global) -> Result<Function, Fail> {
-    let (a, b, c) = (Reg(0), Reg(1), Reg(2));
-    let constant = [Operand::Def(a, S32), Operand::Constant(32, 7)];
-    let twice = [Operand::Def(b, S32), Operand::Use(a), Operand::Use(a)];
-    let last = [Operand::Def(c, S32), Operand::Use(a), Operand::Use(b)];
+    let constant = [Operand::Def(Reg(0), S32), Operand::Constant(32, 7)];
+    let twice = [
+        Operand::Def(Reg(1), S32),
+        Operand::Use(Reg(0)),
+        Operand::Use(Reg(0)),
+    ];
+    let last = [
+        Operand::Def(Reg(2), S32),
+        Operand::Use(Reg(0)),
+        Operand::Use(Reg(1)),
+    ];
     let rows: [(Opcode, &[Operand]); 3] = [
         (Opcode::GenericConstant, &constant),
         (Opcode::GenericAdd, &twice),

@@ -98,8 +98,8 @@ fn types_together(rt: HostRuntime) {
         (Opcode::GenericStore, &[], &[S8, P0], true, true),
         (Opcode::Add, &[S32], &[S32, S32], false, false),
     ] {
-        assert_eq!(rt; accepts(RV32, op, results, sources), on_32);
-        assert_eq!(rt; accepts(RV64, op, results, sources), on_64);
+        assert!(rt; accepts(RV32, op, results, sources) == on_32);
+        assert!(rt; accepts(RV64, op, results, sources) == on_64);
     }
 }
 
@@ -119,8 +119,8 @@ fn types_alone(rt: HostRuntime) {
         (Opcode::ImplicitDef, 0, S1, true, false),
         (Opcode::AddImmediate, 0, S96, true, true),
     ] {
-        assert_eq!(rt; is_result_type(RV32, op, place, ty), result);
-        assert_eq!(rt; is_source_type(RV32, op, place, ty), source);
+        assert!(rt; is_result_type(RV32, op, place, ty) == result);
+        assert!(rt; is_source_type(RV32, op, place, ty) == source);
     }
 }
 
@@ -139,8 +139,8 @@ fn types_in_memory(rt: HostRuntime) {
         (Opcode::StoreDouble, P0, false, true),
         (Opcode::Add, S32, false, false),
     ] {
-        assert_eq!(rt; is_memory_type(RV32, op, ty), on_32);
-        assert_eq!(rt; is_memory_type(RV64, op, ty), on_64);
+        assert!(rt; is_memory_type(RV32, op, ty) == on_32);
+        assert!(rt; is_memory_type(RV64, op, ty) == on_64);
     }
 }
 
@@ -168,14 +168,14 @@ fn roles(rt: HostRuntime) {
         (Opcode::PseudoCall, false, false, false),
         (Opcode::GenericPhi, false, false, false),
     ] {
-        assert_eq!(rt; op.is_terminator(), terminator);
-        assert_eq!(rt; op.is_unconditional(), unconditional);
-        assert_eq!(rt; op.is_branch(), branch);
+        assert!(rt; op.is_terminator() == terminator);
+        assert!(rt; op.is_unconditional() == unconditional);
+        assert!(rt; op.is_branch() == branch);
     }
     assert!(rt; Opcode::PseudoCall.is_call() && !Opcode::PseudoReturn.is_call());
     assert!(rt; Opcode::Phi.is_phi() && Opcode::GenericPhi.is_phi() && !Opcode::Copy.is_phi());
     assert!(rt; Opcode::LoadDouble.is_wide() && !Opcode::LoadWord.is_wide());
-    assert_eq!(rt; Opcode::StoreWord.access(), Access::Store);
+    assert!(rt; Opcode::StoreWord.access() == Access::Store);
 }
 
 #[test]
@@ -203,13 +203,13 @@ fn routines(rt: HostRuntime) {
             Routine::Umodti3,
         ),
     ] {
-        assert_eq!(rt; routine_of(op, RV32), Some(on_32));
-        assert_eq!(rt; routine_of(op, RV64), Some(on_64));
-        assert_eq!(rt; on_64.place(), on_32.place() + 5);
-        assert_eq!(rt; Routine::at(on_64.place()), Some(on_64));
+        assert!(rt; routine_of(op, RV32) == Some(on_32));
+        assert!(rt; routine_of(op, RV64) == Some(on_64));
+        assert!(rt; on_64.place() == on_32.place() + 5);
+        assert!(rt; Routine::at(on_64.place()) == Some(on_64));
     }
-    assert_eq!(rt; routine_of(Opcode::GenericAdd, RV32), None);
-    assert_eq!(rt; Routine::at(10), None);
+    assert!(rt; routine_of(Opcode::GenericAdd, RV32) == None);
+    assert!(rt; Routine::at(10) == None);
     assert!(rt; Routine::Umodti3.name() == "__umodti3");
 }
 
@@ -226,9 +226,9 @@ fn stages(rt: HostRuntime) {
         (Opcode::PseudoBranch, false, true),
     ] {
         for stage in [Stage::Before, Stage::Legalized, Stage::Banked] {
-            assert_eq!(rt; stage.has_opcode(op), generic);
+            assert!(rt; stage.has_opcode(op) == generic);
         }
-        assert_eq!(rt; Stage::Selected.has_opcode(op), selected);
+        assert!(rt; Stage::Selected.has_opcode(op) == selected);
     }
     for (stage, generic, banked, class) in [
         (Stage::Before, true, false, false),
@@ -236,8 +236,8 @@ fn stages(rt: HostRuntime) {
         (Stage::Banked, false, true, false),
         (Stage::Selected, false, false, true),
     ] {
-        assert_eq!(rt; stage.has_kind(Kind::Generic(S32)), generic);
-        assert_eq!(rt; stage.has_kind(Kind::Banked(S32)), banked);
-        assert_eq!(rt; stage.has_kind(Kind::Class), class);
+        assert!(rt; stage.has_kind(Kind::Generic(S32)) == generic);
+        assert!(rt; stage.has_kind(Kind::Banked(S32)) == banked);
+        assert!(rt; stage.has_kind(Kind::Class) == class);
     }
 }
