@@ -1,278 +1,175 @@
-//! Functions that are valid, and the fault that is told of each that isn't.
+//! Functions as texts, and what is told of each: that it is valid, or its fault.
 
-ghost use Rattle.std.specs.Prelude.{◌≡◌, ◌<◌, ◌+◌, length, IfOk};
-
-use gi_llt::{Llt, Target};
-use gi_mir::block::Block;
-use gi_mir::formed::formed;
+use gi_llt::Target;
+use gi_mir::block::InstrId;
 use gi_mir::function::Function;
-use gi_mir::instr::Instr;
-use gi_mir::opcode::Opcode;
-use gi_mir::operand::{Flags, Kind, Operand, Reg};
 use gi_mir::stage::Stage;
-use gi_valid::Invalid;
-use gi_verify::{VerifyError, verify};
-use smallvec::SmallVec;
-use std::alloc::Global;
+use gi_mir_read::read_mir;
+use gi_verify::verify;
+use std::alloc::{AllocError, Global};
 use std::test::Fail;
 
-fn put(
-    alloc: Global,
-    function: &mut Function,
-    block: u32,
-    line: u32,
-    op: Opcode,
-    operands: &[Operand],
-) -> Result<(), Fail>
-    requires { block < length function.old.blocks }
-    ensures { length function.new.blocks ≡ length function.old.blocks }
-{
-    let instr = Instr {
-        op,
-        flags: Flags::default(),
-        operands: SmallVec::from_slice(alloc, operands)?,
-        mem: None,
-        line,
-    };
-    if !formed(&instr) {
-        return Err(Fail::from("not formed"));
+/// What stands before the lines of a case, up to line 7.
+const HEAD: &str = "---
+name: f
+body: |
+  bb.0:
+    liveins: $x10, $x11
+
+    %0:_(s32) = COPY $x10
+";
+
+/// The function of a text, or `None` where it isn't read as one function.
+fn function_of(alloc: Global, text: &str) -> Option<Function> {
+    let bytes = text.as_bytes();
+    if bytes.len() > 1000 {
+        return None;
     }
-    match function.insert_before(block, None, instr) {
+    match read_mir(alloc, bytes) {
+        Ok(module) => {
+            let mut functions = module.functions;
+            functions.pop()
+        }
+        Err(_) => None,
+    }
+}
+
+/// What is told of a function.
+fn told(alloc: Global, function: &Function) -> Result<String, AllocError> {
+    let target = Target {
+        xlen: 32,
+        zbb: false,
+    };
+    let verdict = verify(alloc, function, target, Stage::Before);
+    format!(in alloc; "{verdict:?}")
+}
+
+/// What is told of the function of a text.
+fn told_text(alloc: Global, text: &str) -> Result<String, AllocError> {
+    match function_of(alloc, text) {
+        Some(function) => told(alloc, &function),
+        None => String::from_str(alloc, "not read"),
+    }
+}
+
+#[test]
+fn tells_faults(rt: HostRuntime) -> Result<(), Fail> {
+    for (lines, wanted) in [
+        ("", "Ok(())"),
+        (
+            "\n    %1:_(s32) = G_ADD %0, %2\n",
+            "Err(Invalid { line: 9, what: NotAvailable(Use(Reg(2))) })",
+        ),
+        (
+            "    %0:_(s8) = G_CONSTANT i8 1\n    %1:_(s32) = G_ADD %0, %2\n",
+            "Err(Invalid { line: 8, what: DoubleDefinition(Reg(0)) })",
+        ),
+        ("    %1:_(s8) = G_CONSTANT i8 1\n", "Ok(())"),
+        (
+            "    %1:_(s8) = G_CONSTANT i8 1\n    %2:_(s32) = G_ADD %0, %1\n",
+            "Err(Invalid { line: 9, what: TypeMismatch(Reg(1)) })",
+        ),
+        (
+            "    %1:_(s32) = G_CONSTANT i8 5\n",
+            "Err(Invalid { line: 8, what: TypeMismatch(Reg(1)) })",
+        ),
+        (
+            "    %1:_(p0) = G_CONSTANT i64 5\n",
+            "Err(Invalid { line: 8, what: TypeMismatch(Reg(1)) })",
+        ),
+        ("    %1:_(p0) = G_CONSTANT i32 5\n", "Ok(())"),
+        ("    %1:gpr = G_CONSTANT i8 5\n", "Ok(())"),
+        ("    PseudoRET implicit $x10\n", "Ok(())"),
+        (
+            "    PseudoRET implicit $x10\n    PseudoRET implicit $x10\n",
+            "Err(Invalid { line: 9, what: Terminator })",
+        ),
+        (
+            "    G_BR %bb.4\n",
+            "Err(Invalid { line: 8, what: UnknownBlock(65540) })",
+        ),
+        ("    $x12 = COPY %0\n", "Ok(())"),
+        (
+            "    $x12 = COPY %0\n    %1:_(s32) = COPY $x13\n",
+            "Err(Invalid { line: 9, what: NotAvailable(Phys(13)) })",
+        ),
+        (
+            "    %1:_(s32) = G_SDIV %0, %0\n    %2:_(s32) = COPY $x11\n",
+            "Err(Invalid { line: 8, what: PhysicalAcross(11) })",
+        ),
+        (
+            "    G_BR %bb.1\n  bb.1:\n    %2:_(s32) = G_PHI %0, %bb.0, %3, %bb.1\n    %3:_(s32) = G_ADD %2, %0\n    G_BR %bb.1\n",
+            "Ok(())",
+        ),
+        (
+            "    G_BR %bb.1\n  bb.1:\n    %2:_(s32) = G_PHI %0, %bb.0, %3, %bb.1\n    %3:_(s32) = G_ADD %2, %3\n    G_BR %bb.1\n",
+            "Err(Invalid { line: 11, what: NotAvailable(Use(Reg(3))) })",
+        ),
+        (
+            "    G_BR %bb.1\n  bb.1:\n    %2:_(s32) = G_PHI %0, %bb.0, %3, %bb.0\n    %3:_(s32) = G_ADD %2, %0\n    G_BR %bb.1\n",
+            "Err(Invalid { line: 10, what: NotAvailable(Use(Reg(3))) })",
+        ),
+        (
+            "    G_BR %bb.1\n  bb.1:\n    %2:_(s32) = G_PHI %0, %bb.1, %3, %bb.1\n    %3:_(s32) = G_ADD %2, %0\n    G_BR %bb.1\n",
+            "Err(Invalid { line: 10, what: PhiEntries })",
+        ),
+    ] {
+        let text = format!(in rt.alloc(); "{HEAD}{lines}...\n")?;
+        let found = told_text(rt.alloc(), text.as_str())?;
+        assert_eq!(rt; found.as_str(), wanted, "{lines}");
+    }
+    Ok(())
+}
+
+#[test]
+fn tells_successors_that_are_not_there(rt: HostRuntime) -> Result<(), Fail> {
+    let text = "---
+name: f
+body: |
+  bb.0:
+    successors: %bb.1
+    liveins: $x10
+
+    %0:_(s32) = COPY $x10
+...
+";
+    let found = told_text(rt.alloc(), text)?;
+    assert!(rt; found.as_str() == "Err(Invalid { line: 8, what: UnknownBlock(65537) })");
+    Ok(())
+}
+
+/// Puts the second instruction last.
+fn put_second_last(function: &mut Function) -> Result<(), Fail> {
+    if !function.is_live(InstrId(1)) {
+        return Err(Fail::from("not live"));
+    }
+    let second = function.erase(InstrId(1));
+    if function.block_count() == 0 {
+        return Err(Fail::from("no block"));
+    }
+    match function.insert_before(0, None, second) {
         Ok(_) => Ok(()),
         Err(_) => Err(Fail::from("memory")),
     }
 }
 
-fn word(reg: u32, bits: u16) -> Operand {
-    Operand::Def(Reg(reg), Kind::Generic(Llt::Scalar(bits)))
-}
-
-/// A function of one block, with a copy of x10 on line 7.
-fn begun(alloc: Global, successors: &[u32]) -> Result<Function, Fail>
-    ensures { IfOk result (λ function. length function.blocks ≡ 1) }
-{
-    let mut function = Function::new(alloc, 0);
-    let block = Block {
-        successors: successors.to_vec(alloc)?,
-        liveins: [10, 11].to_vec(alloc)?,
-    };
-    match function.add_block(block) {
-        Ok(_) => (),
-        Err(_) => return Err(Fail::from("memory")),
-    }
-    put(
-        alloc,
-        &mut function,
-        0,
-        7,
-        Opcode::Copy,
-        &[word(0, 32), Operand::Phys(10)],
-    )?;
-    Ok(function)
-}
-
-fn told(alloc: Global, function: &Function) -> Result<(), VerifyError> {
-    let target = Target {
-        xlen: 32,
-        zbb: false,
-    };
-    verify(alloc, function, target, Stage::Before)
-}
-
-fn at(line: u32, what: Invalid) -> Result<(), VerifyError> {
-    Err(VerifyError::Invalid { line, what })
-}
-
-/// A return of x10 on a line.
-fn finish(alloc: Global, function: &mut Function, line: u32) -> Result<(), Fail>
-    requires { 0 < length function.old.blocks }
-    ensures { length function.new.blocks ≡ length function.old.blocks }
-{
-    put(
-        alloc,
-        function,
-        0,
-        line,
-        Opcode::PseudoReturn,
-        &[Operand::ImplicitUse(10)],
-    )
-}
-
-fn sum(
-    alloc: Global,
-    function: &mut Function,
-    block: u32,
-    line: u32,
-    regs: (u32, u32, u32),
-) -> Result<(), Fail>
-    requires { block < length function.old.blocks }
-    ensures { length function.new.blocks ≡ length function.old.blocks }
-{
-    let operands = [
-        word(regs.0, 32),
-        Operand::Use(Reg(regs.1)),
-        Operand::Use(Reg(regs.2)),
-    ];
-    put(alloc, function, block, line, Opcode::GenericAdd, &operands)
-}
-
+/// Of two faults that of the lower line is told, also where it stands behind the other.
 #[test]
-fn definitions(rt: HostRuntime) -> Result<(), Fail> {
-    let alloc = rt.alloc();
-    let mut function = begun(alloc, &[])?;
-    assert!(rt; told(alloc, &function) == Ok(()));
-    sum(alloc, &mut function, 0, 9, (1, 0, 2))?;
-    assert!(rt; told(alloc, &function) == at(9, Invalid::NotAvailable(Operand::Use(Reg(2)))));
-    put(
-        alloc,
-        &mut function,
-        0,
-        8,
-        Opcode::GenericConstant,
-        &[word(0, 8), Operand::Constant(8, 1)],
-    )?;
-    assert!(rt; told(alloc, &function) == at(8, Invalid::DoubleDefinition(Reg(0))));
-    Ok(())
-}
+fn tells_the_lowest_line(rt: HostRuntime) -> Result<(), Fail> {
+    let text = "---
+name: f
+body: |
+  bb.0:
+    liveins: $x10
 
-#[test]
-fn types(rt: HostRuntime) -> Result<(), Fail> {
-    let alloc = rt.alloc();
-    let mut function = begun(alloc, &[])?;
-    put(
-        alloc,
-        &mut function,
-        0,
-        8,
-        Opcode::GenericConstant,
-        &[word(1, 8), Operand::Constant(8, 1)],
-    )?;
-    assert!(rt; told(alloc, &function) == Ok(()));
-    sum(alloc, &mut function, 0, 9, (2, 0, 1))?;
-    assert!(rt; told(alloc, &function) == at(9, Invalid::TypeMismatch(Reg(1))));
-    Ok(())
-}
-
-/// What is told of a constant of so many bits in a register of this kind, on line 8.
-fn told_constant(alloc: Global, kind: Kind, bits: u16) -> Result<Result<(), VerifyError>, Fail> {
-    let mut function = begun(alloc, &[])?;
-    let operands = [Operand::Def(Reg(1), kind), Operand::Constant(bits, 5)];
-    put(
-        alloc,
-        &mut function,
-        0,
-        8,
-        Opcode::GenericConstant,
-        &operands,
-    )?;
-    Ok(told(alloc, &function))
-}
-
-#[test]
-fn constants(rt: HostRuntime) -> Result<(), Fail> {
-    let alloc = rt.alloc();
-    let mismatch = Invalid::TypeMismatch(Reg(1));
-    assert!(rt; told_constant(alloc, Kind::Generic(Llt::Scalar(32)), 8)? == at(8, mismatch));
-    assert!(rt; told_constant(alloc, Kind::Generic(Llt::Pointer), 64)? == at(8, mismatch));
-    assert!(rt; told_constant(alloc, Kind::Generic(Llt::Pointer), 32)? == Ok(()));
-    assert!(rt; told_constant(alloc, Kind::Class, 8)? == Ok(()));
-    Ok(())
-}
-
-#[test]
-fn ends(rt: HostRuntime) -> Result<(), Fail> {
-    let alloc = rt.alloc();
-    let mut function = begun(alloc, &[])?;
-    finish(alloc, &mut function, 8)?;
-    assert!(rt; told(alloc, &function) == Ok(()));
-    finish(alloc, &mut function, 9)?;
-    assert!(rt; told(alloc, &function) == at(9, Invalid::Terminator));
-    let mut astray = begun(alloc, &[])?;
-    put(
-        alloc,
-        &mut astray,
-        0,
-        8,
-        Opcode::GenericBranch,
-        &[Operand::Block(4)],
-    )?;
-    assert!(rt; told(alloc, &astray) == at(8, Invalid::UnknownBlock(4)));
-    let unknown = begun(alloc, &[1])?;
-    assert!(rt; told(alloc, &unknown) == at(7, Invalid::UnknownBlock(1)));
-    Ok(())
-}
-
-#[test]
-fn physical_registers(rt: HostRuntime) -> Result<(), Fail> {
-    let alloc = rt.alloc();
-    let mut function = begun(alloc, &[])?;
-    put(
-        alloc,
-        &mut function,
-        0,
-        8,
-        Opcode::Copy,
-        &[Operand::PhysDef(12), Operand::Use(Reg(0))],
-    )?;
-    assert!(rt; told(alloc, &function) == Ok(()));
-    put(
-        alloc,
-        &mut function,
-        0,
-        9,
-        Opcode::Copy,
-        &[word(1, 32), Operand::Phys(13)],
-    )?;
-    assert!(rt; told(alloc, &function) == at(9, Invalid::NotAvailable(Operand::Phys(13))));
-    Ok(())
-}
-
-/// A loop of block 1: `%2` is `%0` at first, and then `%3`, which is the sum of `%2` and of one of these.
-fn looping(alloc: Global, other: u32, first: u32, second: u32) -> Result<Function, Fail> {
-    let mut function = begun(alloc, &[1])?;
-    put(
-        alloc,
-        &mut function,
-        0,
-        8,
-        Opcode::GenericBranch,
-        &[Operand::Block(1)],
-    )?;
-    let block = Block {
-        successors: [1].to_vec(alloc)?,
-        liveins: Vec::new(alloc),
-    };
-    match function.add_block(block) {
-        Ok(_) => (),
-        Err(_) => return Err(Fail::from("memory")),
-    }
-    let entries = [
-        word(2, 32),
-        Operand::Use(Reg(0)),
-        Operand::Block(first),
-        Operand::Use(Reg(3)),
-        Operand::Block(second),
-    ];
-    put(alloc, &mut function, 1, 11, Opcode::GenericPhi, &entries)?;
-    sum(alloc, &mut function, 1, 12, (3, 2, other))?;
-    put(
-        alloc,
-        &mut function,
-        1,
-        13,
-        Opcode::GenericBranch,
-        &[Operand::Block(1)],
-    )?;
-    Ok(function)
-}
-
-#[test]
-fn loops(rt: HostRuntime) -> Result<(), Fail> {
-    let alloc = rt.alloc();
-    let late = Invalid::NotAvailable(Operand::Use(Reg(3)));
-    assert!(rt; told(alloc, &looping(alloc, 0, 0, 1)?) == Ok(()));
-    assert!(rt; told(alloc, &looping(alloc, 3, 0, 1)?) == at(12, late));
-    assert!(rt; told(alloc, &looping(alloc, 0, 0, 0)?) == at(11, late));
-    assert!(rt; told(alloc, &looping(alloc, 0, 1, 1)?) == at(11, Invalid::PhiEntries));
+    %0:_(s32) = COPY $x10
+    %0:_(s8) = G_CONSTANT i8 1
+    %1:_(s32) = G_ADD %0, %2
+...
+";
+    let mut function = function_of(rt.alloc(), text).ok_or("not read")?;
+    put_second_last(&mut function)?;
+    let found = told(rt.alloc(), &function)?;
+    assert!(rt; found.as_str() == "Err(Invalid { line: 8, what: DoubleDefinition(Reg(0)) })");
     Ok(())
 }
