@@ -4,6 +4,8 @@ use Rattle.gi_mir.specs.declared.typing.Letter.{Letter}
 use Rattle.gi_mir.specs.declared.typing.Letter.TheVariants as letter
 use Rattle.gi_mir.specs.declared.typing.Class.{Class}
 use Rattle.gi_mir.specs.declared.typing.Class.TheVariants as class
+use Rattle.gi_mir.specs.declared.typing.Signature.{Signature}
+use Rattle.gi_mir.specs.declared.typing.Signature.TheVariants as signature
 use Rattle.gi_mir.specs.declared.typing.Relation.{Relation}
 use Rattle.gi_mir.specs.declared.typing.Relation.TheVariants as relation
 
@@ -108,3 +110,26 @@ store = typed [] (letter.A ∷ letter.Pointer ∷ []) class.Any class.Any
 -- `G_BRCOND %a(A), %bb.N`
 abbrev pub one_condition : TypingData
 one_condition = typed [] (letter.A ∷ []) class.Condition class.Condition
+
+-- the typing of each signature
+abbrev pub typing_by : Signature → TypingData
+typing_by signature.NoTypes = no_types
+typing_by (signature.NoSources a) = no_sources a
+typing_by (signature.OneAlike a) = one_alike a
+typing_by (signature.TwoAlike a) = two_alike a
+typing_by (signature.ThreeAlike a) = three_alike a
+typing_by signature.OnePointer = one_pointer
+typing_by (signature.FromPointer a) = from_pointer a
+typing_by (signature.ToPointer a) = to_pointer a
+typing_by signature.Truncation = truncation
+typing_by signature.Extension = extension
+typing_by signature.PointerSum = pointer_sum
+typing_by signature.Comparison = comparison
+typing_by signature.Selection = selection
+typing_by signature.CarryOut = carry_out
+typing_by signature.CarryThrough = carry_through
+typing_by signature.Merge = merge
+typing_by signature.Unmerge = unmerge
+typing_by signature.Joining = joining
+typing_by signature.Store = store
+typing_by signature.OneCondition = one_condition

@@ -1,11 +1,7 @@
 //! Entries of the table of opcodes.
 
-ghost use Rattle.std.specs.Prelude.{◌≡◌, map};
-ghost use Rattle.gi_mir.specs.Entries as entries;
-
 use crate::row::{Access, Form};
-use crate::typing::Typing;
-use std::marker::Model;
+use crate::typing::Signature;
 
 /// The types that a value has in memory.
 #[derive(Clone, Copy, Debug, PartialEq, Eq)]
@@ -53,98 +49,5 @@ pub struct Entry {
     /// Whether a machine of 64 bits alone has it.
     pub is_wide: bool,
     /// None in an instruction of the machine, of whose registers nothing is demanded.
-    pub typing: Option<Typing>,
-}
-
-impl Model for Entry {
-    ghost use Rattle.std.specs.Prelude.{map};
-    ghost use Rattle.gi_mir.specs.Entries.{EntryData};
-
-    ghost Value = { EntryData };
-
-    ghost view = { λ e. record { word = e.word.now; rows = map (λ row. row.now) e.rows.now; access = e.access; memory = e.memory; role = e.role; standing = e.standing; is_wide = e.is_wide; typing = e.typing } };
-}
-
-fn plain(
-    standing: Standing,
-    word: &'static str,
-    rows: &'static [&'static [Form]],
-    typing: Option<Typing>,
-) -> Entry
-    ensures { result ≡ entries.plain standing word.now (map (λ row. row.now) rows.now) typing }
-{
-    Entry {
-        word,
-        rows,
-        access: Access::Neither,
-        memory: InMemory::Nothing,
-        role: Role::Plain,
-        standing,
-        is_wide: false,
-        typing,
-    }
-}
-
-/// An opcode that stands before selection.
-pub fn generic(word: &'static str, rows: &'static [&'static [Form]], typing: Typing) -> Entry
-    ensures { result ≡ entries.generic word.now (map (λ row. row.now) rows.now) typing }
-{
-    plain(Standing::Generic, word, rows, Some(typing))
-}
-
-/// An opcode that stands in every stage.
-pub fn shared(word: &'static str, rows: &'static [&'static [Form]], typing: Typing) -> Entry
-    ensures { result ≡ entries.shared word.now (map (λ row. row.now) rows.now) typing }
-{
-    plain(Standing::Both, word, rows, Some(typing))
-}
-
-/// An opcode that stands after selection, with types.
-pub fn selected(word: &'static str, rows: &'static [&'static [Form]], typing: Typing) -> Entry
-    ensures { result ≡ entries.selected word.now (map (λ row. row.now) rows.now) typing }
-{
-    plain(Standing::Target, word, rows, Some(typing))
-}
-
-/// An instruction of the machine.
-pub fn machine(word: &'static str, rows: &'static [&'static [Form]]) -> Entry
-    ensures { result ≡ entries.machine word.now (map (λ row. row.now) rows.now) }
-{
-    plain(Standing::Target, word, rows, None)
-}
-
-impl Entry {
-    /// The same with a load's memory operand.
-    pub fn loading(mut self, memory: InMemory) -> Entry
-        ensures { result ≡ entries.loading memory self }
-    {
-        self.access = Access::Load;
-        self.memory = memory;
-        self
-    }
-
-    /// The same with a store's memory operand.
-    pub fn storing(mut self, memory: InMemory) -> Entry
-        ensures { result ≡ entries.storing memory self }
-    {
-        self.access = Access::Store;
-        self.memory = memory;
-        self
-    }
-
-    /// The same with another role.
-    pub fn acting(mut self, role: Role) -> Entry
-        ensures { result ≡ entries.acting role self }
-    {
-        self.role = role;
-        self
-    }
-
-    /// The same on a machine of 64 bits alone.
-    pub fn wide(mut self) -> Entry
-        ensures { result ≡ entries.wide self }
-    {
-        self.is_wide = true;
-        self
-    }
+    pub signature: Option<Signature>,
 }

@@ -1,16 +1,20 @@
 //! The table of opcodes. All that is asked of an opcode is read from it.
 
-ghost use Rattle.std.specs.Prelude.{◌≡◌, ◌≢◌, map, IfSome, IfNone};
-ghost use Rattle.gi_mir.specs.Row.{entry_of, word_of, rows_of, access_of, memory_of, role_of, standing_of, typing_of, is_generic_op, is_terminator_op, is_unconditional_op, is_branch_op, is_call_op, is_phi_op, is_wide_op, opcode_of};
+ghost use Rattle.std.specs.Prelude.{◌≡◌, ◌≢◌, map, option_map, IfSome, IfNone};
+ghost use Rattle.gi_mir.specs.Typings.{typing_by};
+ghost use Rattle.gi_mir.specs.Row.{word_of, rows_of, access_of, memory_of, role_of, standing_of, typing_of, is_generic_op, is_terminator_op, is_unconditional_op, is_branch_op, is_call_op, is_phi_op, is_wide_op, opcode_of};
 ghost use Rattle.gi_mir.specs.declared.opcode.Opcode.{Opcode};
 
-use crate::entry::{Entry, InMemory, Role, Standing, generic, machine, selected, shared};
+use crate::entry::InMemory::{Bits, Extended, Nothing, Value};
+use crate::entry::{Entry, InMemory, Role, Standing};
 use crate::opcode::Opcode;
-use crate::typing::{
-    Class, Typing, carry_out, carry_through, comparison, extension, from_pointer, joining, merge,
-    no_sources, no_types, one_alike, one_condition, one_pointer, pointer_sum, selection, store,
-    three_alike, to_pointer, truncation, two_alike, unmerge,
+use crate::typing::Class::{Any, Register, Rotatable, Scalar, Swappable, Wide};
+use crate::typing::Signature::{
+    CarryOut, CarryThrough, Comparison, Extension, FromPointer, Joining, Merge, NoSources, NoTypes,
+    OneAlike, OneCondition, OnePointer, PointerSum, Selection, Store, ThreeAlike, ToPointer,
+    Truncation, TwoAlike, Unmerge,
 };
+use crate::typing::Typing;
 
 /// What may stand in a place of an instruction.
 #[derive(Clone, Copy, Debug, PartialEq, Eq)]
@@ -275,223 +279,999 @@ static OPCODES: [Opcode; 124] = [
     Opcode::PseudoBranch,
 ];
 
-impl Opcode {
-    /// What is known of this opcode: the table.
-    pub fn entry(self) -> Entry
-        ensures { result ≡ entry_of self }
-    {
-        match self {
-            // in every stage, and two of them after selection
-            Opcode::Copy => shared("COPY", COPY, one_alike(Class::Any)),
-            Opcode::Phi => selected("PHI", PHI, joining()).acting(Role::Phi),
-            Opcode::ImplicitDef => selected("IMPLICIT_DEF", DEFINED, no_sources(Class::Any)),
-            Opcode::PseudoCall => shared("PseudoCALL", CALL, no_types()).acting(Role::Call),
-            Opcode::PseudoReturn => shared("PseudoRET", RETURNED, no_types()).acting(Role::Return),
-            Opcode::AdjustCallStackDown => shared("ADJCALLSTACKDOWN", ADJUSTED, no_types()),
-            Opcode::AdjustCallStackUp => shared("ADJCALLSTACKUP", ADJUSTED, no_types()),
-            // generic: constants, addresses and casts
-            Opcode::GenericImplicitDef => generic(
-                "G_IMPLICIT_DEF",
-                DEFINED,
-                no_sources(Class::Any),
-            ),
-            Opcode::GenericConstant => generic("G_CONSTANT", CONSTANT, no_sources(Class::Any)),
-            Opcode::GenericFreeze => generic("G_FREEZE", UNARY, one_alike(Class::Any)),
-            Opcode::GenericFrameIndex => generic("G_FRAME_INDEX", FRAME_INDEX, one_pointer()),
-            Opcode::GenericGlobalValue => generic("G_GLOBAL_VALUE", GLOBAL_VALUE, one_pointer()),
-            Opcode::GenericPointerAdd => generic("G_PTR_ADD", SHIFT, pointer_sum()),
-            Opcode::GenericPointerToInteger => generic(
-                "G_PTRTOINT",
-                UNARY_TYPED,
-                from_pointer(Class::Scalar),
-            ),
-            Opcode::GenericIntegerToPointer => generic(
-                "G_INTTOPTR",
-                UNARY_TYPED,
-                to_pointer(Class::Scalar),
-            ),
-            Opcode::GenericTruncate => generic("G_TRUNC", UNARY_TYPED, truncation()),
-            Opcode::GenericAnyExtend => generic("G_ANYEXT", UNARY_TYPED, extension()),
-            Opcode::GenericZeroExtend => generic("G_ZEXT", UNARY_TYPED, extension()),
-            Opcode::GenericSignExtend => generic("G_SEXT", UNARY_TYPED, extension()),
-            Opcode::GenericSignExtendInRegister => generic(
-                "G_SEXT_INREG",
-                IN_REGISTER,
-                one_alike(Class::Wide),
-            ),
-            Opcode::GenericMergeValues => generic("G_MERGE_VALUES", MERGE, merge()),
-            Opcode::GenericUnmergeValues => generic("G_UNMERGE_VALUES", UNMERGE, unmerge()),
-            // generic: arithmetic, logic and shifts
-            Opcode::GenericAdd => generic("G_ADD", BINARY, two_alike(Class::Scalar)),
-            Opcode::GenericSubtract => generic("G_SUB", BINARY, two_alike(Class::Scalar)),
-            Opcode::GenericMultiply => generic("G_MUL", BINARY, two_alike(Class::Scalar)),
-            Opcode::GenericAnd => generic("G_AND", BINARY, two_alike(Class::Scalar)),
-            Opcode::GenericOr => generic("G_OR", BINARY, two_alike(Class::Scalar)),
-            Opcode::GenericXor => generic("G_XOR", BINARY, two_alike(Class::Scalar)),
-            Opcode::GenericUnsignedDivide => generic("G_UDIV", BINARY, two_alike(Class::Scalar)),
-            Opcode::GenericSignedDivide => generic("G_SDIV", BINARY, two_alike(Class::Scalar)),
-            Opcode::GenericUnsignedRemainder => generic("G_UREM", BINARY, two_alike(Class::Scalar)),
-            Opcode::GenericSignedRemainder => generic("G_SREM", BINARY, two_alike(Class::Scalar)),
-            Opcode::GenericShiftLeft => generic("G_SHL", SHIFT, two_alike(Class::Scalar)),
-            Opcode::GenericLogicalShiftRight => generic("G_LSHR", SHIFT, two_alike(Class::Scalar)),
-            Opcode::GenericArithmeticShiftRight => generic(
-                "G_ASHR",
-                SHIFT,
-                two_alike(Class::Scalar),
-            ),
-            Opcode::GenericUnsignedAddOverflow => generic("G_UADDO", OVERFLOW, carry_out()),
-            Opcode::GenericUnsignedSubtractOverflow => generic("G_USUBO", OVERFLOW, carry_out()),
-            Opcode::GenericUnsignedAddCarry => generic("G_UADDE", CARRY, carry_through()),
-            Opcode::GenericUnsignedSubtractBorrow => generic("G_USUBE", CARRY, carry_through()),
-            Opcode::GenericUnsignedMultiplyHigh => generic(
-                "G_UMULH",
-                BINARY,
-                two_alike(Class::Register),
-            ),
-            Opcode::GenericSignedMultiplyHigh => generic(
-                "G_SMULH",
-                BINARY,
-                two_alike(Class::Register),
-            ),
-            Opcode::GenericCompare => generic("G_ICMP", COMPARE, comparison()),
-            Opcode::GenericSelect => generic("G_SELECT", SELECT, selection()),
-            Opcode::GenericSignedMinimum => generic("G_SMIN", BINARY, two_alike(Class::Scalar)),
-            Opcode::GenericSignedMaximum => generic("G_SMAX", BINARY, two_alike(Class::Scalar)),
-            Opcode::GenericUnsignedMinimum => generic("G_UMIN", BINARY, two_alike(Class::Scalar)),
-            Opcode::GenericUnsignedMaximum => generic("G_UMAX", BINARY, two_alike(Class::Scalar)),
-            Opcode::GenericAbsolute => generic("G_ABS", UNARY, one_alike(Class::Scalar)),
-            Opcode::GenericCountLeadingZeros => generic(
-                "G_CTLZ",
-                UNARY_TYPED,
-                one_alike(Class::Scalar),
-            ),
-            Opcode::GenericCountTrailingZeros => generic(
-                "G_CTTZ",
-                UNARY_TYPED,
-                one_alike(Class::Scalar),
-            ),
-            Opcode::GenericPopulationCount => generic(
-                "G_CTPOP",
-                UNARY_TYPED,
-                one_alike(Class::Scalar),
-            ),
-            Opcode::GenericCountLeadingZerosNotOfZero => generic(
-                "G_CTLZ_ZERO_UNDEF",
-                UNARY_TYPED,
-                one_alike(Class::Scalar),
-            ),
-            Opcode::GenericCountTrailingZerosNotOfZero => generic(
-                "G_CTTZ_ZERO_UNDEF",
-                UNARY_TYPED,
-                one_alike(Class::Scalar),
-            ),
-            Opcode::GenericByteSwap => generic("G_BSWAP", UNARY, one_alike(Class::Swappable)),
-            Opcode::GenericFunnelShiftLeft => generic(
-                "G_FSHL",
-                FUNNEL,
-                three_alike(Class::Rotatable),
-            ),
-            Opcode::GenericFunnelShiftRight => generic(
-                "G_FSHR",
-                FUNNEL,
-                three_alike(Class::Rotatable),
-            ),
-            Opcode::GenericRotateLeft => generic("G_ROTL", SHIFT, two_alike(Class::Rotatable)),
-            Opcode::GenericRotateRight => generic("G_ROTR", SHIFT, two_alike(Class::Rotatable)),
-            // generic: memory, phis and branches
-            Opcode::GenericLoad => generic("G_LOAD", UNARY_TYPED, from_pointer(Class::Any)).loading(
-                InMemory::Value,
-            ),
-            Opcode::GenericZeroExtendLoad => generic(
-                "G_ZEXTLOAD",
-                UNARY_TYPED,
-                from_pointer(Class::Scalar),
-            ).loading(InMemory::Extended),
-            Opcode::GenericSignExtendLoad => generic(
-                "G_SEXTLOAD",
-                UNARY_TYPED,
-                from_pointer(Class::Scalar),
-            ).loading(InMemory::Extended),
-            Opcode::GenericStore => generic("G_STORE", STORE, store()).storing(InMemory::Value),
-            Opcode::GenericPhi => generic("G_PHI", PHI, joining()).acting(Role::Phi),
-            Opcode::GenericBranch => generic("G_BR", BRANCH, no_types()).acting(Role::Jump),
-            Opcode::GenericBranchConditional => generic(
-                "G_BRCOND",
-                BRANCH_CONDITIONAL,
-                one_condition(),
-            ).acting(Role::Branch),
-            // target: two registers
-            Opcode::Add => machine("ADD", REGISTERS),
-            Opcode::Subtract => machine("SUB", REGISTERS),
-            Opcode::And => machine("AND", REGISTERS),
-            Opcode::Or => machine("OR", REGISTERS),
-            Opcode::Xor => machine("XOR", REGISTERS),
-            Opcode::SetLess => machine("SLT", REGISTERS),
-            Opcode::SetLessUnsigned => machine("SLTU", REGISTERS),
-            Opcode::ShiftLeftLogical => machine("SLL", REGISTERS),
-            Opcode::ShiftRightLogical => machine("SRL", REGISTERS),
-            Opcode::ShiftRightArithmetic => machine("SRA", REGISTERS),
-            Opcode::Multiply => machine("MUL", REGISTERS),
-            Opcode::MultiplyHigh => machine("MULH", REGISTERS),
-            Opcode::MultiplyHighUnsigned => machine("MULHU", REGISTERS),
-            Opcode::Divide => machine("DIV", REGISTERS),
-            Opcode::DivideUnsigned => machine("DIVU", REGISTERS),
-            Opcode::Remainder => machine("REM", REGISTERS),
-            Opcode::RemainderUnsigned => machine("REMU", REGISTERS),
-            // target: a register and an immediate
-            Opcode::AddImmediate => machine("ADDI", ADD_IMMEDIATE),
-            Opcode::SetLessImmediate => machine("SLTI", IMMEDIATE),
-            Opcode::SetLessImmediateUnsigned => machine("SLTIU", IMMEDIATE),
-            Opcode::AndImmediate => machine("ANDI", IMMEDIATE),
-            Opcode::OrImmediate => machine("ORI", IMMEDIATE),
-            Opcode::XorImmediate => machine("XORI", IMMEDIATE),
-            Opcode::ShiftLeftLogicalImmediate => machine("SLLI", IMMEDIATE),
-            Opcode::ShiftRightLogicalImmediate => machine("SRLI", IMMEDIATE),
-            Opcode::ShiftRightArithmeticImmediate => machine("SRAI", IMMEDIATE),
-            Opcode::LoadUpperImmediate => machine("LUI", UPPER),
-            // target, 64 bits alone: words of 32 bits
-            Opcode::AddWord => machine("ADDW", REGISTERS).wide(),
-            Opcode::SubtractWord => machine("SUBW", REGISTERS).wide(),
-            Opcode::MultiplyWord => machine("MULW", REGISTERS).wide(),
-            Opcode::ShiftLeftLogicalWord => machine("SLLW", REGISTERS).wide(),
-            Opcode::ShiftRightLogicalWord => machine("SRLW", REGISTERS).wide(),
-            Opcode::ShiftRightArithmeticWord => machine("SRAW", REGISTERS).wide(),
-            Opcode::DivideWord => machine("DIVW", REGISTERS).wide(),
-            Opcode::DivideUnsignedWord => machine("DIVUW", REGISTERS).wide(),
-            Opcode::RemainderWord => machine("REMW", REGISTERS).wide(),
-            Opcode::RemainderUnsignedWord => machine("REMUW", REGISTERS).wide(),
-            Opcode::AddImmediateWord => machine("ADDIW", IMMEDIATE).wide(),
-            Opcode::ShiftLeftLogicalImmediateWord => machine("SLLIW", IMMEDIATE).wide(),
-            Opcode::ShiftRightLogicalImmediateWord => machine("SRLIW", IMMEDIATE).wide(),
-            Opcode::ShiftRightArithmeticImmediateWord => machine("SRAIW", IMMEDIATE).wide(),
-            // target: loads, stores and branches
-            Opcode::LoadByte => machine("LB", MACHINE_LOAD).loading(InMemory::Bits(8)),
-            Opcode::LoadHalf => machine("LH", MACHINE_LOAD).loading(InMemory::Bits(16)),
-            Opcode::LoadWord => machine("LW", MACHINE_LOAD).loading(InMemory::Bits(32)),
-            Opcode::LoadByteUnsigned => machine("LBU", MACHINE_LOAD).loading(InMemory::Bits(8)),
-            Opcode::LoadHalfUnsigned => machine("LHU", MACHINE_LOAD).loading(InMemory::Bits(16)),
-            Opcode::LoadWordUnsigned => machine("LWU", MACHINE_LOAD)
-                .loading(InMemory::Bits(32))
-                .wide(),
-            Opcode::LoadDouble => machine("LD", MACHINE_LOAD)
-                .loading(InMemory::Bits(64))
-                .wide(),
-            Opcode::StoreByte => machine("SB", MACHINE_STORE).storing(InMemory::Bits(8)),
-            Opcode::StoreHalf => machine("SH", MACHINE_STORE).storing(InMemory::Bits(16)),
-            Opcode::StoreWord => machine("SW", MACHINE_STORE).storing(InMemory::Bits(32)),
-            Opcode::StoreDouble => machine("SD", MACHINE_STORE)
-                .storing(InMemory::Bits(64))
-                .wide(),
-            Opcode::BranchEqual => machine("BEQ", MACHINE_BRANCH).acting(Role::Branch),
-            Opcode::BranchNotEqual => machine("BNE", MACHINE_BRANCH).acting(Role::Branch),
-            Opcode::BranchLess => machine("BLT", MACHINE_BRANCH).acting(Role::Branch),
-            Opcode::BranchGreaterEqual => machine("BGE", MACHINE_BRANCH).acting(Role::Branch),
-            Opcode::BranchLessUnsigned => machine("BLTU", MACHINE_BRANCH).acting(Role::Branch),
-            Opcode::BranchGreaterEqualUnsigned => machine("BGEU", MACHINE_BRANCH).acting(
-                Role::Branch,
-            ),
-            Opcode::PseudoBranch => machine("PseudoBR", BRANCH).acting(Role::Jump),
+/// An entry of the table: an opcode's word, the rows of its operands, what it does with memory, the types that a value has
+/// there, its role, where it stands, whether a machine of 64 bits alone has it, and the types of its registers.
+macro_rules! entry {
+    ($word:literal, $rows:ident, $access:ident, $memory:expr, $role:ident, $standing:ident, $wide:literal, $signature:expr) => {
+        Entry {
+            word: $word,
+            rows: $rows,
+            access: Access::$access,
+            memory: $memory,
+            role: Role::$role,
+            standing: Standing::$standing,
+            is_wide: $wide,
+            signature: $signature,
         }
+    };
+}
+
+/// The table, in the order of `Opcode`.
+static ENTRIES: [Entry; 124] = [
+    // in every stage, and two of them after selection
+    entry!(
+        "COPY",
+        COPY,
+        Neither,
+        Nothing,
+        Plain,
+        Both,
+        false,
+        Some(OneAlike(Any))
+    ),
+    entry!(
+        "PHI",
+        PHI,
+        Neither,
+        Nothing,
+        Phi,
+        Target,
+        false,
+        Some(Joining)
+    ),
+    entry!(
+        "IMPLICIT_DEF",
+        DEFINED,
+        Neither,
+        Nothing,
+        Plain,
+        Target,
+        false,
+        Some(NoSources(Any))
+    ),
+    entry!(
+        "PseudoCALL",
+        CALL,
+        Neither,
+        Nothing,
+        Call,
+        Both,
+        false,
+        Some(NoTypes)
+    ),
+    entry!(
+        "PseudoRET",
+        RETURNED,
+        Neither,
+        Nothing,
+        Return,
+        Both,
+        false,
+        Some(NoTypes)
+    ),
+    entry!(
+        "ADJCALLSTACKDOWN",
+        ADJUSTED,
+        Neither,
+        Nothing,
+        Plain,
+        Both,
+        false,
+        Some(NoTypes)
+    ),
+    entry!(
+        "ADJCALLSTACKUP",
+        ADJUSTED,
+        Neither,
+        Nothing,
+        Plain,
+        Both,
+        false,
+        Some(NoTypes)
+    ),
+    // generic: constants, addresses and casts
+    entry!(
+        "G_IMPLICIT_DEF",
+        DEFINED,
+        Neither,
+        Nothing,
+        Plain,
+        Generic,
+        false,
+        Some(NoSources(Any))
+    ),
+    entry!(
+        "G_CONSTANT",
+        CONSTANT,
+        Neither,
+        Nothing,
+        Plain,
+        Generic,
+        false,
+        Some(NoSources(Any))
+    ),
+    entry!(
+        "G_FREEZE",
+        UNARY,
+        Neither,
+        Nothing,
+        Plain,
+        Generic,
+        false,
+        Some(OneAlike(Any))
+    ),
+    entry!(
+        "G_FRAME_INDEX",
+        FRAME_INDEX,
+        Neither,
+        Nothing,
+        Plain,
+        Generic,
+        false,
+        Some(OnePointer)
+    ),
+    entry!(
+        "G_GLOBAL_VALUE",
+        GLOBAL_VALUE,
+        Neither,
+        Nothing,
+        Plain,
+        Generic,
+        false,
+        Some(OnePointer)
+    ),
+    entry!(
+        "G_PTR_ADD",
+        SHIFT,
+        Neither,
+        Nothing,
+        Plain,
+        Generic,
+        false,
+        Some(PointerSum)
+    ),
+    entry!(
+        "G_PTRTOINT",
+        UNARY_TYPED,
+        Neither,
+        Nothing,
+        Plain,
+        Generic,
+        false,
+        Some(FromPointer(Scalar))
+    ),
+    entry!(
+        "G_INTTOPTR",
+        UNARY_TYPED,
+        Neither,
+        Nothing,
+        Plain,
+        Generic,
+        false,
+        Some(ToPointer(Scalar))
+    ),
+    entry!(
+        "G_TRUNC",
+        UNARY_TYPED,
+        Neither,
+        Nothing,
+        Plain,
+        Generic,
+        false,
+        Some(Truncation)
+    ),
+    entry!(
+        "G_ANYEXT",
+        UNARY_TYPED,
+        Neither,
+        Nothing,
+        Plain,
+        Generic,
+        false,
+        Some(Extension)
+    ),
+    entry!(
+        "G_ZEXT",
+        UNARY_TYPED,
+        Neither,
+        Nothing,
+        Plain,
+        Generic,
+        false,
+        Some(Extension)
+    ),
+    entry!(
+        "G_SEXT",
+        UNARY_TYPED,
+        Neither,
+        Nothing,
+        Plain,
+        Generic,
+        false,
+        Some(Extension)
+    ),
+    entry!(
+        "G_SEXT_INREG",
+        IN_REGISTER,
+        Neither,
+        Nothing,
+        Plain,
+        Generic,
+        false,
+        Some(OneAlike(Wide))
+    ),
+    entry!(
+        "G_MERGE_VALUES",
+        MERGE,
+        Neither,
+        Nothing,
+        Plain,
+        Generic,
+        false,
+        Some(Merge)
+    ),
+    entry!(
+        "G_UNMERGE_VALUES",
+        UNMERGE,
+        Neither,
+        Nothing,
+        Plain,
+        Generic,
+        false,
+        Some(Unmerge)
+    ),
+    // generic: arithmetic, logic and shifts
+    entry!(
+        "G_ADD",
+        BINARY,
+        Neither,
+        Nothing,
+        Plain,
+        Generic,
+        false,
+        Some(TwoAlike(Scalar))
+    ),
+    entry!(
+        "G_SUB",
+        BINARY,
+        Neither,
+        Nothing,
+        Plain,
+        Generic,
+        false,
+        Some(TwoAlike(Scalar))
+    ),
+    entry!(
+        "G_MUL",
+        BINARY,
+        Neither,
+        Nothing,
+        Plain,
+        Generic,
+        false,
+        Some(TwoAlike(Scalar))
+    ),
+    entry!(
+        "G_AND",
+        BINARY,
+        Neither,
+        Nothing,
+        Plain,
+        Generic,
+        false,
+        Some(TwoAlike(Scalar))
+    ),
+    entry!(
+        "G_OR",
+        BINARY,
+        Neither,
+        Nothing,
+        Plain,
+        Generic,
+        false,
+        Some(TwoAlike(Scalar))
+    ),
+    entry!(
+        "G_XOR",
+        BINARY,
+        Neither,
+        Nothing,
+        Plain,
+        Generic,
+        false,
+        Some(TwoAlike(Scalar))
+    ),
+    entry!(
+        "G_UDIV",
+        BINARY,
+        Neither,
+        Nothing,
+        Plain,
+        Generic,
+        false,
+        Some(TwoAlike(Scalar))
+    ),
+    entry!(
+        "G_SDIV",
+        BINARY,
+        Neither,
+        Nothing,
+        Plain,
+        Generic,
+        false,
+        Some(TwoAlike(Scalar))
+    ),
+    entry!(
+        "G_UREM",
+        BINARY,
+        Neither,
+        Nothing,
+        Plain,
+        Generic,
+        false,
+        Some(TwoAlike(Scalar))
+    ),
+    entry!(
+        "G_SREM",
+        BINARY,
+        Neither,
+        Nothing,
+        Plain,
+        Generic,
+        false,
+        Some(TwoAlike(Scalar))
+    ),
+    entry!(
+        "G_SHL",
+        SHIFT,
+        Neither,
+        Nothing,
+        Plain,
+        Generic,
+        false,
+        Some(TwoAlike(Scalar))
+    ),
+    entry!(
+        "G_LSHR",
+        SHIFT,
+        Neither,
+        Nothing,
+        Plain,
+        Generic,
+        false,
+        Some(TwoAlike(Scalar))
+    ),
+    entry!(
+        "G_ASHR",
+        SHIFT,
+        Neither,
+        Nothing,
+        Plain,
+        Generic,
+        false,
+        Some(TwoAlike(Scalar))
+    ),
+    entry!(
+        "G_UADDO",
+        OVERFLOW,
+        Neither,
+        Nothing,
+        Plain,
+        Generic,
+        false,
+        Some(CarryOut)
+    ),
+    entry!(
+        "G_USUBO",
+        OVERFLOW,
+        Neither,
+        Nothing,
+        Plain,
+        Generic,
+        false,
+        Some(CarryOut)
+    ),
+    entry!(
+        "G_UADDE",
+        CARRY,
+        Neither,
+        Nothing,
+        Plain,
+        Generic,
+        false,
+        Some(CarryThrough)
+    ),
+    entry!(
+        "G_USUBE",
+        CARRY,
+        Neither,
+        Nothing,
+        Plain,
+        Generic,
+        false,
+        Some(CarryThrough)
+    ),
+    entry!(
+        "G_UMULH",
+        BINARY,
+        Neither,
+        Nothing,
+        Plain,
+        Generic,
+        false,
+        Some(TwoAlike(Register))
+    ),
+    entry!(
+        "G_SMULH",
+        BINARY,
+        Neither,
+        Nothing,
+        Plain,
+        Generic,
+        false,
+        Some(TwoAlike(Register))
+    ),
+    entry!(
+        "G_ICMP",
+        COMPARE,
+        Neither,
+        Nothing,
+        Plain,
+        Generic,
+        false,
+        Some(Comparison)
+    ),
+    entry!(
+        "G_SELECT",
+        SELECT,
+        Neither,
+        Nothing,
+        Plain,
+        Generic,
+        false,
+        Some(Selection)
+    ),
+    entry!(
+        "G_SMIN",
+        BINARY,
+        Neither,
+        Nothing,
+        Plain,
+        Generic,
+        false,
+        Some(TwoAlike(Scalar))
+    ),
+    entry!(
+        "G_SMAX",
+        BINARY,
+        Neither,
+        Nothing,
+        Plain,
+        Generic,
+        false,
+        Some(TwoAlike(Scalar))
+    ),
+    entry!(
+        "G_UMIN",
+        BINARY,
+        Neither,
+        Nothing,
+        Plain,
+        Generic,
+        false,
+        Some(TwoAlike(Scalar))
+    ),
+    entry!(
+        "G_UMAX",
+        BINARY,
+        Neither,
+        Nothing,
+        Plain,
+        Generic,
+        false,
+        Some(TwoAlike(Scalar))
+    ),
+    entry!(
+        "G_ABS",
+        UNARY,
+        Neither,
+        Nothing,
+        Plain,
+        Generic,
+        false,
+        Some(OneAlike(Scalar))
+    ),
+    entry!(
+        "G_CTLZ",
+        UNARY_TYPED,
+        Neither,
+        Nothing,
+        Plain,
+        Generic,
+        false,
+        Some(OneAlike(Scalar))
+    ),
+    entry!(
+        "G_CTTZ",
+        UNARY_TYPED,
+        Neither,
+        Nothing,
+        Plain,
+        Generic,
+        false,
+        Some(OneAlike(Scalar))
+    ),
+    entry!(
+        "G_CTPOP",
+        UNARY_TYPED,
+        Neither,
+        Nothing,
+        Plain,
+        Generic,
+        false,
+        Some(OneAlike(Scalar))
+    ),
+    entry!(
+        "G_CTLZ_ZERO_UNDEF",
+        UNARY_TYPED,
+        Neither,
+        Nothing,
+        Plain,
+        Generic,
+        false,
+        Some(OneAlike(Scalar))
+    ),
+    entry!(
+        "G_CTTZ_ZERO_UNDEF",
+        UNARY_TYPED,
+        Neither,
+        Nothing,
+        Plain,
+        Generic,
+        false,
+        Some(OneAlike(Scalar))
+    ),
+    entry!(
+        "G_BSWAP",
+        UNARY,
+        Neither,
+        Nothing,
+        Plain,
+        Generic,
+        false,
+        Some(OneAlike(Swappable))
+    ),
+    entry!(
+        "G_FSHL",
+        FUNNEL,
+        Neither,
+        Nothing,
+        Plain,
+        Generic,
+        false,
+        Some(ThreeAlike(Rotatable))
+    ),
+    entry!(
+        "G_FSHR",
+        FUNNEL,
+        Neither,
+        Nothing,
+        Plain,
+        Generic,
+        false,
+        Some(ThreeAlike(Rotatable))
+    ),
+    entry!(
+        "G_ROTL",
+        SHIFT,
+        Neither,
+        Nothing,
+        Plain,
+        Generic,
+        false,
+        Some(TwoAlike(Rotatable))
+    ),
+    entry!(
+        "G_ROTR",
+        SHIFT,
+        Neither,
+        Nothing,
+        Plain,
+        Generic,
+        false,
+        Some(TwoAlike(Rotatable))
+    ),
+    // generic: memory, phis and branches
+    entry!(
+        "G_LOAD",
+        UNARY_TYPED,
+        Load,
+        Value,
+        Plain,
+        Generic,
+        false,
+        Some(FromPointer(Any))
+    ),
+    entry!(
+        "G_ZEXTLOAD",
+        UNARY_TYPED,
+        Load,
+        Extended,
+        Plain,
+        Generic,
+        false,
+        Some(FromPointer(Scalar))
+    ),
+    entry!(
+        "G_SEXTLOAD",
+        UNARY_TYPED,
+        Load,
+        Extended,
+        Plain,
+        Generic,
+        false,
+        Some(FromPointer(Scalar))
+    ),
+    entry!(
+        "G_STORE",
+        STORE,
+        Store,
+        Value,
+        Plain,
+        Generic,
+        false,
+        Some(Store)
+    ),
+    entry!(
+        "G_PHI",
+        PHI,
+        Neither,
+        Nothing,
+        Phi,
+        Generic,
+        false,
+        Some(Joining)
+    ),
+    entry!(
+        "G_BR",
+        BRANCH,
+        Neither,
+        Nothing,
+        Jump,
+        Generic,
+        false,
+        Some(NoTypes)
+    ),
+    entry!(
+        "G_BRCOND",
+        BRANCH_CONDITIONAL,
+        Neither,
+        Nothing,
+        Branch,
+        Generic,
+        false,
+        Some(OneCondition)
+    ),
+    // target: two registers
+    entry!(
+        "ADD", REGISTERS, Neither, Nothing, Plain, Target, false, None
+    ),
+    entry!(
+        "SUB", REGISTERS, Neither, Nothing, Plain, Target, false, None
+    ),
+    entry!(
+        "AND", REGISTERS, Neither, Nothing, Plain, Target, false, None
+    ),
+    entry!(
+        "OR", REGISTERS, Neither, Nothing, Plain, Target, false, None
+    ),
+    entry!(
+        "XOR", REGISTERS, Neither, Nothing, Plain, Target, false, None
+    ),
+    entry!(
+        "SLT", REGISTERS, Neither, Nothing, Plain, Target, false, None
+    ),
+    entry!(
+        "SLTU", REGISTERS, Neither, Nothing, Plain, Target, false, None
+    ),
+    entry!(
+        "SLL", REGISTERS, Neither, Nothing, Plain, Target, false, None
+    ),
+    entry!(
+        "SRL", REGISTERS, Neither, Nothing, Plain, Target, false, None
+    ),
+    entry!(
+        "SRA", REGISTERS, Neither, Nothing, Plain, Target, false, None
+    ),
+    entry!(
+        "MUL", REGISTERS, Neither, Nothing, Plain, Target, false, None
+    ),
+    entry!(
+        "MULH", REGISTERS, Neither, Nothing, Plain, Target, false, None
+    ),
+    entry!(
+        "MULHU", REGISTERS, Neither, Nothing, Plain, Target, false, None
+    ),
+    entry!(
+        "DIV", REGISTERS, Neither, Nothing, Plain, Target, false, None
+    ),
+    entry!(
+        "DIVU", REGISTERS, Neither, Nothing, Plain, Target, false, None
+    ),
+    entry!(
+        "REM", REGISTERS, Neither, Nothing, Plain, Target, false, None
+    ),
+    entry!(
+        "REMU", REGISTERS, Neither, Nothing, Plain, Target, false, None
+    ),
+    // target: a register and an immediate
+    entry!(
+        "ADDI",
+        ADD_IMMEDIATE,
+        Neither,
+        Nothing,
+        Plain,
+        Target,
+        false,
+        None
+    ),
+    entry!(
+        "SLTI", IMMEDIATE, Neither, Nothing, Plain, Target, false, None
+    ),
+    entry!(
+        "SLTIU", IMMEDIATE, Neither, Nothing, Plain, Target, false, None
+    ),
+    entry!(
+        "ANDI", IMMEDIATE, Neither, Nothing, Plain, Target, false, None
+    ),
+    entry!(
+        "ORI", IMMEDIATE, Neither, Nothing, Plain, Target, false, None
+    ),
+    entry!(
+        "XORI", IMMEDIATE, Neither, Nothing, Plain, Target, false, None
+    ),
+    entry!(
+        "SLLI", IMMEDIATE, Neither, Nothing, Plain, Target, false, None
+    ),
+    entry!(
+        "SRLI", IMMEDIATE, Neither, Nothing, Plain, Target, false, None
+    ),
+    entry!(
+        "SRAI", IMMEDIATE, Neither, Nothing, Plain, Target, false, None
+    ),
+    entry!("LUI", UPPER, Neither, Nothing, Plain, Target, false, None),
+    // target, 64 bits alone: words of 32 bits
+    entry!(
+        "ADDW", REGISTERS, Neither, Nothing, Plain, Target, true, None
+    ),
+    entry!(
+        "SUBW", REGISTERS, Neither, Nothing, Plain, Target, true, None
+    ),
+    entry!(
+        "MULW", REGISTERS, Neither, Nothing, Plain, Target, true, None
+    ),
+    entry!(
+        "SLLW", REGISTERS, Neither, Nothing, Plain, Target, true, None
+    ),
+    entry!(
+        "SRLW", REGISTERS, Neither, Nothing, Plain, Target, true, None
+    ),
+    entry!(
+        "SRAW", REGISTERS, Neither, Nothing, Plain, Target, true, None
+    ),
+    entry!(
+        "DIVW", REGISTERS, Neither, Nothing, Plain, Target, true, None
+    ),
+    entry!(
+        "DIVUW", REGISTERS, Neither, Nothing, Plain, Target, true, None
+    ),
+    entry!(
+        "REMW", REGISTERS, Neither, Nothing, Plain, Target, true, None
+    ),
+    entry!(
+        "REMUW", REGISTERS, Neither, Nothing, Plain, Target, true, None
+    ),
+    entry!(
+        "ADDIW", IMMEDIATE, Neither, Nothing, Plain, Target, true, None
+    ),
+    entry!(
+        "SLLIW", IMMEDIATE, Neither, Nothing, Plain, Target, true, None
+    ),
+    entry!(
+        "SRLIW", IMMEDIATE, Neither, Nothing, Plain, Target, true, None
+    ),
+    entry!(
+        "SRAIW", IMMEDIATE, Neither, Nothing, Plain, Target, true, None
+    ),
+    // target: loads, stores and branches
+    entry!(
+        "LB",
+        MACHINE_LOAD,
+        Load,
+        Bits(8),
+        Plain,
+        Target,
+        false,
+        None
+    ),
+    entry!(
+        "LH",
+        MACHINE_LOAD,
+        Load,
+        Bits(16),
+        Plain,
+        Target,
+        false,
+        None
+    ),
+    entry!(
+        "LW",
+        MACHINE_LOAD,
+        Load,
+        Bits(32),
+        Plain,
+        Target,
+        false,
+        None
+    ),
+    entry!(
+        "LBU",
+        MACHINE_LOAD,
+        Load,
+        Bits(8),
+        Plain,
+        Target,
+        false,
+        None
+    ),
+    entry!(
+        "LHU",
+        MACHINE_LOAD,
+        Load,
+        Bits(16),
+        Plain,
+        Target,
+        false,
+        None
+    ),
+    entry!(
+        "LWU",
+        MACHINE_LOAD,
+        Load,
+        Bits(32),
+        Plain,
+        Target,
+        true,
+        None
+    ),
+    entry!(
+        "LD",
+        MACHINE_LOAD,
+        Load,
+        Bits(64),
+        Plain,
+        Target,
+        true,
+        None
+    ),
+    entry!(
+        "SB",
+        MACHINE_STORE,
+        Store,
+        Bits(8),
+        Plain,
+        Target,
+        false,
+        None
+    ),
+    entry!(
+        "SH",
+        MACHINE_STORE,
+        Store,
+        Bits(16),
+        Plain,
+        Target,
+        false,
+        None
+    ),
+    entry!(
+        "SW",
+        MACHINE_STORE,
+        Store,
+        Bits(32),
+        Plain,
+        Target,
+        false,
+        None
+    ),
+    entry!(
+        "SD",
+        MACHINE_STORE,
+        Store,
+        Bits(64),
+        Plain,
+        Target,
+        true,
+        None
+    ),
+    entry!(
+        "BEQ",
+        MACHINE_BRANCH,
+        Neither,
+        Nothing,
+        Branch,
+        Target,
+        false,
+        None
+    ),
+    entry!(
+        "BNE",
+        MACHINE_BRANCH,
+        Neither,
+        Nothing,
+        Branch,
+        Target,
+        false,
+        None
+    ),
+    entry!(
+        "BLT",
+        MACHINE_BRANCH,
+        Neither,
+        Nothing,
+        Branch,
+        Target,
+        false,
+        None
+    ),
+    entry!(
+        "BGE",
+        MACHINE_BRANCH,
+        Neither,
+        Nothing,
+        Branch,
+        Target,
+        false,
+        None
+    ),
+    entry!(
+        "BLTU",
+        MACHINE_BRANCH,
+        Neither,
+        Nothing,
+        Branch,
+        Target,
+        false,
+        None
+    ),
+    entry!(
+        "BGEU",
+        MACHINE_BRANCH,
+        Neither,
+        Nothing,
+        Branch,
+        Target,
+        false,
+        None
+    ),
+    entry!(
+        "PseudoBR", BRANCH, Neither, Nothing, Jump, Target, false, None
+    ),
+];
+
+impl Opcode {
+    /// What is known of this opcode: its entry in the table.
+    fn entry(self) -> &'static Entry
+        ensures word { result.now.word.now ≡ word_of self }
+        ensures rows { map (λ row. row.now) result.now.rows.now ≡ rows_of self }
+        ensures access { result.now.access ≡ access_of self }
+        ensures memory { result.now.memory ≡ memory_of self }
+        ensures role { result.now.role ≡ role_of self }
+        ensures standing { result.now.standing ≡ standing_of self }
+        ensures is_wide { result.now.is_wide ≡ is_wide_op self }
+        ensures typing { option_map typing_by result.now.signature ≡ typing_of self }
+    {
+        &ENTRIES[self as usize]
     }
 
     /// The word of this opcode in a text.
@@ -556,7 +1336,10 @@ impl Opcode {
     pub fn typing(self) -> Option<Typing>
         ensures { result ≡ typing_of self }
     {
-        self.entry().typing
+        match self.entry().signature {
+            Some(signature) => Some(signature.typing()),
+            None => None,
+        }
     }
 
     /// Whether only a machine of 64 bits has this instruction.

@@ -65,6 +65,81 @@ impl Model for Typing {
     ghost view = { λ t. record { results = t.results.now; more_results = t.more_results; sources = t.sources.now; more_sources = t.more_sources; a = t.a; b = t.b; relation = t.relation } };
 }
 
+/// The types of an opcode's registers, by the form of its instructions.
+#[derive(Clone, Copy, Debug, PartialEq, Eq)]
+pub enum Signature {
+    /// `G_BR %bb.N`
+    NoTypes,
+    /// `%d:A = G_CONSTANT iN V`
+    NoSources(Class),
+    /// `%d:A = G_ABS %a(A)`
+    OneAlike(Class),
+    /// `%d:A = G_ADD %a(A), %b(A)`
+    TwoAlike(Class),
+    /// `%d:A = G_FSHL %a(A), %b(A), %n(A)`
+    ThreeAlike(Class),
+    /// `%d:p0 = G_FRAME_INDEX %stack.N`
+    OnePointer,
+    /// `%d:A = G_PTRTOINT %p(p0)`
+    FromPointer(Class),
+    /// `%d:p0 = G_INTTOPTR %a(A)`
+    ToPointer(Class),
+    /// `%d:A = G_TRUNC %b(B)`, A narrower than B
+    Truncation,
+    /// `%d:A = G_ZEXT %b(B)`, A wider than B
+    Extension,
+    /// `%d:p0 = G_PTR_ADD %p(p0), %o(sX)`
+    PointerSum,
+    /// `%d:A = G_ICMP intpred(P), %a(B), %b(B)`
+    Comparison,
+    /// `%d:A = G_SELECT %c(B), %a(A), %b(A)`
+    Selection,
+    /// `%d:A, %e:s1 = G_UADDO %a(A), %b(A)`
+    CarryOut,
+    /// `%d:A, %e:s1 = G_UADDE %a(A), %b(A), %c(s1)`
+    CarryThrough,
+    /// `%d:A = G_MERGE_VALUES %a(B), %b(B), ..`, A the sum of the parts
+    Merge,
+    /// `%d:B, %e:B, .. = G_UNMERGE_VALUES %a(A)`, A the sum of the parts
+    Unmerge,
+    /// `%d:A = G_PHI %a(A), %bb.N, %b(A), %bb.M, ..`
+    Joining,
+    /// `G_STORE %a(A), %p(p0)`
+    Store,
+    /// `G_BRCOND %a(A), %bb.N`
+    OneCondition,
+}
+
+impl Signature {
+    /// The typing of instructions of this form.
+    pub fn typing(self) -> Typing
+        ensures { result ≡ typings.typing_by self }
+    {
+        match self {
+            Signature::NoTypes => no_types(),
+            Signature::NoSources(a) => no_sources(a),
+            Signature::OneAlike(a) => one_alike(a),
+            Signature::TwoAlike(a) => two_alike(a),
+            Signature::ThreeAlike(a) => three_alike(a),
+            Signature::OnePointer => one_pointer(),
+            Signature::FromPointer(a) => from_pointer(a),
+            Signature::ToPointer(a) => to_pointer(a),
+            Signature::Truncation => truncation(),
+            Signature::Extension => extension(),
+            Signature::PointerSum => pointer_sum(),
+            Signature::Comparison => comparison(),
+            Signature::Selection => selection(),
+            Signature::CarryOut => carry_out(),
+            Signature::CarryThrough => carry_through(),
+            Signature::Merge => merge(),
+            Signature::Unmerge => unmerge(),
+            Signature::Joining => joining(),
+            Signature::Store => store(),
+            Signature::OneCondition => one_condition(),
+        }
+    }
+}
+
 fn typed(results: &'static [Letter], sources: &'static [Letter], a: Class, b: Class) -> Typing
     ensures { result ≡ typings.typed results.now sources.now a b }
 {
@@ -80,56 +155,56 @@ fn typed(results: &'static [Letter], sources: &'static [Letter], a: Class, b: Cl
 }
 
 /// `G_BR %bb.N`
-pub fn no_types() -> Typing
+fn no_types() -> Typing
     ensures { result ≡ typings.no_types }
 {
     typed(&[], &[], Class::Any, Class::Any)
 }
 
 /// `%d:A = G_CONSTANT iN V`
-pub fn no_sources(a: Class) -> Typing
+fn no_sources(a: Class) -> Typing
     ensures { result ≡ typings.no_sources a }
 {
     typed(&[Letter::A], &[], a, a)
 }
 
 /// `%d:A = G_ABS %a(A)`
-pub fn one_alike(a: Class) -> Typing
+fn one_alike(a: Class) -> Typing
     ensures { result ≡ typings.one_alike a }
 {
     typed(&[Letter::A], &[Letter::A], a, a)
 }
 
 /// `%d:A = G_ADD %a(A), %b(A)`
-pub fn two_alike(a: Class) -> Typing
+fn two_alike(a: Class) -> Typing
     ensures { result ≡ typings.two_alike a }
 {
     typed(&[Letter::A], &[Letter::A, Letter::A], a, a)
 }
 
 /// `%d:A = G_FSHL %a(A), %b(A), %n(A)`
-pub fn three_alike(a: Class) -> Typing
+fn three_alike(a: Class) -> Typing
     ensures { result ≡ typings.three_alike a }
 {
     typed(&[Letter::A], &[Letter::A, Letter::A, Letter::A], a, a)
 }
 
 /// `%d:p0 = G_FRAME_INDEX %stack.N`
-pub fn one_pointer() -> Typing
+fn one_pointer() -> Typing
     ensures { result ≡ typings.one_pointer }
 {
     typed(&[Letter::Pointer], &[], Class::Any, Class::Any)
 }
 
 /// `%d:A = G_PTRTOINT %p(p0)`
-pub fn from_pointer(a: Class) -> Typing
+fn from_pointer(a: Class) -> Typing
     ensures { result ≡ typings.from_pointer a }
 {
     typed(&[Letter::A], &[Letter::Pointer], a, a)
 }
 
 /// `%d:p0 = G_INTTOPTR %a(A)`
-pub fn to_pointer(a: Class) -> Typing
+fn to_pointer(a: Class) -> Typing
     ensures { result ≡ typings.to_pointer a }
 {
     typed(&[Letter::Pointer], &[Letter::A], a, a)
@@ -151,21 +226,21 @@ fn conversion(relation: Relation) -> Typing
 }
 
 /// `%d:A = G_TRUNC %b(B)`, A narrower than B
-pub fn truncation() -> Typing
+fn truncation() -> Typing
     ensures { result ≡ typings.truncation }
 {
     conversion(Relation::Narrower)
 }
 
 /// `%d:A = G_ZEXT %b(B)`, A wider than B
-pub fn extension() -> Typing
+fn extension() -> Typing
     ensures { result ≡ typings.extension }
 {
     conversion(Relation::Wider)
 }
 
 /// `%d:p0 = G_PTR_ADD %p(p0), %o(sX)`
-pub fn pointer_sum() -> Typing
+fn pointer_sum() -> Typing
     ensures { result ≡ typings.pointer_sum }
 {
     typed(
@@ -177,7 +252,7 @@ pub fn pointer_sum() -> Typing
 }
 
 /// `%d:A = G_ICMP intpred(P), %a(B), %b(B)`
-pub fn comparison() -> Typing
+fn comparison() -> Typing
     ensures { result ≡ typings.comparison }
 {
     typed(
@@ -189,7 +264,7 @@ pub fn comparison() -> Typing
 }
 
 /// `%d:A = G_SELECT %c(B), %a(A), %b(A)`
-pub fn selection() -> Typing
+fn selection() -> Typing
     ensures { result ≡ typings.selection }
 {
     typed(
@@ -201,7 +276,7 @@ pub fn selection() -> Typing
 }
 
 /// `%d:A, %e:s1 = G_UADDO %a(A), %b(A)`
-pub fn carry_out() -> Typing
+fn carry_out() -> Typing
     ensures { result ≡ typings.carry_out }
 {
     typed(
@@ -213,7 +288,7 @@ pub fn carry_out() -> Typing
 }
 
 /// `%d:A, %e:s1 = G_UADDE %a(A), %b(A), %c(s1)`
-pub fn carry_through() -> Typing
+fn carry_through() -> Typing
     ensures { result ≡ typings.carry_through }
 {
     typed(
@@ -225,7 +300,7 @@ pub fn carry_through() -> Typing
 }
 
 /// `%d:A = G_MERGE_VALUES %a(B), %b(B), ..`, A the sum of the parts
-pub fn merge() -> Typing
+fn merge() -> Typing
     ensures { result ≡ typings.merge }
 {
     Typing {
@@ -240,7 +315,7 @@ pub fn merge() -> Typing
 }
 
 /// `%d:B, %e:B, .. = G_UNMERGE_VALUES %a(A)`, A the sum of the parts
-pub fn unmerge() -> Typing
+fn unmerge() -> Typing
     ensures { result ≡ typings.unmerge }
 {
     Typing {
@@ -255,7 +330,7 @@ pub fn unmerge() -> Typing
 }
 
 /// `%d:A = G_PHI %a(A), %bb.N, %b(A), %bb.M, ..`
-pub fn joining() -> Typing
+fn joining() -> Typing
     ensures { result ≡ typings.joining }
 {
     Typing {
@@ -270,14 +345,14 @@ pub fn joining() -> Typing
 }
 
 /// `G_STORE %a(A), %p(p0)`
-pub fn store() -> Typing
+fn store() -> Typing
     ensures { result ≡ typings.store }
 {
     typed(&[], &[Letter::A, Letter::Pointer], Class::Any, Class::Any)
 }
 
 /// `G_BRCOND %a(A), %bb.N`
-pub fn one_condition() -> Typing
+fn one_condition() -> Typing
     ensures { result ≡ typings.one_condition }
 {
     typed(&[], &[Letter::A], Class::Condition, Class::Condition)
