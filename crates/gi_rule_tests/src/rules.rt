@@ -89,7 +89,7 @@ fn does_all(alloc: Global, rule: Result<Rule, Memory>, cases: &[Case]) -> Result
 fn tells_of(
     alloc: Global,
     rule: Result<Rule, Memory>,
-    mut function: Function,
+    function: &mut Function,
     root: usize,
     told: &[Told<'_>],
 ) -> Result<bool, Fail> {
@@ -98,7 +98,7 @@ fn tells_of(
         Err(_) => return Err(Fail::from("memory")),
     };
     let mut journal = Journal::new(alloc);
-    let fits = rewrite(&rule, &mut function, InstrId(root), &mut journal)?;
+    let fits = rewrite(&rule, function, InstrId(root), &mut journal)?;
     Ok(fits && tells(journal.changes.as_slice(), Pass::PreCombiner, told))
 }
 
@@ -322,9 +322,11 @@ const LAST_OF_OTHER: Row<'static> = (
     &[Def(Reg(2), S8), Use(Reg(7)), Use(Reg(0))],
 );
 
+const SUM_WITH_ZERO: &[Row<'static>] = &[ZERO, SUM, LAST];
+
 const SUMS: &[Case] = &[
     Case {
-        before: &[ZERO, SUM, LAST],
+        before: SUM_WITH_ZERO,
         root: 1,
         after: Some(&[ZERO, LAST_OF_OTHER]),
     },
@@ -354,8 +356,8 @@ const TOLD_OF_SUM: &[Told<'static>] = &[
 #[test]
 fn replacing_sum_with_zero_is_told(rt: HostRuntime) -> Result<(), Fail> {
     let alloc = rt.alloc();
-    let function = built(alloc, &[ZERO, SUM, LAST])?;
-    assert!(rt; tells_of(alloc, sum_with_zero(alloc), function, 1, TOLD_OF_SUM)?);
+    let mut function = built(alloc, SUM_WITH_ZERO)?;
+    assert!(rt; tells_of(alloc, sum_with_zero(alloc), &mut function, 1, TOLD_OF_SUM)?);
     Ok(())
 }
 
@@ -379,8 +381,10 @@ const SUM_OF_FIRST: Row<'static> = (
     &[Def(Reg(5), S8), Use(Reg(0)), Use(Reg(0))],
 );
 
+const MERGED_PAIR: &[Row<'static>] = &[FIVE, PAIR, LAST, PARTS, SUM_OF_PARTS];
+
 const UNMERGED: &[Case] = &[Case {
-    before: &[FIVE, PAIR, LAST, PARTS, SUM_OF_PARTS],
+    before: MERGED_PAIR,
     root: 3,
     after: Some(&[FIVE, PAIR, LAST, SUM_OF_FIRST]),
 }];
@@ -409,8 +413,10 @@ const TOLD_OF_PAIR: &[Told<'static>] = &[
 #[test]
 fn replacing_parts_of_pair_is_told(rt: HostRuntime) -> Result<(), Fail> {
     let alloc = rt.alloc();
-    let function = built(alloc, &[FIVE, PAIR, LAST, PARTS, SUM_OF_PARTS])?;
-    assert!(rt; tells_of(alloc, unmerged_pair(alloc), function, 3, TOLD_OF_PAIR)?);
+    let mut function = built(alloc, MERGED_PAIR)?;
+    assert!(rt; tells_of(alloc, unmerged_pair(alloc), &mut function, 3, TOLD_OF_PAIR)?);
+    assert!(rt; function.uses_of(Reg(3)).is_empty() && function.uses_of(Reg(4)).is_empty());
+    assert!(rt; !function.is_live(InstrId(3)));
     Ok(())
 }
 
