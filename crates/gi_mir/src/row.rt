@@ -279,10 +279,10 @@ static OPCODES: [Opcode; 124] = [
     Opcode::PseudoBranch,
 ];
 
-/// An entry of the table: an opcode's word, the rows of its operands, what it does with memory, the types that a value has
-/// there, its role, where it stands, whether a machine of 64 bits alone has it, and the types of its registers.
+/// An entry of the table: where an opcode stands, whether a machine of 64 bits alone has it, its word, the rows of its
+/// operands, and the types of its registers; then what it does with memory and the types that a value has there, or its role.
 macro_rules! entry {
-    ($word:literal, $rows:ident, $access:ident, $memory:expr, $role:ident, $standing:ident, $wide:literal, $signature:expr) => {
+    ($standing:ident, $wide:literal, $word:literal, $rows:ident, $signature:expr, $access:ident, $memory:expr, $role:ident) => {
         Entry {
             word: $word,
             rows: $rows,
@@ -294,969 +294,228 @@ macro_rules! entry {
             signature: $signature,
         }
     };
+    ($standing:ident, $wide:literal, $word:literal, $rows:ident, $signature:expr) => {
+        entry!($standing, $wide, $word, $rows, $signature, Neither, Nothing, Plain)
+    };
+    ($standing:ident, $wide:literal, $word:literal, $rows:ident, $signature:expr, $access:ident, $memory:expr) => {
+        entry!($standing, $wide, $word, $rows, $signature, $access, $memory, Plain)
+    };
+    ($standing:ident, $wide:literal, $word:literal, $rows:ident, $signature:expr, $role:ident) => {
+        entry!($standing, $wide, $word, $rows, $signature, Neither, Nothing, $role)
+    };
+}
+
+/// An opcode that stands before selection.
+macro_rules! generic {
+    ($word:literal, $rows:ident, $signature:expr) => {
+        entry!(Generic, false, $word, $rows, Some($signature))
+    };
+    ($word:literal, $rows:ident, $signature:expr, $role:ident) => {
+        entry!(Generic, false, $word, $rows, Some($signature), $role)
+    };
+    ($word:literal, $rows:ident, $signature:expr, $access:ident, $memory:expr) => {
+        entry!(Generic, false, $word, $rows, Some($signature), $access, $memory)
+    };
+}
+
+/// An opcode that stands in every stage.
+macro_rules! shared {
+    ($word:literal, $rows:ident, $signature:expr) => {
+        entry!(Both, false, $word, $rows, Some($signature))
+    };
+    ($word:literal, $rows:ident, $signature:expr, $role:ident) => {
+        entry!(Both, false, $word, $rows, Some($signature), $role)
+    };
+    ($word:literal, $rows:ident, $signature:expr, $access:ident, $memory:expr) => {
+        entry!(Both, false, $word, $rows, Some($signature), $access, $memory)
+    };
+}
+
+/// An opcode that stands after selection, with types.
+macro_rules! selected {
+    ($word:literal, $rows:ident, $signature:expr) => {
+        entry!(Target, false, $word, $rows, Some($signature))
+    };
+    ($word:literal, $rows:ident, $signature:expr, $role:ident) => {
+        entry!(Target, false, $word, $rows, Some($signature), $role)
+    };
+    ($word:literal, $rows:ident, $signature:expr, $access:ident, $memory:expr) => {
+        entry!(Target, false, $word, $rows, Some($signature), $access, $memory)
+    };
+}
+
+/// An instruction of the machine.
+macro_rules! machine {
+    ($word:literal, $rows:ident) => {
+        entry!(Target, false, $word, $rows, None)
+    };
+    ($word:literal, $rows:ident, $role:ident) => {
+        entry!(Target, false, $word, $rows, None, $role)
+    };
+    ($word:literal, $rows:ident, $access:ident, $memory:expr) => {
+        entry!(Target, false, $word, $rows, None, $access, $memory)
+    };
+}
+
+/// An instruction that a machine of 64 bits alone has.
+macro_rules! wide {
+    ($word:literal, $rows:ident) => {
+        entry!(Target, true, $word, $rows, None)
+    };
+    ($word:literal, $rows:ident, $role:ident) => {
+        entry!(Target, true, $word, $rows, None, $role)
+    };
+    ($word:literal, $rows:ident, $access:ident, $memory:expr) => {
+        entry!(Target, true, $word, $rows, None, $access, $memory)
+    };
 }
 
 /// The table, in the order of `Opcode`.
 static ENTRIES: [Entry; 124] = [
     // in every stage, and two of them after selection
-    entry!(
-        "COPY",
-        COPY,
-        Neither,
-        Nothing,
-        Plain,
-        Both,
-        false,
-        Some(OneAlike(Any))
-    ),
-    entry!(
-        "PHI",
-        PHI,
-        Neither,
-        Nothing,
-        Phi,
-        Target,
-        false,
-        Some(Joining)
-    ),
-    entry!(
-        "IMPLICIT_DEF",
-        DEFINED,
-        Neither,
-        Nothing,
-        Plain,
-        Target,
-        false,
-        Some(NoSources(Any))
-    ),
-    entry!(
-        "PseudoCALL",
-        CALL,
-        Neither,
-        Nothing,
-        Call,
-        Both,
-        false,
-        Some(NoTypes)
-    ),
-    entry!(
-        "PseudoRET",
-        RETURNED,
-        Neither,
-        Nothing,
-        Return,
-        Both,
-        false,
-        Some(NoTypes)
-    ),
-    entry!(
-        "ADJCALLSTACKDOWN",
-        ADJUSTED,
-        Neither,
-        Nothing,
-        Plain,
-        Both,
-        false,
-        Some(NoTypes)
-    ),
-    entry!(
-        "ADJCALLSTACKUP",
-        ADJUSTED,
-        Neither,
-        Nothing,
-        Plain,
-        Both,
-        false,
-        Some(NoTypes)
-    ),
+    shared!("COPY", COPY, OneAlike(Any)),
+    selected!("PHI", PHI, Joining, Phi),
+    selected!("IMPLICIT_DEF", DEFINED, NoSources(Any)),
+    shared!("PseudoCALL", CALL, NoTypes, Call),
+    shared!("PseudoRET", RETURNED, NoTypes, Return),
+    shared!("ADJCALLSTACKDOWN", ADJUSTED, NoTypes),
+    shared!("ADJCALLSTACKUP", ADJUSTED, NoTypes),
     // generic: constants, addresses and casts
-    entry!(
-        "G_IMPLICIT_DEF",
-        DEFINED,
-        Neither,
-        Nothing,
-        Plain,
-        Generic,
-        false,
-        Some(NoSources(Any))
-    ),
-    entry!(
-        "G_CONSTANT",
-        CONSTANT,
-        Neither,
-        Nothing,
-        Plain,
-        Generic,
-        false,
-        Some(NoSources(Any))
-    ),
-    entry!(
-        "G_FREEZE",
-        UNARY,
-        Neither,
-        Nothing,
-        Plain,
-        Generic,
-        false,
-        Some(OneAlike(Any))
-    ),
-    entry!(
-        "G_FRAME_INDEX",
-        FRAME_INDEX,
-        Neither,
-        Nothing,
-        Plain,
-        Generic,
-        false,
-        Some(OnePointer)
-    ),
-    entry!(
-        "G_GLOBAL_VALUE",
-        GLOBAL_VALUE,
-        Neither,
-        Nothing,
-        Plain,
-        Generic,
-        false,
-        Some(OnePointer)
-    ),
-    entry!(
-        "G_PTR_ADD",
-        SHIFT,
-        Neither,
-        Nothing,
-        Plain,
-        Generic,
-        false,
-        Some(PointerSum)
-    ),
-    entry!(
-        "G_PTRTOINT",
-        UNARY_TYPED,
-        Neither,
-        Nothing,
-        Plain,
-        Generic,
-        false,
-        Some(FromPointer(Scalar))
-    ),
-    entry!(
-        "G_INTTOPTR",
-        UNARY_TYPED,
-        Neither,
-        Nothing,
-        Plain,
-        Generic,
-        false,
-        Some(ToPointer(Scalar))
-    ),
-    entry!(
-        "G_TRUNC",
-        UNARY_TYPED,
-        Neither,
-        Nothing,
-        Plain,
-        Generic,
-        false,
-        Some(Truncation)
-    ),
-    entry!(
-        "G_ANYEXT",
-        UNARY_TYPED,
-        Neither,
-        Nothing,
-        Plain,
-        Generic,
-        false,
-        Some(Extension)
-    ),
-    entry!(
-        "G_ZEXT",
-        UNARY_TYPED,
-        Neither,
-        Nothing,
-        Plain,
-        Generic,
-        false,
-        Some(Extension)
-    ),
-    entry!(
-        "G_SEXT",
-        UNARY_TYPED,
-        Neither,
-        Nothing,
-        Plain,
-        Generic,
-        false,
-        Some(Extension)
-    ),
-    entry!(
-        "G_SEXT_INREG",
-        IN_REGISTER,
-        Neither,
-        Nothing,
-        Plain,
-        Generic,
-        false,
-        Some(OneAlike(Wide))
-    ),
-    entry!(
-        "G_MERGE_VALUES",
-        MERGE,
-        Neither,
-        Nothing,
-        Plain,
-        Generic,
-        false,
-        Some(Merge)
-    ),
-    entry!(
-        "G_UNMERGE_VALUES",
-        UNMERGE,
-        Neither,
-        Nothing,
-        Plain,
-        Generic,
-        false,
-        Some(Unmerge)
-    ),
+    generic!("G_IMPLICIT_DEF", DEFINED, NoSources(Any)),
+    generic!("G_CONSTANT", CONSTANT, NoSources(Any)),
+    generic!("G_FREEZE", UNARY, OneAlike(Any)),
+    generic!("G_FRAME_INDEX", FRAME_INDEX, OnePointer),
+    generic!("G_GLOBAL_VALUE", GLOBAL_VALUE, OnePointer),
+    generic!("G_PTR_ADD", SHIFT, PointerSum),
+    generic!("G_PTRTOINT", UNARY_TYPED, FromPointer(Scalar)),
+    generic!("G_INTTOPTR", UNARY_TYPED, ToPointer(Scalar)),
+    generic!("G_TRUNC", UNARY_TYPED, Truncation),
+    generic!("G_ANYEXT", UNARY_TYPED, Extension),
+    generic!("G_ZEXT", UNARY_TYPED, Extension),
+    generic!("G_SEXT", UNARY_TYPED, Extension),
+    generic!("G_SEXT_INREG", IN_REGISTER, OneAlike(Wide)),
+    generic!("G_MERGE_VALUES", MERGE, Merge),
+    generic!("G_UNMERGE_VALUES", UNMERGE, Unmerge),
     // generic: arithmetic, logic and shifts
-    entry!(
-        "G_ADD",
-        BINARY,
-        Neither,
-        Nothing,
-        Plain,
-        Generic,
-        false,
-        Some(TwoAlike(Scalar))
-    ),
-    entry!(
-        "G_SUB",
-        BINARY,
-        Neither,
-        Nothing,
-        Plain,
-        Generic,
-        false,
-        Some(TwoAlike(Scalar))
-    ),
-    entry!(
-        "G_MUL",
-        BINARY,
-        Neither,
-        Nothing,
-        Plain,
-        Generic,
-        false,
-        Some(TwoAlike(Scalar))
-    ),
-    entry!(
-        "G_AND",
-        BINARY,
-        Neither,
-        Nothing,
-        Plain,
-        Generic,
-        false,
-        Some(TwoAlike(Scalar))
-    ),
-    entry!(
-        "G_OR",
-        BINARY,
-        Neither,
-        Nothing,
-        Plain,
-        Generic,
-        false,
-        Some(TwoAlike(Scalar))
-    ),
-    entry!(
-        "G_XOR",
-        BINARY,
-        Neither,
-        Nothing,
-        Plain,
-        Generic,
-        false,
-        Some(TwoAlike(Scalar))
-    ),
-    entry!(
-        "G_UDIV",
-        BINARY,
-        Neither,
-        Nothing,
-        Plain,
-        Generic,
-        false,
-        Some(TwoAlike(Scalar))
-    ),
-    entry!(
-        "G_SDIV",
-        BINARY,
-        Neither,
-        Nothing,
-        Plain,
-        Generic,
-        false,
-        Some(TwoAlike(Scalar))
-    ),
-    entry!(
-        "G_UREM",
-        BINARY,
-        Neither,
-        Nothing,
-        Plain,
-        Generic,
-        false,
-        Some(TwoAlike(Scalar))
-    ),
-    entry!(
-        "G_SREM",
-        BINARY,
-        Neither,
-        Nothing,
-        Plain,
-        Generic,
-        false,
-        Some(TwoAlike(Scalar))
-    ),
-    entry!(
-        "G_SHL",
-        SHIFT,
-        Neither,
-        Nothing,
-        Plain,
-        Generic,
-        false,
-        Some(TwoAlike(Scalar))
-    ),
-    entry!(
-        "G_LSHR",
-        SHIFT,
-        Neither,
-        Nothing,
-        Plain,
-        Generic,
-        false,
-        Some(TwoAlike(Scalar))
-    ),
-    entry!(
-        "G_ASHR",
-        SHIFT,
-        Neither,
-        Nothing,
-        Plain,
-        Generic,
-        false,
-        Some(TwoAlike(Scalar))
-    ),
-    entry!(
-        "G_UADDO",
-        OVERFLOW,
-        Neither,
-        Nothing,
-        Plain,
-        Generic,
-        false,
-        Some(CarryOut)
-    ),
-    entry!(
-        "G_USUBO",
-        OVERFLOW,
-        Neither,
-        Nothing,
-        Plain,
-        Generic,
-        false,
-        Some(CarryOut)
-    ),
-    entry!(
-        "G_UADDE",
-        CARRY,
-        Neither,
-        Nothing,
-        Plain,
-        Generic,
-        false,
-        Some(CarryThrough)
-    ),
-    entry!(
-        "G_USUBE",
-        CARRY,
-        Neither,
-        Nothing,
-        Plain,
-        Generic,
-        false,
-        Some(CarryThrough)
-    ),
-    entry!(
-        "G_UMULH",
-        BINARY,
-        Neither,
-        Nothing,
-        Plain,
-        Generic,
-        false,
-        Some(TwoAlike(Register))
-    ),
-    entry!(
-        "G_SMULH",
-        BINARY,
-        Neither,
-        Nothing,
-        Plain,
-        Generic,
-        false,
-        Some(TwoAlike(Register))
-    ),
-    entry!(
-        "G_ICMP",
-        COMPARE,
-        Neither,
-        Nothing,
-        Plain,
-        Generic,
-        false,
-        Some(Comparison)
-    ),
-    entry!(
-        "G_SELECT",
-        SELECT,
-        Neither,
-        Nothing,
-        Plain,
-        Generic,
-        false,
-        Some(Selection)
-    ),
-    entry!(
-        "G_SMIN",
-        BINARY,
-        Neither,
-        Nothing,
-        Plain,
-        Generic,
-        false,
-        Some(TwoAlike(Scalar))
-    ),
-    entry!(
-        "G_SMAX",
-        BINARY,
-        Neither,
-        Nothing,
-        Plain,
-        Generic,
-        false,
-        Some(TwoAlike(Scalar))
-    ),
-    entry!(
-        "G_UMIN",
-        BINARY,
-        Neither,
-        Nothing,
-        Plain,
-        Generic,
-        false,
-        Some(TwoAlike(Scalar))
-    ),
-    entry!(
-        "G_UMAX",
-        BINARY,
-        Neither,
-        Nothing,
-        Plain,
-        Generic,
-        false,
-        Some(TwoAlike(Scalar))
-    ),
-    entry!(
-        "G_ABS",
-        UNARY,
-        Neither,
-        Nothing,
-        Plain,
-        Generic,
-        false,
-        Some(OneAlike(Scalar))
-    ),
-    entry!(
-        "G_CTLZ",
-        UNARY_TYPED,
-        Neither,
-        Nothing,
-        Plain,
-        Generic,
-        false,
-        Some(OneAlike(Scalar))
-    ),
-    entry!(
-        "G_CTTZ",
-        UNARY_TYPED,
-        Neither,
-        Nothing,
-        Plain,
-        Generic,
-        false,
-        Some(OneAlike(Scalar))
-    ),
-    entry!(
-        "G_CTPOP",
-        UNARY_TYPED,
-        Neither,
-        Nothing,
-        Plain,
-        Generic,
-        false,
-        Some(OneAlike(Scalar))
-    ),
-    entry!(
-        "G_CTLZ_ZERO_UNDEF",
-        UNARY_TYPED,
-        Neither,
-        Nothing,
-        Plain,
-        Generic,
-        false,
-        Some(OneAlike(Scalar))
-    ),
-    entry!(
-        "G_CTTZ_ZERO_UNDEF",
-        UNARY_TYPED,
-        Neither,
-        Nothing,
-        Plain,
-        Generic,
-        false,
-        Some(OneAlike(Scalar))
-    ),
-    entry!(
-        "G_BSWAP",
-        UNARY,
-        Neither,
-        Nothing,
-        Plain,
-        Generic,
-        false,
-        Some(OneAlike(Swappable))
-    ),
-    entry!(
-        "G_FSHL",
-        FUNNEL,
-        Neither,
-        Nothing,
-        Plain,
-        Generic,
-        false,
-        Some(ThreeAlike(Rotatable))
-    ),
-    entry!(
-        "G_FSHR",
-        FUNNEL,
-        Neither,
-        Nothing,
-        Plain,
-        Generic,
-        false,
-        Some(ThreeAlike(Rotatable))
-    ),
-    entry!(
-        "G_ROTL",
-        SHIFT,
-        Neither,
-        Nothing,
-        Plain,
-        Generic,
-        false,
-        Some(TwoAlike(Rotatable))
-    ),
-    entry!(
-        "G_ROTR",
-        SHIFT,
-        Neither,
-        Nothing,
-        Plain,
-        Generic,
-        false,
-        Some(TwoAlike(Rotatable))
-    ),
+    generic!("G_ADD", BINARY, TwoAlike(Scalar)),
+    generic!("G_SUB", BINARY, TwoAlike(Scalar)),
+    generic!("G_MUL", BINARY, TwoAlike(Scalar)),
+    generic!("G_AND", BINARY, TwoAlike(Scalar)),
+    generic!("G_OR", BINARY, TwoAlike(Scalar)),
+    generic!("G_XOR", BINARY, TwoAlike(Scalar)),
+    generic!("G_UDIV", BINARY, TwoAlike(Scalar)),
+    generic!("G_SDIV", BINARY, TwoAlike(Scalar)),
+    generic!("G_UREM", BINARY, TwoAlike(Scalar)),
+    generic!("G_SREM", BINARY, TwoAlike(Scalar)),
+    generic!("G_SHL", SHIFT, TwoAlike(Scalar)),
+    generic!("G_LSHR", SHIFT, TwoAlike(Scalar)),
+    generic!("G_ASHR", SHIFT, TwoAlike(Scalar)),
+    generic!("G_UADDO", OVERFLOW, CarryOut),
+    generic!("G_USUBO", OVERFLOW, CarryOut),
+    generic!("G_UADDE", CARRY, CarryThrough),
+    generic!("G_USUBE", CARRY, CarryThrough),
+    generic!("G_UMULH", BINARY, TwoAlike(Register)),
+    generic!("G_SMULH", BINARY, TwoAlike(Register)),
+    generic!("G_ICMP", COMPARE, Comparison),
+    generic!("G_SELECT", SELECT, Selection),
+    generic!("G_SMIN", BINARY, TwoAlike(Scalar)),
+    generic!("G_SMAX", BINARY, TwoAlike(Scalar)),
+    generic!("G_UMIN", BINARY, TwoAlike(Scalar)),
+    generic!("G_UMAX", BINARY, TwoAlike(Scalar)),
+    generic!("G_ABS", UNARY, OneAlike(Scalar)),
+    generic!("G_CTLZ", UNARY_TYPED, OneAlike(Scalar)),
+    generic!("G_CTTZ", UNARY_TYPED, OneAlike(Scalar)),
+    generic!("G_CTPOP", UNARY_TYPED, OneAlike(Scalar)),
+    generic!("G_CTLZ_ZERO_UNDEF", UNARY_TYPED, OneAlike(Scalar)),
+    generic!("G_CTTZ_ZERO_UNDEF", UNARY_TYPED, OneAlike(Scalar)),
+    generic!("G_BSWAP", UNARY, OneAlike(Swappable)),
+    generic!("G_FSHL", FUNNEL, ThreeAlike(Rotatable)),
+    generic!("G_FSHR", FUNNEL, ThreeAlike(Rotatable)),
+    generic!("G_ROTL", SHIFT, TwoAlike(Rotatable)),
+    generic!("G_ROTR", SHIFT, TwoAlike(Rotatable)),
     // generic: memory, phis and branches
-    entry!(
-        "G_LOAD",
-        UNARY_TYPED,
-        Load,
-        Value,
-        Plain,
-        Generic,
-        false,
-        Some(FromPointer(Any))
-    ),
-    entry!(
+    generic!("G_LOAD", UNARY_TYPED, FromPointer(Any), Load, Value),
+    generic!(
         "G_ZEXTLOAD",
         UNARY_TYPED,
+        FromPointer(Scalar),
         Load,
-        Extended,
-        Plain,
-        Generic,
-        false,
-        Some(FromPointer(Scalar))
+        Extended
     ),
-    entry!(
+    generic!(
         "G_SEXTLOAD",
         UNARY_TYPED,
+        FromPointer(Scalar),
         Load,
-        Extended,
-        Plain,
-        Generic,
-        false,
-        Some(FromPointer(Scalar))
+        Extended
     ),
-    entry!(
-        "G_STORE",
-        STORE,
-        Store,
-        Value,
-        Plain,
-        Generic,
-        false,
-        Some(Store)
-    ),
-    entry!(
-        "G_PHI",
-        PHI,
-        Neither,
-        Nothing,
-        Phi,
-        Generic,
-        false,
-        Some(Joining)
-    ),
-    entry!(
-        "G_BR",
-        BRANCH,
-        Neither,
-        Nothing,
-        Jump,
-        Generic,
-        false,
-        Some(NoTypes)
-    ),
-    entry!(
-        "G_BRCOND",
-        BRANCH_CONDITIONAL,
-        Neither,
-        Nothing,
-        Branch,
-        Generic,
-        false,
-        Some(OneCondition)
-    ),
+    generic!("G_STORE", STORE, Store, Store, Value),
+    generic!("G_PHI", PHI, Joining, Phi),
+    generic!("G_BR", BRANCH, NoTypes, Jump),
+    generic!("G_BRCOND", BRANCH_CONDITIONAL, OneCondition, Branch),
     // target: two registers
-    entry!(
-        "ADD", REGISTERS, Neither, Nothing, Plain, Target, false, None
-    ),
-    entry!(
-        "SUB", REGISTERS, Neither, Nothing, Plain, Target, false, None
-    ),
-    entry!(
-        "AND", REGISTERS, Neither, Nothing, Plain, Target, false, None
-    ),
-    entry!(
-        "OR", REGISTERS, Neither, Nothing, Plain, Target, false, None
-    ),
-    entry!(
-        "XOR", REGISTERS, Neither, Nothing, Plain, Target, false, None
-    ),
-    entry!(
-        "SLT", REGISTERS, Neither, Nothing, Plain, Target, false, None
-    ),
-    entry!(
-        "SLTU", REGISTERS, Neither, Nothing, Plain, Target, false, None
-    ),
-    entry!(
-        "SLL", REGISTERS, Neither, Nothing, Plain, Target, false, None
-    ),
-    entry!(
-        "SRL", REGISTERS, Neither, Nothing, Plain, Target, false, None
-    ),
-    entry!(
-        "SRA", REGISTERS, Neither, Nothing, Plain, Target, false, None
-    ),
-    entry!(
-        "MUL", REGISTERS, Neither, Nothing, Plain, Target, false, None
-    ),
-    entry!(
-        "MULH", REGISTERS, Neither, Nothing, Plain, Target, false, None
-    ),
-    entry!(
-        "MULHU", REGISTERS, Neither, Nothing, Plain, Target, false, None
-    ),
-    entry!(
-        "DIV", REGISTERS, Neither, Nothing, Plain, Target, false, None
-    ),
-    entry!(
-        "DIVU", REGISTERS, Neither, Nothing, Plain, Target, false, None
-    ),
-    entry!(
-        "REM", REGISTERS, Neither, Nothing, Plain, Target, false, None
-    ),
-    entry!(
-        "REMU", REGISTERS, Neither, Nothing, Plain, Target, false, None
-    ),
+    machine!("ADD", REGISTERS),
+    machine!("SUB", REGISTERS),
+    machine!("AND", REGISTERS),
+    machine!("OR", REGISTERS),
+    machine!("XOR", REGISTERS),
+    machine!("SLT", REGISTERS),
+    machine!("SLTU", REGISTERS),
+    machine!("SLL", REGISTERS),
+    machine!("SRL", REGISTERS),
+    machine!("SRA", REGISTERS),
+    machine!("MUL", REGISTERS),
+    machine!("MULH", REGISTERS),
+    machine!("MULHU", REGISTERS),
+    machine!("DIV", REGISTERS),
+    machine!("DIVU", REGISTERS),
+    machine!("REM", REGISTERS),
+    machine!("REMU", REGISTERS),
     // target: a register and an immediate
-    entry!(
-        "ADDI",
-        ADD_IMMEDIATE,
-        Neither,
-        Nothing,
-        Plain,
-        Target,
-        false,
-        None
-    ),
-    entry!(
-        "SLTI", IMMEDIATE, Neither, Nothing, Plain, Target, false, None
-    ),
-    entry!(
-        "SLTIU", IMMEDIATE, Neither, Nothing, Plain, Target, false, None
-    ),
-    entry!(
-        "ANDI", IMMEDIATE, Neither, Nothing, Plain, Target, false, None
-    ),
-    entry!(
-        "ORI", IMMEDIATE, Neither, Nothing, Plain, Target, false, None
-    ),
-    entry!(
-        "XORI", IMMEDIATE, Neither, Nothing, Plain, Target, false, None
-    ),
-    entry!(
-        "SLLI", IMMEDIATE, Neither, Nothing, Plain, Target, false, None
-    ),
-    entry!(
-        "SRLI", IMMEDIATE, Neither, Nothing, Plain, Target, false, None
-    ),
-    entry!(
-        "SRAI", IMMEDIATE, Neither, Nothing, Plain, Target, false, None
-    ),
-    entry!("LUI", UPPER, Neither, Nothing, Plain, Target, false, None),
+    machine!("ADDI", ADD_IMMEDIATE),
+    machine!("SLTI", IMMEDIATE),
+    machine!("SLTIU", IMMEDIATE),
+    machine!("ANDI", IMMEDIATE),
+    machine!("ORI", IMMEDIATE),
+    machine!("XORI", IMMEDIATE),
+    machine!("SLLI", IMMEDIATE),
+    machine!("SRLI", IMMEDIATE),
+    machine!("SRAI", IMMEDIATE),
+    machine!("LUI", UPPER),
     // target, 64 bits alone: words of 32 bits
-    entry!(
-        "ADDW", REGISTERS, Neither, Nothing, Plain, Target, true, None
-    ),
-    entry!(
-        "SUBW", REGISTERS, Neither, Nothing, Plain, Target, true, None
-    ),
-    entry!(
-        "MULW", REGISTERS, Neither, Nothing, Plain, Target, true, None
-    ),
-    entry!(
-        "SLLW", REGISTERS, Neither, Nothing, Plain, Target, true, None
-    ),
-    entry!(
-        "SRLW", REGISTERS, Neither, Nothing, Plain, Target, true, None
-    ),
-    entry!(
-        "SRAW", REGISTERS, Neither, Nothing, Plain, Target, true, None
-    ),
-    entry!(
-        "DIVW", REGISTERS, Neither, Nothing, Plain, Target, true, None
-    ),
-    entry!(
-        "DIVUW", REGISTERS, Neither, Nothing, Plain, Target, true, None
-    ),
-    entry!(
-        "REMW", REGISTERS, Neither, Nothing, Plain, Target, true, None
-    ),
-    entry!(
-        "REMUW", REGISTERS, Neither, Nothing, Plain, Target, true, None
-    ),
-    entry!(
-        "ADDIW", IMMEDIATE, Neither, Nothing, Plain, Target, true, None
-    ),
-    entry!(
-        "SLLIW", IMMEDIATE, Neither, Nothing, Plain, Target, true, None
-    ),
-    entry!(
-        "SRLIW", IMMEDIATE, Neither, Nothing, Plain, Target, true, None
-    ),
-    entry!(
-        "SRAIW", IMMEDIATE, Neither, Nothing, Plain, Target, true, None
-    ),
+    wide!("ADDW", REGISTERS),
+    wide!("SUBW", REGISTERS),
+    wide!("MULW", REGISTERS),
+    wide!("SLLW", REGISTERS),
+    wide!("SRLW", REGISTERS),
+    wide!("SRAW", REGISTERS),
+    wide!("DIVW", REGISTERS),
+    wide!("DIVUW", REGISTERS),
+    wide!("REMW", REGISTERS),
+    wide!("REMUW", REGISTERS),
+    wide!("ADDIW", IMMEDIATE),
+    wide!("SLLIW", IMMEDIATE),
+    wide!("SRLIW", IMMEDIATE),
+    wide!("SRAIW", IMMEDIATE),
     // target: loads, stores and branches
-    entry!(
-        "LB",
-        MACHINE_LOAD,
-        Load,
-        Bits(8),
-        Plain,
-        Target,
-        false,
-        None
-    ),
-    entry!(
-        "LH",
-        MACHINE_LOAD,
-        Load,
-        Bits(16),
-        Plain,
-        Target,
-        false,
-        None
-    ),
-    entry!(
-        "LW",
-        MACHINE_LOAD,
-        Load,
-        Bits(32),
-        Plain,
-        Target,
-        false,
-        None
-    ),
-    entry!(
-        "LBU",
-        MACHINE_LOAD,
-        Load,
-        Bits(8),
-        Plain,
-        Target,
-        false,
-        None
-    ),
-    entry!(
-        "LHU",
-        MACHINE_LOAD,
-        Load,
-        Bits(16),
-        Plain,
-        Target,
-        false,
-        None
-    ),
-    entry!(
-        "LWU",
-        MACHINE_LOAD,
-        Load,
-        Bits(32),
-        Plain,
-        Target,
-        true,
-        None
-    ),
-    entry!(
-        "LD",
-        MACHINE_LOAD,
-        Load,
-        Bits(64),
-        Plain,
-        Target,
-        true,
-        None
-    ),
-    entry!(
-        "SB",
-        MACHINE_STORE,
-        Store,
-        Bits(8),
-        Plain,
-        Target,
-        false,
-        None
-    ),
-    entry!(
-        "SH",
-        MACHINE_STORE,
-        Store,
-        Bits(16),
-        Plain,
-        Target,
-        false,
-        None
-    ),
-    entry!(
-        "SW",
-        MACHINE_STORE,
-        Store,
-        Bits(32),
-        Plain,
-        Target,
-        false,
-        None
-    ),
-    entry!(
-        "SD",
-        MACHINE_STORE,
-        Store,
-        Bits(64),
-        Plain,
-        Target,
-        true,
-        None
-    ),
-    entry!(
-        "BEQ",
-        MACHINE_BRANCH,
-        Neither,
-        Nothing,
-        Branch,
-        Target,
-        false,
-        None
-    ),
-    entry!(
-        "BNE",
-        MACHINE_BRANCH,
-        Neither,
-        Nothing,
-        Branch,
-        Target,
-        false,
-        None
-    ),
-    entry!(
-        "BLT",
-        MACHINE_BRANCH,
-        Neither,
-        Nothing,
-        Branch,
-        Target,
-        false,
-        None
-    ),
-    entry!(
-        "BGE",
-        MACHINE_BRANCH,
-        Neither,
-        Nothing,
-        Branch,
-        Target,
-        false,
-        None
-    ),
-    entry!(
-        "BLTU",
-        MACHINE_BRANCH,
-        Neither,
-        Nothing,
-        Branch,
-        Target,
-        false,
-        None
-    ),
-    entry!(
-        "BGEU",
-        MACHINE_BRANCH,
-        Neither,
-        Nothing,
-        Branch,
-        Target,
-        false,
-        None
-    ),
-    entry!(
-        "PseudoBR", BRANCH, Neither, Nothing, Jump, Target, false, None
-    ),
+    machine!("LB", MACHINE_LOAD, Load, Bits(8)),
+    machine!("LH", MACHINE_LOAD, Load, Bits(16)),
+    machine!("LW", MACHINE_LOAD, Load, Bits(32)),
+    machine!("LBU", MACHINE_LOAD, Load, Bits(8)),
+    machine!("LHU", MACHINE_LOAD, Load, Bits(16)),
+    wide!("LWU", MACHINE_LOAD, Load, Bits(32)),
+    wide!("LD", MACHINE_LOAD, Load, Bits(64)),
+    machine!("SB", MACHINE_STORE, Store, Bits(8)),
+    machine!("SH", MACHINE_STORE, Store, Bits(16)),
+    machine!("SW", MACHINE_STORE, Store, Bits(32)),
+    wide!("SD", MACHINE_STORE, Store, Bits(64)),
+    machine!("BEQ", MACHINE_BRANCH, Branch),
+    machine!("BNE", MACHINE_BRANCH, Branch),
+    machine!("BLT", MACHINE_BRANCH, Branch),
+    machine!("BGE", MACHINE_BRANCH, Branch),
+    machine!("BLTU", MACHINE_BRANCH, Branch),
+    machine!("BGEU", MACHINE_BRANCH, Branch),
+    machine!("PseudoBR", BRANCH, Jump),
 ];
 
 impl Opcode {
