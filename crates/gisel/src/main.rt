@@ -42,8 +42,8 @@ fn command_words(rt: &HostRuntime) -> Result<Words, AllocError> {
     Ok(Words { words, are_utf8 })
 }
 
-/// What is told of the program where that is all that the words ask for.
-fn told(words: &[String]) -> Option<&'static str> {
+/// What the program says of itself, where the words ask for that alone.
+fn text_about(words: &[String]) -> Option<&'static str> {
     match words {
         [word] => match word.as_str() {
             "--help" | "-help" | "-h" => Some(HELP),
@@ -66,7 +66,7 @@ fn main(rt: HostRuntime) -> ExitCode {
         let last = words.last().map_or("", |word| word.as_str());
         return ExitCode::from(refuse_word(rt.alloc(), words.as_slice(), last, &mut err));
     }
-    if let Some(text) = told(words.as_slice()) {
+    if let Some(text) = text_about(words.as_slice()) {
         return ExitCode::from(write_text(&mut out, &mut err, None, text.as_bytes()));
     }
     ExitCode::from(gisel(rt.alloc(), words.as_slice(), &mut input, &mut out, &mut err))
