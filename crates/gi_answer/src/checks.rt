@@ -70,18 +70,18 @@ fn told_target(
     alloc: Global,
     text: &[u8],
     m: &Module,
-    place: usize,
+    place: u32,
     token: Token,
 ) -> Result<Machine, Refused>
     requires { length text.now < 2 ^ 32 - 1 }
     ensures known { IfOk result (λ machine. told_target text.now m.now (Some (place, token)) ≡ Ok machine) }
     ensures refused { IfErr result (λ why. Tells why (λ message. told_target text.now m.now (Some (place, token)) ≡ Err message)) }
 {
-    let name = unquoted(ir_line(m, place), token);
+    let name = unquoted(ir_line(m, place as usize), token);
     if let Some(machine) = Machine::from_triple(name) {
         return Ok(machine);
     }
-    let Ok(line) = ir_number(alloc, text, place) else {
+    let Ok(line) = ir_number(alloc, text, place as usize) else {
         return Err(Refused::Memory);
     };
     match unknown(alloc, line, name) {

@@ -1,6 +1,6 @@
 -- The target triple of an IR block: the first line whose tokens are `target`, `triple`, `=` and a quoted one. (The bytes
 -- of a token tell its kind.)
-use Rattle.std.specs.Prelude.{◌≡◌, ℕ, suc, Bool, true, false, bytes_eq, codes, List, [], ◌∷◌, Option, Some, None, Ok, Err, length, slice_get, if◌then◌else◌}
+use Rattle.std.specs.Prelude.{◌≡◌, ℕ, suc, min, Bool, true, false, bytes_eq, codes, List, [], ◌∷◌, Option, Some, None, Ok, Err, length, slice_get, if◌then◌else◌}
 use Rattle.std.specs.Option.{option_map_or}
 use Rattle.gi_text.specs.declared.token.Token.{Token}
 use Rattle.gi_text.specs.declared.token.TokenKind.{TokenKind}
@@ -51,10 +51,13 @@ IsBehind line spelling place (Some end) =
 abbrev pub triple_in : (line : List ℕ) → Option Token
 triple_in line = told_by (triple_told line) (cut_of line 0 (length line))
 
--- the first such line, by its place, and its token
+-- the first such line, by its place, and its token; a place above 4294967295 counts as that number
+abbrev pub greatest_place : ℕ
+greatest_place = 4294967295
+
 abbrev pub placed_or : (place : ℕ) → Option Token → Option (ℕ × Token) → Option (ℕ × Token)
 placed_or place None later = later
-placed_or place (Some token) later = Some (place, token)
+placed_or place (Some token) later = Some (min place greatest_place, token)
 
 abbrev pub triple_from : (place : ℕ) → (lines : List (List ℕ)) → Option (ℕ × Token)
 triple_from place [] = None

@@ -1,11 +1,14 @@
 //! The target triple of an IR block.
 
-ghost use Rattle.std.specs.Prelude.{◌≡◌, ◌≤◌, IfSome, length, map, string_bytes};
+ghost use Rattle.std.specs.Prelude.{◌≡◌, ◌≤◌, IfSome, length, map, min, string_bytes};
 ghost use Rattle.gi_text.specs.Cutting.{IsSlice, cut_past_place};
-ghost use Rattle.gi_mir_read.specs.Triples.{IsBehind, is_end, is_quoted, is_spelled, last_quoted, told_by, triple_from, triple_in, triple_of};
+ghost use Rattle.gi_mir_read.specs.Triples.{IsBehind, greatest_place, is_end, is_quoted, is_spelled, last_quoted, told_by, triple_from, triple_in, triple_of};
 
 use gi_mir::module::Module;
 use gi_text::{NextToken, Token, TokenKind, next_token};
+
+/// The greatest place of a line that is told.
+const GREATEST_PLACE: usize = 4_294_967_295;
 
 /// Whether a token has this spelling.
 fn is_spelled(line: &[u8], spelling: &str, token: Token) -> bool
@@ -75,13 +78,20 @@ fn triple_in(line: &[u8]) -> Option<Token>
     last_quoted(line, equals)
 }
 
+/// The place of a line, where one above the greatest counts as that.
+fn told_place(place: usize) -> u32
+    ensures { result ≡ min place greatest_place }
+{
+    place.min(GREATEST_PLACE) as u32
+}
+
 /// The first of these lines that tells the triple, by its place, and the quoted token.
-fn first_triple(lines: &[String]) -> Option<(usize, Token)>
+fn first_triple(lines: &[String]) -> Option<(u32, Token)>
     ensures { result ≡ triple_from 0 (map string_bytes lines.now) }
 {
     for (place, line) in lines.iter().enumerate() {
         if let Some(token) = triple_in(line.as_bytes()) {
-            return Some((place, token));
+            return Some((told_place(place), token));
         }
     }
     None
@@ -89,7 +99,7 @@ fn first_triple(lines: &[String]) -> Option<(usize, Token)>
 
 /// The target triple of a module's IR block: the place of the line that tells it, counted from 0, and the
 /// quoted token of that line.
-pub fn triple(module: &Module) -> Option<(usize, Token)>
+pub fn triple(module: &Module) -> Option<(u32, Token)>
     ensures { result ≡ triple_of «module».now }
 {
     match &module.ir {
