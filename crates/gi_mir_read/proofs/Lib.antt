@@ -4,7 +4,6 @@ pub mod BodyLemmas
 pub mod CountLemmas
 pub mod DocumentLemmas
 pub mod EntryLemmas
-pub mod GroupLemmas
 pub mod KeptLemmas
 pub mod KeyLemmas
 pub mod LineCuts
@@ -18,6 +17,7 @@ pub mod RunCuts
 pub mod SectionCuts
 pub mod SizeLemmas
 pub mod SplitLemmas
+pub mod StackLemmas
 pub mod TableLemmas
 pub mod TextLemmas
 pub mod ToldCuts

@@ -3,7 +3,6 @@ pub mod Blocked
 pub mod Bodies
 pub mod Depths
 pub mod Flagged
-pub mod Grouped
 pub mod Implied
 pub mod Keyed
 pub mod Noted

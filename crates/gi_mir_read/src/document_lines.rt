@@ -43,7 +43,7 @@ pub(crate) fn note_strays(text: &[u8], lines: &[Line], lowest: &mut Lowest)
 }
 
 /// The number of the last of a line and the lines behind it.
-pub(crate) fn last_number(line: Line, lines: &[Line]) -> u32
+fn last_number(line: Line, lines: &[Line]) -> u32
     ensures { (text : List ℕ) → result ≡ last_number (line_at text line) (lines_at text lines.now) }
 {
     match lines.last() {

@@ -1,7 +1,8 @@
 //! Entries of `registers` and `stack`.
 
-ghost use Rattle.std.specs.Prelude.{◌≡◌, ◌+◌, ◌-◌, ◌^◌, ◌<◌, ◌≤◌, Ok, IfOk};
-ghost use Rattle.gi_spelling.specs.Entries.{brace_by, colon_by, counts, dash_by, entry, has_all, has_field, key_by, no_fields, passing_by, read_entry, separator_by, step, value_by, whole_entry};
+ghost use Rattle.std.specs.Prelude.{◌≡◌, ◌+◌, ◌-◌, ◌^◌, ◌<◌, ◌≤◌, Ok, IfOk, length};
+ghost use Rattle.gi_spelling.specs.Entries.{brace_by, colon_by, counts, dash_by, entry, has_all, has_field, is_at_end, key_by, no_fields, passing_by, read_entry, separator_by, step, steps, value_by, whole_entry};
+ghost use Rattle.gi_spelling.specs.Documents.{entry_front};
 ghost use Rattle.gi_spelling.specs.Reading.{then_read};
 ghost use Rattle.gi_spelling.specs.declared.written.EntryState.TheVariants.{AtSeparator};
 ghost use Rattle.gi_mir_read.specs.Depths.{depth_of};
@@ -151,8 +152,8 @@ fn separator(fields: Fields, what: What) -> Result<Entry, Fault>
 }
 
 /// A token of a value that is passed over: brackets nest.
-fn passing(fields: Fields, depth: usize, what: What) -> Result<Entry, Fault>
-    requires { depth < 2 ^ 64 - 1 }
+fn passing(fields: Fields, depth: u128, what: What) -> Result<Entry, Fault>
+    requires { depth < 2 ^ 128 - 1 }
     ensures value { result ≡ passing_by fields depth what }
     ensures depth { IfOk result (λ next. depth_of next.state ≤ depth + 1) }
 {
@@ -172,7 +173,7 @@ fn passing(fields: Fields, depth: usize, what: What) -> Result<Entry, Fault>
 
 /// The next token.
 fn step(kind: EntryKind, entry: Entry, item: Item) -> Result<Entry, Fault>
-    requires { depth_of entry.state < 2 ^ 64 - 1 }
+    requires { depth_of entry.state < 2 ^ 128 - 1 }
     ensures value { result ≡ step kind entry.state entry.fields item }
     ensures depth { IfOk result (λ next. depth_of next.state ≤ depth_of entry.state + 1) }
 {
@@ -190,7 +191,7 @@ fn step(kind: EntryKind, entry: Entry, item: Item) -> Result<Entry, Fault>
 }
 
 /// Whether all fields are there that count.
-fn has_all(kind: EntryKind, fields: Fields) -> bool
+pub(crate) fn has_all(kind: EntryKind, fields: Fields) -> bool
     ensures { result ≡ has_all kind fields }
 {
     match kind {
@@ -201,24 +202,47 @@ fn has_all(kind: EntryKind, fields: Fields) -> bool
     }
 }
 
+/// Whether an entry has ended.
+pub(crate) fn is_at_end(state: EntryState) -> bool
+    ensures { result ≡ is_at_end state }
+{
+    matches!(state, EntryState::AtEnd)
+}
+
 /// The fields of an entry that has ended, if they are all there.
 fn whole(kind: EntryKind, entry: Entry) -> Result<Fields, Fault>
     ensures { result ≡ whole_entry kind entry }
 {
-    if matches!(entry.state, EntryState::AtEnd) && has_all(kind, entry.fields) {
+    if is_at_end(entry.state) && has_all(kind, entry.fields) {
         Ok(entry.fields)
     } else {
         Err(Fault::Syntax)
     }
 }
 
+/// An entry of which nothing is read.
+pub(crate) fn front() -> Entry
+    ensures { result ≡ entry_front }
+{
+    at(EntryState::AtDash, no_fields())
+}
+
+/// Where an entry stands behind more tokens.
+pub(crate) fn steps(kind: EntryKind, entry: Entry, items: &[Item]) -> Result<Entry, Fault>
+    requires { depth_of entry.state + length items.now < 2 ^ 128 }
+    ensures value { result ≡ steps kind entry items.now }
+    ensures depth { IfOk result (λ next. depth_of next.state ≤ depth_of entry.state + length items.now) }
+{
+    let mut next = entry;
+    for item in items {
+        next = step(kind, next, *item)?;
+    }
+    Ok(next)
+}
+
 /// An entry, from its tokens.
 pub(crate) fn read_entry(kind: EntryKind, items: &[Item]) -> Result<Fields, Fault>
     ensures { result ≡ read_entry kind items.now }
 {
-    let mut entry = at(EntryState::AtDash, no_fields());
-    for item in items {
-        entry = step(kind, entry, *item)?;
-    }
-    whole(kind, entry)
+    whole(kind, steps(kind, front(), items)?)
 }

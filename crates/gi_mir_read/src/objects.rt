@@ -1,104 +1,117 @@
-//! The entries of `stack`, each of which goes on over lines up to one with a closing brace.
+//! The entries of `stack`, each of which may go on over lines.
 
-ghost use Rattle.std.specs.Prelude.{◌≡◌, ℕ, List, ◌-◌, ◌<◌, ◌≤◌, ◌^◌, ◌++◌, [], ◌∷◌, Ok, Some, All, IfOk, OnOk, fold, length, option_map};
-ghost use Rattle.std.specs.List.{list_any};
-ghost use Rattle.std.specs.Option.{option_to_list};
-ghost use Rattle.gi_spelling.specs.Documents.{brace_by, ends_entry, groups_of, lower, object_at, object_by, object_wrong, object_wrongs, objects_from};
-ghost use Rattle.gi_mir_read.specs.Grouped.{group_at, group_size, items_in_group, last_in};
-ghost use Rattle.gi_mir_read.specs.Placed.{IsLineIn, lines_at};
+ghost use Rattle.std.specs.Prelude.{◌≡◌, ℕ, List, ◌+◌, ◌-◌, ◌<◌, ◌≤◌, ◌^◌, ◌++◌, [], ◌∷◌, Some, All, IfOk, IfSome, OnOk, fold, length};
+ghost use Rattle.std.specs.List.{cons_option};
+ghost use Rattle.gi_spelling.specs.Documents.{behind_line, ended_by, lower, next_by, object_at, object_by, object_wrong, object_wrongs, objects_from, stack_entries, whole_fields};
+ghost use Rattle.gi_mir_read.specs.Depths.{depth_of};
+ghost use Rattle.gi_mir_read.specs.Placed.{IsLineIn, line_at, lines_at};
 
-use crate::document_lines::last_number;
-use crate::entry::read_entry;
+use crate::entry::{front, has_all, is_at_end, steps};
 use crate::lines::Line;
 use crate::list::push;
 use crate::values::items_of_line;
 use crate::wrongs::Lowest;
 use gi_llt::Memory;
 use gi_mir::operand::StackObject;
-use gi_spelling::token::{Item, What};
-use gi_spelling::written::{EntryKind, Fault, Fields};
+use gi_spelling::written::{Entry, EntryKind, Fault, Fields, StackEntry};
 use std::alloc::Global;
 
 /// The bound of sizes and alignments.
 const GREATEST: u128 = 1 << 63;
 
-/// Whether a closing brace stands here.
-fn has_brace(items: &[Item]) -> bool
-    ensures { result ≡ list_any (λ item. brace_by item.what) items.now }
+/// Where an entry stands behind a line, and none where the line can't continue it.
+fn behind_line(
+    alloc: Global,
+    text: &[u8],
+    entry: Entry,
+    line: Line,
+) -> Result<Option<Entry>, Memory>
+    requires line { IsLineIn text.now line }
+    requires short { length text.now < 2 ^ 32 - 1 }
+    requires depth { depth_of entry.state + 2 ^ 64 < 2 ^ 128 }
+    ensures value { IfOk result (λ found. found ≡ behind_line text.now entry (line_at text.now line)) }
+    ensures depth { IfOk result (λ found. IfSome found (λ next. depth_of next.state ≤ depth_of entry.state + 2 ^ 64)) }
 {
-    items
-        .iter()
-        .any(|item| matches!(item.what, What::CloseBrace))
-}
-
-/// Whether an entry ends with a line.
-fn ends_entry(items: &Option<Vec<Item>>) -> bool
-    ensures { result ≡ ends_entry (option_map (λ v. v.items) items.now) }
-{
-    match items {
-        Some(items) => has_brace(items.as_slice()),
-        None => true,
+    match items_of_line(alloc, text, line)? {
+        Some(items) => match steps(EntryKind::Object, entry, items.as_slice()) {
+            Ok(next) => Ok(Some(next)),
+            Err(_) => Ok(None),
+        },
+        None => Ok(None),
     }
 }
 
-/// How many lines the first entry has.
-fn group_size(alloc: Global, text: &[u8], lines: &[Line]) -> Result<usize, Memory>
+/// The fields of an entry that has ended, if they are all there.
+fn whole_fields(entry: Entry) -> Option<Fields>
+    ensures { result ≡ whole_fields entry }
+{
+    if is_at_end(entry.state) && has_all(EntryKind::Object, entry.fields) {
+        Some(entry.fields)
+    } else {
+        None
+    }
+}
+
+/// The entry that ends with a line, if one does.
+fn ended(line: u32, is_last: bool, entry: Option<Entry>) -> Option<StackEntry>
+    ensures { result ≡ ended_by line is_last entry }
+{
+    match entry {
+        Some(at) => {
+            if is_at_end(at.state) || is_last {
+                let fields = whole_fields(at);
+                Some(StackEntry { line, fields })
+            } else {
+                None
+            }
+        }
+        None => Some(StackEntry { line, fields: None }),
+    }
+}
+
+/// Where the line behind goes on.
+fn next(entry: Option<Entry>) -> Entry
+    ensures value { result ≡ next_by entry }
+    ensures depth { (most : ℕ) → IfSome entry (λ at. depth_of at.state ≤ most) → depth_of result.state ≤ most }
+{
+    match entry {
+        Some(at) => { if is_at_end(at.state) { front() } else { at } }
+        None => front(),
+    }
+}
+
+/// Adds one more, if there is one.
+fn append<T: Copy>(list: &mut Vec<T>, x: Option<T>) -> Result<(), Memory>
+    ensures { OnOk result (list.new.items ≡ list.old.items ++ cons_option x []) }
+{
+    match x {
+        Some(x) => push(list, x),
+        None => Ok(()),
+    }
+}
+
+/// The entries of lines.
+fn stack_entries(alloc: Global, text: &[u8], lines: &[Line]) -> Result<Vec<StackEntry>, Memory>
     requires within { All (IsLineIn text.now) lines.now }
     requires short { length text.now < 2 ^ 32 - 1 }
-    ensures size { IfOk result (λ size. size ≡ group_size text.now (lines_at text.now lines.now)) }
-    ensures some { IfOk result (λ size. 0 < length lines.now → 0 < size) }
-    ensures within { IfOk result (λ size. size ≤ length lines.now) }
+    ensures { IfOk result (λ entries. entries.items ≡ stack_entries text.now (lines_at text.now lines.now)) }
 {
+    let mut entries = Vec::new(alloc);
+    let mut entry = front();
     for (place, line) in lines.iter().enumerate() {
-        let items = items_of_line(alloc, text, *line)?;
-        if ends_entry(&items) {
-            return Ok(place + 1);
-        }
+        let found = behind_line(alloc, text, entry, *line)?;
+        append(
+            &mut entries,
+            ended(line.number, place + 1 == lines.len(), found),
+        )?;
+        entry = next(found);
     }
-    Ok(lines.len())
+    Ok(entries)
 }
 
-/// The tokens of lines one after the other, and none where a line has none.
-fn joined_items(alloc: Global, text: &[u8], lines: &[Line]) -> Result<Option<Vec<Item>>, Memory>
-    requires within { All (IsLineIn text.now) lines.now }
-    requires short { length text.now < 2 ^ 32 - 1 }
-    ensures { IfOk result (λ found. option_map (λ v. v.items) found ≡ items_in_group text.now (lines_at text.now lines.now)) }
-{
-    let mut items = Vec::new(alloc);
-    for line in lines {
-        match items_of_line(alloc, text, *line)? {
-            Some(more) => append(&mut items, more.as_slice())?,
-            None => return Ok(None),
-        }
-    }
-    Ok(Some(items))
-}
-
-/// Adds more tokens.
-fn append(items: &mut Vec<Item>, more: &[Item]) -> Result<(), Memory>
-    ensures { OnOk result (items.new.items ≡ items.old.items ++ more.now) }
-{
-    match items.extend_from_slice(more) {
-        Ok(()) => Ok(()),
-        Err(_) => Err(Memory),
-    }
-}
-
-/// The tokens of an entry of these lines.
-fn group_items(alloc: Global, text: &[u8], lines: &[Line]) -> Result<Option<Vec<Item>>, Memory>
-    requires within { All (IsLineIn text.now) lines.now }
-    requires short { length text.now < 2 ^ 32 - 1 }
-    ensures { IfOk result (λ found. option_map (λ v. v.items) found ≡ items_in_group text.now (lines_at text.now lines.now)) }
-{
-    match lines {
-        [line] => items_of_line(alloc, text, *line),
-        _ => joined_items(alloc, text, lines),
-    }
-}
-
-/// The object of an entry, where it has this place.
+/// The object of these fields, where it has this place.
 fn object_by(place: usize, fields: Fields) -> Option<StackObject>
-    ensures { result ≡ object_by place (Ok fields) }
+    ensures { result ≡ object_by place fields }
 {
     let id = fields.id?;
     let size = fields.size?;
@@ -113,34 +126,22 @@ fn object_by(place: usize, fields: Fields) -> Option<StackObject>
     }
 }
 
-/// The object of an entry of these lines, where it has this place.
-fn object_at(
-    alloc: Global,
-    text: &[u8],
-    place: usize,
-    lines: &[Line],
-) -> Result<Option<StackObject>, Memory>
-    requires within { All (IsLineIn text.now) lines.now }
-    requires short { length text.now < 2 ^ 32 - 1 }
-    ensures { IfOk result (λ object. object ≡ object_at place (group_at text.now (lines_at text.now lines.now))) }
+/// The object of an entry, where it has this place.
+fn object_at(place: usize, entry: StackEntry) -> Option<StackObject>
+    ensures { result ≡ object_at place entry }
 {
-    match group_items(alloc, text, lines)? {
-        Some(items) => match read_entry(EntryKind::Object, items.as_slice()) {
-            Ok(fields) => Ok(object_by(place, fields)),
-            Err(_) => Ok(None),
-        },
-        None => Ok(None),
-    }
+    object_by(place, entry.fields?)
 }
 
-/// Adds the object of an entry.
-fn append_object(objects: &mut Vec<StackObject>, object: Option<StackObject>) -> Result<(), Memory>
-    ensures { OnOk result (objects.new.items ≡ objects.old.items ++ option_to_list object) }
+/// The objects of entries, in order.
+fn objects_of(alloc: Global, entries: &[StackEntry]) -> Result<Vec<StackObject>, Memory>
+    ensures { IfOk result (λ objects. objects.items ≡ objects_from 0 entries.now) }
 {
-    match object {
-        Some(object) => push(objects, object),
-        None => Ok(()),
+    let mut objects = Vec::new(alloc);
+    for (place, entry) in entries.iter().enumerate() {
+        append(&mut objects, object_at(place, *entry))?;
     }
+    Ok(objects)
 }
 
 /// The stack objects, in order.
@@ -151,43 +152,32 @@ pub(crate) fn objects(
 ) -> Result<Vec<StackObject>, Memory>
     requires within { All (IsLineIn text.now) lines.now }
     requires short { length text.now < 2 ^ 32 - 1 }
-    ensures { IfOk result (λ objects. objects.items ≡ objects_from 0 (groups_of text.now (lines_at text.now lines.now))) }
+    ensures { IfOk result (λ objects. objects.items ≡ objects_from 0 (stack_entries text.now (lines_at text.now lines.now))) }
 {
-    let mut objects = Vec::new(alloc);
-    let mut rest = lines;
-    let mut place = 0;
-    while !rest.is_empty() {
-        let size = group_size(alloc, text, rest)?;
-        let (group, later) = rest.split_at(size);
-        let object = object_at(alloc, text, place, group)?;
-        append_object(&mut objects, object)?;
-        rest = later;
-        place += 1;
-    }
-    Ok(objects)
+    let entries = stack_entries(alloc, text, lines)?;
+    objects_of(alloc, entries.as_slice())
 }
 
-/// The number of the last of these lines.
-fn last_in(lines: &[Line]) -> u32
-    ensures { (text : List ℕ) → result ≡ last_in (lines_at text lines.now) }
-{
-    match lines {
-        [] => 0,
-        [first, more @ ..] => last_number(*first, more),
-    }
-}
-
-/// Notes an entry of these lines that is no object.
-fn note_object(object: Option<StackObject>, lines: &[Line], lowest: &mut Lowest)
-    ensures { (text : List ℕ) → lowest.new ≡ fold lower lowest.old (object_wrong (last_in (lines_at text lines.now)) object) }
+/// Notes an entry that is no object.
+fn note_object(line: u32, object: Option<StackObject>, lowest: &mut Lowest)
+    ensures { lowest.new ≡ fold lower lowest.old (object_wrong line object) }
 {
     match object {
         Some(_) => {}
-        None => lowest.note(last_in(lines), Fault::Syntax),
+        None => lowest.note(line, Fault::Syntax),
     }
 }
 
-/// Notes each entry that is no object of its place.
+/// Notes each of these entries that is no object of its place.
+fn note_entries(entries: &[StackEntry], lowest: &mut Lowest)
+    ensures { lowest.new ≡ fold lower lowest.old (object_wrongs 0 entries.now) }
+{
+    for (place, entry) in entries.iter().enumerate() {
+        note_object(entry.line, object_at(place, *entry), lowest);
+    }
+}
+
+/// Notes each entry of lines that is no object of its place.
 pub(crate) fn note_objects(
     alloc: Global,
     text: &[u8],
@@ -196,17 +186,9 @@ pub(crate) fn note_objects(
 ) -> Result<(), Memory>
     requires within { All (IsLineIn text.now) lines.now }
     requires short { length text.now < 2 ^ 32 - 1 }
-    ensures { OnOk result (lowest.new ≡ fold lower lowest.old (object_wrongs 0 (groups_of text.now (lines_at text.now lines.now)))) }
+    ensures { OnOk result (lowest.new ≡ fold lower lowest.old (object_wrongs 0 (stack_entries text.now (lines_at text.now lines.now)))) }
 {
-    let mut rest = lines;
-    let mut place = 0;
-    while !rest.is_empty() {
-        let size = group_size(alloc, text, rest)?;
-        let (group, later) = rest.split_at(size);
-        let object = object_at(alloc, text, place, group)?;
-        note_object(object, group, lowest);
-        rest = later;
-        place += 1;
-    }
+    let entries = stack_entries(alloc, text, lines)?;
+    note_entries(entries.as_slice(), lowest);
     Ok(())
 }

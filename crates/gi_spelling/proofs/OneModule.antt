@@ -19,7 +19,7 @@ use Rattle.gi_spelling.specs.Resolved.{Tables, resolved, block_place}
 use Rattle.gi_spelling.specs.Same.{IsSameOperand, IsSameInstr, IsSameBlock, IsSameFunction, IsSameModule}
 use Rattle.gi_spelling.specs.Written.{WrittenData}
 use Rattle.gi_spelling.specs.Blocks.{listed_in, blocks_in, block_numbers}
-use Rattle.gi_spelling.specs.Documents.{entries_of, registers_in, objects_from, groups_of}
+use Rattle.gi_spelling.specs.Documents.{entries_of, registers_in, objects_from, stack_entries}
 use Rattle.gi_spelling.specs.Spelling.{SpellsInstr, is_list_line, lists_of, SpellsSuccessors, SpellsLiveins, SpellsBlock, SpellsBlocks, entries_with, SpellsTruth, Lists, SpellsName, SpellsBody, types_in, SpellsEntries, SpellsDocument, Spells}
 use Rattle.gi_spelling.proofs.SamePrints.{implied_same}
 use Rattle.gi_spelling.proofs.SpelledReads.{at_line, resolved_at, successors_read, liveins_read}
@@ -151,7 +151,7 @@ entries_one text names others sections f g s t =
     let registers = lists_one text (entries_with (codes "registers") sections) s.registers t.registers s.registered t.registered in
     let objects = lists_one text (entries_with (codes "stack") sections) s.objects t.objects s.stacked t.stacked in
     let lines = body_one text (entries_with (codes "body") sections) s.lines t.lines s.bodied t.bodied in
-    let stack : g.stack ≡ f.stack = t.stack ∙ ap (λ lines. objects_from 0 (groups_of text lines)) objects ∙ sym s.stack in
+    let stack : g.stack ≡ f.stack = t.stack ∙ ap (λ lines. objects_from 0 (stack_entries text lines)) objects ∙ sym s.stack in
     let at_registers = subst (λ registers. SpellsBlocks text others (tables_by text registers t.lines (length g.stack)) (types_in g) 0 (blocks_in text t.lines).sections g.blocks) registers t.blocks in
     let at_lines = subst (λ lines. SpellsBlocks text others (tables_by text s.registers lines (length g.stack)) (types_in g) 0 (blocks_in text lines).sections g.blocks) lines at_registers in
     let at_objects = subst (λ stack. SpellsBlocks text others (tables_by text s.registers s.lines (length stack)) (types_in g) 0 (blocks_in text s.lines).sections g.blocks) stack at_lines in

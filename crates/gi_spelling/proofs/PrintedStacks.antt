@@ -1,7 +1,7 @@
 -- The lines of stack objects as they are printed spell these objects.
-use Rattle.std.proofs.Common.{◌≡◌, ℕ, suc, ◌+◌, ◌^◌, ◌<◌, ◌≤◌, true, List, [], ◌∷◌, length, Some, Ok, map, refl, ap, ◌∙◌, subst, arith}
-use Rattle.std.specs.Prelude.{◌||◌, ◌==◌, not, nat_le, min, codes, decimal}
-use Rattle.std.specs.List.{list_all, list_any, AllZip}
+use Rattle.std.proofs.Common.{◌≡◌, ℕ, suc, ◌+◌, ◌^◌, ◌<◌, ◌≤◌, true, List, [], ◌∷◌, length, Some, Ok, map, refl, sym, ap, ◌∙◌, subst, arith}
+use Rattle.std.specs.Prelude.{◌==◌, not, nat_le, min, codes, decimal}
+use Rattle.std.specs.List.{list_all, AllZip, cons_option}
 use Rattle.std.proofs.lemmas.Bool.{and_parts}
 use Rattle.std.proofs.lemmas.Bool.Decides.{nat_tests}
 use Rattle.gi_llt.specs.Tokens.{Word as OfWord, Number as OfNumber, Mark as OfMark, lexeme, Piece, Spaces, token, piece_bytes, IsApart}
@@ -16,7 +16,7 @@ use Rattle.gi_spelling.specs.declared.written.EntryKind.{EntryKind}
 use Rattle.gi_spelling.specs.declared.written.EntryKind.TheVariants as kind
 use Rattle.gi_spelling.specs.declared.written.EntryState.TheVariants as state
 use Rattle.gi_spelling.specs.declared.written.Fields.{Fields}
-use Rattle.gi_spelling.specs.Documents.{brace_by, ends_entry, groups_of, read_group_items, object_by, objects_from}
+use Rattle.gi_spelling.specs.Documents.{entry_front, continued_by, continued, behind_line, stack_entry, ended_by, next_by, is_last, stack_entries_from, stack_entries, object_by, objects_from}
 use Rattle.gi_spelling.specs.Entries.{entry, no_fields, step, steps}
 use Rattle.gi_spelling.specs.Items.{item_of, what_in, items_of_line}
 use Rattle.gi_spelling.specs.Lines.{Line}
@@ -142,22 +142,17 @@ object_steps place object items e =
 same_number : (n : ℕ) → (n == n) ≡ true
 same_number n = grind (arith, nat_tests)
 
-object_means : (place : ℕ) (object : StackObject) (items : List Item) → map what_in items ≡ object_whats place object → object.size ≤ 2 ^ 63 → object.align ≤ 2 ^ 63
-    → object_by place (read_group_items (Some items)) ≡ Some object
-object_means place object items e sized aligned =
+object_means : (place : ℕ) (object : StackObject) → object.size ≤ 2 ^ 63 → object.align ≤ 2 ^ 63 → object_by place (object_fields place object) ≡ Some object
+object_means place object sized aligned =
     let least : min object.size (2 ^ 63) ≡ object.size = omega arith in
     let also : min object.align (2 ^ 63) ≡ object.align = omega arith in
-    rw (object_steps place object items e, same_number place, least, also) refl
-
-any_brace : (items : List Item) → list_any (λ item. brace_by item.what) items ≡ list_any brace_by (map what_in items)
-any_brace [] = refl
-any_brace (item ∷ items) = ap (λ more. brace_by item.what || more) (any_brace items)
+    rw (same_number place, least, also) refl
 
 -- ══ The lines ══
 
 record IsObjectLine (text : List ℕ) (place : ℕ) (object : StackObject) (line : Line) : Type 0 where
-  ends : ends_entry (items_of_line text line) ≡ true
-  means : object_by place (read_group_items (items_of_line text line)) ≡ Some object
+  read : behind_line text entry_front line ≡ Some (entry state.AtEnd (object_fields place object))
+  means : object_by place (object_fields place object) ≡ Some object
 
 object_line_is : (text : List ℕ) (place : ℕ) (object : StackObject) (line : Line) → place < 2 ^ 128 → is_writable_object object ≡ true → IsLine text line (object_line place object) → IsObjectLine text place object line
 object_line_is text place object line placed fits is =
@@ -167,14 +162,20 @@ object_line_is text place object line placed fits is =
     let read = read_line text line (object_line place object) (object_whats place object) is (reads_object place object placed (omega (arith, sized)) (omega (arith, aligned))) in
     let items = map (item_of text) read.tokens in
     record {
-      ends = ap ends_entry read.items ∙ (any_brace items ∙ ap (list_any brace_by) read.same);
-      means = ap (λ found. object_by place (read_group_items found)) read.items ∙ object_means place object items read.same sized aligned;
+      read = ap (continued entry_front) read.items ∙ ap continued_by (object_steps place object items read.same);
+      means = object_means place object sized aligned;
     }
+
+-- an entry that ends with its line
+onto_object : (text : List ℕ) (place : ℕ) (object : StackObject) (line : Line) (lines : List Line) → IsObjectLine text place object line
+    → stack_entries text (line ∷ lines) ≡ stack_entry line.number (Some (object_fields place object)) ∷ stack_entries text lines
+onto_object text place object line lines one =
+    ap (λ read. cons_option (ended_by line.number (is_last lines) read) (stack_entries_from text (next_by read) lines)) one.read
 
 -- objects as they are read from lines
 pub record AreObjects (text : List ℕ) (place : ℕ) (objects : List StackObject) (lines : List Line) : Type 0 where
-  pub means : objects ≡ objects_from place (groups_of text lines)
-  pub each : length objects ≡ length (groups_of text lines)
+  pub means : objects ≡ objects_from place (stack_entries text lines)
+  pub each : length objects ≡ length (stack_entries text lines)
 
 pub objects_are : (text : List ℕ) (place : ℕ) (objects : List StackObject) (lines : List Line) → place + length objects ≤ 2 ^ 128 → list_all is_writable_object objects ≡ true
     → AllZip (IsLine text) lines (object_lines place objects) → AreObjects text place objects lines
@@ -185,7 +186,10 @@ objects_are text place (object ∷ objects) (line ∷ lines) few fits all =
     let parts = and_parts (is_writable_object object) (list_all is_writable_object objects) fits in
     let one = object_line_is text place object line (omega arith) parts.0 all.0 in
     let later = objects_are text (suc place) objects lines (omega arith) parts.1 all.1 in
+    let entries = onto_object text place object line lines one in
+    let read : objects_from place (stack_entries text (line ∷ lines)) ≡ object ∷ objects_from (suc place) (stack_entries text lines) =
+    ap (objects_from place) entries ∙ ap (λ found. cons_option found (objects_from (suc place) (stack_entries text lines))) one.means in
     record {
-      means = rw (one.ends, one.means) (ap (λ more. object ∷ more) later.means);
-      each = rw (one.ends) (ap suc later.each);
+      means = ap (λ more. object ∷ more) later.means ∙ sym read;
+      each = ap suc later.each ∙ sym (ap length entries);
     }

@@ -24,7 +24,7 @@ use Rattle.gi_spelling.specs.Items.{kept_items}
 use Rattle.gi_spelling.specs.Lines.{Line, Section, parts_of_text, document_entries, document_strays, document_end}
 use Rattle.gi_spelling.specs.Resolved.{Tables, each, formed, resolved_definition, resolved_source, resolved_memory, resolved}
 use Rattle.gi_spelling.specs.Blocks.{wrong, is_head, head_number, head_faults, number_at, block_numbers, Body, no_body, body_of, bodies_from, wrongs_from, outer_wrong, kinds_in, has_type, type_of_register, shown_types, shown_at, shown_wrongs}
-use Rattle.gi_spelling.specs.Documents.{Document, read_document, tables_of, bodies_of, without_ids, successors_of, head_of_body, with_last, with_body, function_of, entries_of, list_under, body_lines, register_wrongs, groups_of, object_wrongs, is_missing, missing_wrongs, block_wrongs, line_wrongs, document_wrongs, entries_wrongs, ir_wrongs, first_wrong}
+use Rattle.gi_spelling.specs.Documents.{Document, read_document, tables_of, bodies_of, without_ids, successors_of, head_of_body, with_last, with_body, function_of, entries_of, list_under, body_lines, register_wrongs, stack_entries, object_wrongs, is_missing, missing_wrongs, block_wrongs, line_wrongs, document_wrongs, entries_wrongs, ir_wrongs, first_wrong}
 use Rattle.gi_spelling.specs.Named.{IsNamedEntry, IsNamedBlock}
 use Rattle.gi_spelling.specs.Printed.{implied_successors}
 use Rattle.gi_spelling.specs.Read.{IsReadFunction, IsReadModule}
@@ -352,7 +352,7 @@ document_spelled text names document f right read =
     let blocks = blocks_spelled text names tables (types_in f) (kinds_in bodies) types [] 0 parsed.blocks.sections olds f.blocks inner.0 (shown_fine bodies inner.1) built.built named.blocks in
     let stack : f.stack ≡ parsed.objects = named.stack ∙ built.stack in
     let registers = list_spells text (codes "registers") sections (register_wrongs text) refl (at_most_one text (codes "registers") [] sections refl entries) (λ section. refl) in
-    let objects = list_spells text (codes "stack") sections (λ lines. object_wrongs 0 (groups_of text lines)) refl (at_most_one text (codes "stack") [] sections refl entries) (λ section. refl) in
+    let objects = list_spells text (codes "stack") sections (λ lines. object_wrongs 0 (stack_entries text lines)) refl (at_most_one text (codes "stack") [] sections refl entries) (λ section. refl) in
     record {
       from_a_key = map_none (λ (line : Line). wrong line.number fault.Syntax) (document_entries document).before wrongs_a.0;
       to_the_end = map_none (λ (line : Line). wrong line.number fault.Syntax) (document_strays document) wrongs_d.1;
@@ -371,7 +371,7 @@ document_spelled text names document f right read =
         objects = list_under text (codes "stack") sections;
         stacked = objects.lists;
         stack = stack;
-        each_object = ap length stack ∙ each_object 0 (groups_of text (list_under text (codes "stack") sections)) objects.right;
+        each_object = ap length stack ∙ each_object 0 (stack_entries text (list_under text (codes "stack") sections)) objects.right;
         lines = body_lines text sections;
         bodied = body_spells text sections (at_most_one text (codes "body") [] sections refl entries) there.1;
         from_a_head = map_none (outer_wrong text) parsed.blocks.before outer.0;

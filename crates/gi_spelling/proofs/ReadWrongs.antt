@@ -1,7 +1,7 @@
 -- What holds of the entries of a document in which nothing is wrong.
 use Rattle.std.proofs.Common.{◌≡◌, ℕ, suc, Bool, true, false, List, [], ◌∷◌, ◌++◌, length, Option, Some, None, Ok, Err, map, refl, sym, ap, ◌∙◌, subst, inl, inr}
 use Rattle.std.specs.Prelude.{◌&&◌, ◌||◌, not, filter, find, fold, option_map, bytes_eq, nat_lt, ◌==◌, is_some, codes, min, if◌then◌else◌}
-use Rattle.std.specs.List.{list_all, list_any}
+use Rattle.std.specs.List.{list_all, list_any, cons_option}
 use Rattle.std.specs.Option.{option_map_or}
 use Rattle.std.specs.Cmp.Derive.{both_true}
 use Rattle.std.proofs.lemmas.Bool.{and_parts, or_right, eqb-true}
@@ -11,6 +11,7 @@ use Rattle.gi_spelling.specs.declared.token.What.TheVariants as what
 use Rattle.gi_spelling.specs.declared.token.Item.{Item}
 use Rattle.gi_spelling.specs.declared.token.RegisterClass.{RegisterClass}
 use Rattle.gi_spelling.specs.declared.written.Fields.{Fields}
+use Rattle.gi_spelling.specs.declared.written.StackEntry.{StackEntry}
 use Rattle.gi_spelling.specs.declared.written.EntryKind.{EntryKind}
 use Rattle.gi_spelling.specs.declared.written.EntryKind.TheVariants as entry_kind
 use Rattle.gi_spelling.specs.declared.written.Fault.{Fault}
@@ -25,7 +26,7 @@ use Rattle.gi_spelling.specs.Reading.{Read}
 use Rattle.gi_spelling.specs.declared.written.Entry.{Entry}
 use Rattle.gi_spelling.specs.Entries.{is_at_end, has_all, whole_entry, steps, entry, no_fields, read_entry}
 use Rattle.gi_spelling.specs.Blocks.{wrong}
-use Rattle.gi_spelling.specs.Documents.{is_name, name_value, is_true, truth_by, truth_fault, square_by, list_value, bar_by, is_bar, read_line_entry, line_entry, fields_wrong, register_wrongs, register_by, registers_in, Group, object_at, objects_from, object_wrong, object_wrongs, onto_there, known_keys, under_wrongs, fault_then, list_wrongs, key_wrongs, is_again, entry_wrongs, entries_wrongs, entry_of, is_key_true, list_under, body_lines, is_missing, lower, lowest, first_wrong}
+use Rattle.gi_spelling.specs.Documents.{is_name, name_value, is_true, truth_by, truth_fault, square_by, list_value, bar_by, is_bar, read_line_entry, line_entry, fields_wrong, register_wrongs, register_by, registers_in, object_at, objects_from, object_wrong, object_wrongs, known_keys, under_wrongs, fault_then, list_wrongs, key_wrongs, is_again, entry_wrongs, entries_wrongs, entry_of, is_key_true, list_under, body_lines, is_missing, lower, lowest, first_wrong}
 use Rattle.gi_spelling.specs.Spelling.{word_what, entries_with, SpellsTruth, Lists, SpellsName, SpellsBody}
 use Rattle.gi_spelling.proofs.TokenLists.{then_ok}
 
@@ -276,15 +277,15 @@ each_register text (line ∷ lines) e =
     let some = line_fields text line (line_entry text line) refl parts.0 in
     rw (some.1) (ap suc (each_register text lines parts.1))
 
-object_there : (line : ℕ) (object : Option StackObject) (objects : List StackObject) → object_wrong line object ≡ [] → length (onto_there object objects) ≡ suc (length objects)
+object_there : (line : ℕ) (object : Option StackObject) (objects : List StackObject) → object_wrong line object ≡ [] → length (cons_option object objects) ≡ suc (length objects)
 object_there line None objects e = absurd (cc)
 object_there line (Some object) objects e = refl
 
-pub each_object : (place : ℕ) (groups : List Group) → object_wrongs place groups ≡ [] → length (objects_from place groups) ≡ length groups
+pub each_object : (place : ℕ) (entries : List StackEntry) → object_wrongs place entries ≡ [] → length (objects_from place entries) ≡ length entries
 each_object place [] e = refl
-each_object place (group ∷ groups) e =
-    let parts = append_none (object_wrong group.line (object_at place group)) (object_wrongs (suc place) groups) e in
-    object_there group.line (object_at place group) (objects_from (suc place) groups) parts.0 ∙ ap suc (each_object (suc place) groups parts.1)
+each_object place (one ∷ entries) e =
+    let parts = append_none (object_wrong one.line (object_at place one)) (object_wrongs (suc place) entries) e in
+    object_there one.line (object_at place one) (objects_from (suc place) entries) parts.0 ∙ ap suc (each_object (suc place) entries parts.1)
 
 -- ══ The name and the body ══
 

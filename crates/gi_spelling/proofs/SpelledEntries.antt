@@ -12,12 +12,13 @@ use Rattle.gi_spelling.specs.declared.token.What.{What}
 use Rattle.gi_spelling.specs.declared.token.What.TheVariants as what
 use Rattle.gi_spelling.specs.declared.token.Item.{Item}
 use Rattle.gi_spelling.specs.declared.written.Fields.{Fields}
+use Rattle.gi_spelling.specs.declared.written.StackEntry.{StackEntry}
 use Rattle.gi_spelling.specs.declared.written.ListValue.TheVariants.{Entries, NoEntries}
 use Rattle.gi_spelling.specs.declared.written.Wrong.{Wrong}
 use Rattle.gi_spelling.specs.Items.{what_in, value_items}
 use Rattle.gi_spelling.specs.Lines.{Line, Section, is_entry, is_entry_of, key_of}
 use Rattle.gi_spelling.specs.Reading.{Read}
-use Rattle.gi_spelling.specs.Documents.{is_name, name_value, truth_fault, list_value, line_entry, fields_wrong, register_wrongs, register_by, registers_in, Group, object_at, objects_from, object_wrong, object_wrongs, onto_there, known_keys, under_wrongs, fault_then, list_wrongs, key_wrongs, is_again, entry_wrongs, entries_wrongs, list_under}
+use Rattle.gi_spelling.specs.Documents.{is_name, name_value, truth_fault, list_value, line_entry, fields_wrong, register_wrongs, register_by, registers_in, object_at, objects_from, object_wrong, object_wrongs, known_keys, under_wrongs, fault_then, list_wrongs, key_wrongs, is_again, entry_wrongs, entries_wrongs, list_under}
 use Rattle.gi_spelling.specs.Spelling.{word_what, entries_with, SpellsTruth, Lists, SpellsName, SpellsBody}
 use Rattle.gi_spelling.proofs.ReadWrongs.{any_filtered, same_bytes}
 
@@ -258,20 +259,20 @@ registers_right text (line ∷ lines) e = chosen (line_entry text line) e (regis
     chosen (Err error) e later less = absurd (omega (arith, e, less))
     chosen (Ok fields) e later less = later (some_by (register_by (Ok fields)) e less)
 
-pub there_fewer : (place : ℕ) (groups : List Group) → length (objects_from place groups) ≤ length groups
+pub there_fewer : (place : ℕ) (entries : List StackEntry) → length (objects_from place entries) ≤ length entries
 there_fewer place [] = omega arith
-there_fewer place (group ∷ groups) = chosen (object_at place group) (there_fewer (suc place) groups)
+there_fewer place (one ∷ entries) = chosen (object_at place one) (there_fewer (suc place) entries)
   where
-    chosen : (object : Option StackObject) → length (objects_from (suc place) groups) ≤ length groups → length (onto_there object (objects_from (suc place) groups)) ≤ suc (length groups)
+    chosen : (object : Option StackObject) → length (objects_from (suc place) entries) ≤ length entries → length (cons_option object (objects_from (suc place) entries)) ≤ suc (length entries)
     chosen None less = omega (arith, less)
     chosen (Some object) less = omega (arith, less)
 
-pub objects_right : (place : ℕ) (groups : List Group) → length (objects_from place groups) ≡ length groups → object_wrongs place groups ≡ []
+pub objects_right : (place : ℕ) (entries : List StackEntry) → length (objects_from place entries) ≡ length entries → object_wrongs place entries ≡ []
 objects_right place [] e = refl
-objects_right place (group ∷ groups) e = chosen (object_at place group) e (objects_right (suc place) groups) (there_fewer (suc place) groups)
+objects_right place (one ∷ entries) e = chosen (object_at place one) e (objects_right (suc place) entries) (there_fewer (suc place) entries)
   where
-    chosen : (object : Option StackObject) → length (onto_there object (objects_from (suc place) groups)) ≡ suc (length groups)
-        → (length (objects_from (suc place) groups) ≡ length groups → object_wrongs (suc place) groups ≡ []) → length (objects_from (suc place) groups) ≤ length groups
-        → object_wrong group.line object ++ object_wrongs (suc place) groups ≡ []
+    chosen : (object : Option StackObject) → length (cons_option object (objects_from (suc place) entries)) ≡ suc (length entries)
+        → (length (objects_from (suc place) entries) ≡ length entries → object_wrongs (suc place) entries ≡ []) → length (objects_from (suc place) entries) ≤ length entries
+        → object_wrong one.line object ++ object_wrongs (suc place) entries ≡ []
     chosen None e later less = absurd (omega (arith, e, less))
     chosen (Some object) e later less = later (omega (arith, e))

@@ -1,15 +1,14 @@
 -- The stack objects that a document spells can be written again: their ids are numbers of tokens.
-use Rattle.std.proofs.Common.{◌≡◌, ℕ, zero, suc, ◌+◌, ◌<◌, ◌≤◌, Bool, true, false, List, [], ◌∷◌, length, Option, Some, None, Ok, Err, refl, ◌∙◌, subst, arith, eqb-true}
-use Rattle.std.specs.Prelude.{◌^◌, ◌&&◌, ◌==◌, nat_lt, nat_le, min, if◌then◌else◌}
-use Rattle.std.specs.List.{list_all, AllByRecursion}
+use Rattle.std.proofs.Common.{◌≡◌, ℕ, zero, suc, ◌+◌, ◌<◌, ◌≤◌, Bool, true, false, List, [], ◌∷◌, length, Option, Some, None, Ok, Err, refl, subst, arith, eqb-true}
+use Rattle.std.specs.Prelude.{◌^◌, ◌&&◌, ◌||◌, ◌==◌, nat_lt, nat_le, min, if◌then◌else◌}
+use Rattle.std.specs.List.{list_all, AllByRecursion, cons_option}
 use Rattle.std.specs.Option.{option_map_or}
 use Rattle.std.specs.Cmp.Derive.{both_true}
 use Rattle.std.proofs.lemmas.Bool.{and_parts}
 use Rattle.std.proofs.lemmas.Bool.Decides.{nat_tests}
-use Rattle.std.proofs.lemmas.List.Folds.{list_all-append}
 use Rattle.gi_mir.specs.declared.operand.StackObject.{StackObject}
-use Rattle.gi_spelling.specs.Documents.{ends_entry, Group, joined, onto_group, groups_of, read_group_items, object_by, object_at, onto_there, objects_from}
-use Rattle.gi_spelling.specs.Entries.{counts, has_field, entry, no_fields, key_by, colon_by, value_by, separator_by, passed_at, opens, closes, is_comma, is_close_brace, dash_by, brace_by, step, steps, has_all, is_at_end, whole_entry, read_entry}
+use Rattle.gi_spelling.specs.Documents.{entry_front, continued_by, continued, behind_line, whole_fields, stack_entry, ended_by, next_by, is_last, stack_entries_from, stack_entries, object_by, object_at, objects_from}
+use Rattle.gi_spelling.specs.Entries.{counts, has_field, entry, key_by, colon_by, value_by, separator_by, passed_at, opens, closes, is_comma, is_close_brace, dash_by, brace_by, step, steps, has_all, is_at_end}
 use Rattle.gi_spelling.specs.Items.{items_of_line, end_of}
 use Rattle.gi_spelling.specs.Lines.{Line}
 use Rattle.gi_spelling.specs.Printable.{is_writable_object}
@@ -23,6 +22,7 @@ use Rattle.gi_spelling.specs.declared.token.What.{What}
 use Rattle.gi_spelling.specs.declared.token.What.TheVariants as what
 use Rattle.gi_spelling.specs.declared.written.Fields.{Fields}
 use Rattle.gi_spelling.specs.declared.written.Entry.{Entry}
+use Rattle.gi_spelling.specs.declared.written.StackEntry.{StackEntry}
 use Rattle.gi_spelling.specs.declared.written.EntryState.{EntryState}
 use Rattle.gi_spelling.specs.declared.written.EntryState.TheVariants as state
 use Rattle.gi_spelling.specs.declared.written.EntryKind.{EntryKind}
@@ -121,49 +121,57 @@ module _ (text : List ℕ) (k : EntryKind) where
       chosen (Err error) own is one fine later = absurd (cc)
       chosen (Ok middle) own is one fine later = later middle (one middle fine small own) is
 
-  entry_small : (items : List Item) (fields : Fields) → list_all (is_item text) items ≡ true → read_entry k items ≡ Ok fields → is_small fields ≡ true
-  entry_small items fields all is = chosen (steps k (entry state.AtDash no_fields) items) refl is
-    where
-      ended : (at : Entry) (b : Bool) → is_small at.fields ≡ true → (if b then Ok at.fields else syntax) ≡ Ok fields → is_small fields ≡ true
-      ended at true small is = let same : at.fields ≡ fields = cc in subst (λ fields. is_small fields ≡ true) same small
-      ended at false small is = absurd (cc)
+-- ══ Entries over lines ══
 
-      chosen : (read : Read Entry) → steps k (entry state.AtDash no_fields) items ≡ read → then_read read (whole_entry k) ≡ Ok fields → is_small fields ≡ true
-      chosen (Err error) own is = absurd (cc)
-      chosen (Ok at) own is = ended at (is_at_end at.state && has_all k at.fields) (steps_small (entry state.AtDash no_fields) items at all refl own) is
+abbrev is_small_entry : Option Entry → Bool
+is_small_entry at = option_map_or (λ at. is_small at.fields) at true
 
--- ══ Groups of lines ══
+abbrev are_small : StackEntry → Bool
+are_small one = option_map_or is_small one.fields true
 
-abbrev are_items : (text : List ℕ) → Option (List Item) → Bool
-are_items text items = option_map_or (list_all (is_item text)) items true
-
-line_items : (text : List ℕ) (line : Line) → are_items text (items_of_line text line) ≡ true
-line_items text line = chosen (items_of_line text line) refl
+line_small : (text : List ℕ) (at : Entry) (line : Line) → is_small at.fields ≡ true → is_small_entry (behind_line text at line) ≡ true
+line_small text at line small = chosen (items_of_line text line) refl
   where
-    chosen : (items : Option (List Item)) → items_of_line text line ≡ items → are_items text items ≡ true
+    stepped : (items : List Item) → list_all (is_item text) items ≡ true → (read : Read Entry) → steps entry_kind.Object at items ≡ read → is_small_entry (continued_by read) ≡ true
+    stepped items all (Err error) is = refl
+    stepped items all (Ok next) is = steps_small text entry_kind.Object at items next all small is
+
+    chosen : (items : Option (List Item)) → items_of_line text line ≡ items → is_small_entry (continued at items) ≡ true
     chosen None is = refl
-    chosen (Some items) is = items_fine text line.start (end_of line) items is
+    chosen (Some items) is = stepped items (items_fine text line.start (end_of line) items is) (steps entry_kind.Object at items) refl
 
-joined_items : (text : List ℕ) (first second : Option (List Item)) → are_items text first ≡ true → are_items text second ≡ true → are_items text (joined first second) ≡ true
-joined_items text None second fine more = refl
-joined_items text (Some items) None fine more = refl
-joined_items text (Some items) (Some next) fine more = list_all-append (is_item text) items next ∙ both_true fine more
-
-abbrev AreGroups : (text : List ℕ) → List Group → Type 0
-AreGroups text groups = AllByRecursion (λ group. are_items text group.items ≡ true) groups
-
-onto_items : (text : List ℕ) (items : Option (List Item)) (groups : List Group) (line : Line) → are_items text items ≡ true → AreGroups text groups → AreGroups text (onto_group items groups line)
-onto_items text items [] line fine all = (fine, tt)
-onto_items text items (group ∷ groups) line fine all = (joined_items text items group.items fine all.0, all.1)
-
-groups_fine : (text : List ℕ) (lines : List Line) → AreGroups text (groups_of text lines)
-groups_fine text [] = tt
-groups_fine text (line ∷ lines) = chosen (ends_entry (items_of_line text line)) (line_items text line) (groups_fine text lines)
+next_small : (read : Option Entry) → is_small_entry read ≡ true → is_small (next_by read).fields ≡ true
+next_small None small = refl
+next_small (Some at) small = chosen (is_at_end at.state)
   where
-    chosen : (b : Bool) → are_items text (items_of_line text line) ≡ true → AreGroups text (groups_of text lines)
-        → AreGroups text (if b then record { line = line.number; items = items_of_line text line } ∷ groups_of text lines else onto_group (items_of_line text line) (groups_of text lines) line)
-    chosen true fine later = (fine, later)
-    chosen false fine later = onto_items text (items_of_line text line) (groups_of text lines) line fine later
+    chosen : (ends : Bool) → is_small (if ends then entry_front else at).fields ≡ true
+    chosen true = refl
+    chosen false = small
+
+whole_small : (line : ℕ) (at : Entry) → is_small at.fields ≡ true → are_small (stack_entry line (whole_fields at)) ≡ true
+whole_small line at small = chosen (is_at_end at.state && has_all entry_kind.Object at.fields)
+  where
+    chosen : (whole : Bool) → are_small (stack_entry line (if whole then Some at.fields else None)) ≡ true
+    chosen true = small
+    chosen false = refl
+
+abbrev AreSmall : List StackEntry → Type 0
+AreSmall entries = AllByRecursion (λ one. are_small one ≡ true) entries
+
+onto_small : (line : ℕ) (last : Bool) (read : Option Entry) (later : List StackEntry) → is_small_entry read ≡ true → AreSmall later → AreSmall (cons_option (ended_by line last read) later)
+onto_small line last None later small all = (refl, all)
+onto_small line last (Some at) later small all = chosen (is_at_end at.state || last)
+  where
+    chosen : (ends : Bool) → AreSmall (cons_option (if ends then Some (stack_entry line (whole_fields at)) else None) later)
+    chosen true = (whole_small line at small, all)
+    chosen false = all
+
+entries_small : (text : List ℕ) (at : Entry) (lines : List Line) → is_small at.fields ≡ true → AreSmall (stack_entries_from text at lines)
+entries_small text at [] small = tt
+entries_small text at (line ∷ lines) small =
+    let read = line_small text at line small in
+    onto_small line.number (is_last lines) (behind_line text at line) (stack_entries_from text (next_by (behind_line text at line)) lines) read
+    (entries_small text (next_by (behind_line text at line)) lines (next_small (behind_line text at line) read))
 
 -- ══ Objects ══
 
@@ -174,7 +182,7 @@ record IsFine (place : ℕ) (object : StackObject) : Type 0 where
 least_size : (n : ℕ) → nat_le (min n greatest_size) greatest_size ≡ true
 least_size n = grind (arith, nat_tests)
 
-object_fine : (place : ℕ) (fields : Fields) (object : StackObject) → is_small fields ≡ true → object_by place (Ok fields) ≡ Some object → IsFine place object
+object_fine : (place : ℕ) (fields : Fields) (object : StackObject) → is_small fields ≡ true → object_by place fields ≡ Some object → IsFine place object
 object_fine place fields object small is = chosen fields.id fields.size fields.alignment small is
   where
     made : (id size align : ℕ) (b : Bool) → (id == place) ≡ b → nat_lt id (2 ^ 128) ≡ true
@@ -196,32 +204,28 @@ object_fine place fields object small is = chosen fields.id fields.size fields.a
     chosen (Some id) (Some size) None small is = absurd (cc)
     chosen (Some id) (Some size) (Some align) small is = made id size align (id == place) refl small is
 
-group_fine : (text : List ℕ) (place : ℕ) (group : Group) (object : StackObject) → are_items text group.items ≡ true → object_at place group ≡ Some object → IsFine place object
-group_fine text place group object fine is = chosen group.items fine is
+entry_fine : (place : ℕ) (one : StackEntry) (object : StackObject) → are_small one ≡ true → object_at place one ≡ Some object → IsFine place object
+entry_fine place one object small is = chosen one.fields small is
   where
-    read : (items : List Item) (r : Read Fields) → list_all (is_item text) items ≡ true → read_entry entry_kind.Object items ≡ r → object_by place r ≡ Some object → IsFine place object
-    read items (Err error) fine own is = absurd (cc)
-    read items (Ok fields) fine own is = object_fine place fields object (entry_small text entry_kind.Object items fields fine own) is
-
-    chosen : (items : Option (List Item)) → are_items text items ≡ true → object_by place (read_group_items items) ≡ Some object → IsFine place object
-    chosen None fine is = absurd (cc)
-    chosen (Some items) fine is = read items (read_entry entry_kind.Object items) fine refl is
+    chosen : (fields : Option Fields) → option_map_or is_small fields true ≡ true → option_map_or (object_by place) fields None ≡ Some object → IsFine place object
+    chosen None small is = absurd (cc)
+    chosen (Some fields) small is = object_fine place fields object small is
 
 pub record AreObjects (place : ℕ) (objects : List StackObject) : Type 0 where
   pub few : place + length objects ≤ 2 ^ 128
   pub writable : list_all is_writable_object objects ≡ true
 
-objects_of : (text : List ℕ) (place : ℕ) (groups : List Group) → place ≤ 2 ^ 128 → AreGroups text groups → length (objects_from place groups) ≡ length groups → AreObjects place (objects_from place groups)
-objects_of text place [] within all each = record { few = omega (arith, within); writable = refl }
-objects_of text place (group ∷ groups) within all each = chosen (object_at place group) refl each (there_fewer (suc place) groups) (λ within. objects_of text (suc place) groups within all.1)
+objects_of : (place : ℕ) (entries : List StackEntry) → place ≤ 2 ^ 128 → AreSmall entries → length (objects_from place entries) ≡ length entries → AreObjects place (objects_from place entries)
+objects_of place [] within all each = record { few = omega (arith, within); writable = refl }
+objects_of place (one ∷ entries) within all each = chosen (object_at place one) refl each (there_fewer (suc place) entries) (λ within. objects_of (suc place) entries within all.1)
   where
-    chosen : (o : Option StackObject) → object_at place group ≡ o → length (onto_there o (objects_from (suc place) groups)) ≡ suc (length groups) → length (objects_from (suc place) groups) ≤ length groups
-        → (suc place ≤ 2 ^ 128 → length (objects_from (suc place) groups) ≡ length groups → AreObjects (suc place) (objects_from (suc place) groups)) → AreObjects place (onto_there o (objects_from (suc place) groups))
+    chosen : (o : Option StackObject) → object_at place one ≡ o → length (cons_option o (objects_from (suc place) entries)) ≡ suc (length entries) → length (objects_from (suc place) entries) ≤ length entries
+        → (suc place ≤ 2 ^ 128 → length (objects_from (suc place) entries) ≡ length entries → AreObjects (suc place) (objects_from (suc place) entries)) → AreObjects place (cons_option o (objects_from (suc place) entries))
     chosen None is each less later = absurd (omega (arith, each, less))
     chosen (Some object) is each less later =
-        let fine = group_fine text place group object all.0 is in
+        let fine = entry_fine place one object all.0 is in
         let rest = later (omega (arith, fine.within)) (omega (arith, each)) in
         record { few = omega (arith, rest.few); writable = both_true fine.writable rest.writable }
 
-pub objects_fine : (text : List ℕ) (lines : List Line) → length (objects_from 0 (groups_of text lines)) ≡ length (groups_of text lines) → AreObjects 0 (objects_from 0 (groups_of text lines))
-objects_fine text lines each = objects_of text 0 (groups_of text lines) (omega arith) (groups_fine text lines) each
+pub objects_fine : (text : List ℕ) (lines : List Line) → length (objects_from 0 (stack_entries text lines)) ≡ length (stack_entries text lines) → AreObjects 0 (objects_from 0 (stack_entries text lines))
+objects_fine text lines each = objects_of 0 (stack_entries text lines) (omega arith) (entries_small text entry_front lines refl) each

@@ -13,7 +13,7 @@ use Rattle.gi_llt.specs.Tokens.{run_of, past_run}
 use Rattle.gi_llt.specs.declared.Llt.{Llt}
 use Rattle.gi_mir.specs.Data.{InstrData, BlockData, FunctionData, ModuleData}
 use Rattle.gi_spelling.specs.Blocks.{listed_in, head_by, head_in, number_at, block_numbers, blocks_in}
-use Rattle.gi_spelling.specs.Documents.{is_name, ir_wrongs, line_wrongs, is_no_text, groups_of, objects_from, entries_of}
+use Rattle.gi_spelling.specs.Documents.{is_name, ir_wrongs, line_wrongs, is_no_text, stack_entries, objects_from, entries_of}
 use Rattle.gi_spelling.specs.Items.{what_in, kept_items}
 use Rattle.gi_spelling.specs.Lines.{Line, Section, onto_first, lines_of, numbered_from, lines_in, is_dropped, is_start, is_end, is_block_start, ends_document, block_lines_in, parts_from, parts_of_text}
 use Rattle.gi_spelling.specs.Printable.{is_none_live, is_live_first, IsPrintableInstr, IsPrintableBlock, IsPrintableFunction, is_ir_line, are_ir_lines, IsPrintableModule}
@@ -165,12 +165,12 @@ function_printable text names document f spelled there =
     let sections = (blocks_in text own.lines).sections in
     let tables : Tables = record { classes = _; blocks = block_numbers text sections; objects = length f.stack } in
     let objects = objects_fine text own.objects (sym (ap length own.stack) ∙ own.each_object) in
-    let stack : length f.stack ≡ length (objects_from 0 (groups_of text own.objects)) = ap length own.stack in
+    let stack : length f.stack ≡ length (objects_from 0 (stack_entries text own.objects)) = ap length own.stack in
     let count = blocks_length text names tables (types_in f) 0 sections f.blocks own.blocks in
     let few = few_sections text sections own.distinct in
     record {
       named = named_fine (name_at names f.name) (entries_with (codes "name") (entries_of document)) own.named;
-      few_objects = rw stack (at_most_fine (length (objects_from 0 (groups_of text own.objects))) (2 ^ 128) (omega (arith, objects.few)));
+      few_objects = rw stack (at_most_fine (length (objects_from 0 (stack_entries text own.objects))) (2 ^ 128) (omega (arith, objects.few)));
       objects = rw own.stack objects.writable;
       few_blocks = rw count (at_most_fine (length sections) (suc greatest_block) few);
       live_first = live_first text names tables (types_in f) sections f.blocks own.blocks;

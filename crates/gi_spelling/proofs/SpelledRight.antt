@@ -17,7 +17,7 @@ use Rattle.gi_spelling.specs.Items.{what_in, kept_items, value_items}
 use Rattle.gi_spelling.specs.Lines.{Line, Section, Sections, is_entry_of, parts_of_text, document_entries, document_strays, document_end}
 use Rattle.gi_spelling.specs.Resolved.{Tables}
 use Rattle.gi_spelling.specs.Blocks.{is_head, head_number, head_faults, number_at, block_numbers, blocks_in, Body, no_body, body_of, bodies_from, wrongs_from, outer_wrong, kinds_in, type_of_register, has_type, shown_wrong, shown_wrongs}
-use Rattle.gi_spelling.specs.Documents.{is_bar, read_document, tables_of, entries_of, body_lines, register_wrongs, registers_in, groups_of, objects_from, object_wrongs, is_missing, missing_wrongs, block_wrongs, line_wrongs, document_wrongs, first_wrong, wrong_in}
+use Rattle.gi_spelling.specs.Documents.{is_bar, read_document, tables_of, entries_of, body_lines, register_wrongs, registers_in, stack_entries, objects_from, object_wrongs, is_missing, missing_wrongs, block_wrongs, line_wrongs, document_wrongs, first_wrong, wrong_in}
 use Rattle.gi_spelling.specs.Spelling.{types_in, SpellsName, SpellsBody, SpellsBlock, SpellsBlocks, are_distinct, entries_with, SpellsEntries, SpellsDocument, Spells}
 use Rattle.gi_spelling.proofs.ReadKinds.{SharesOperands, SameOperands, types_shared}
 use Rattle.gi_spelling.proofs.SpelledEntries.{KnownKey, NameKey, LegalKey, BankedKey, ChosenKey, RegistersKey, StackKey, BodyKey, key_bytes, Single, entries_right, find_by, truth_single, name_single, body_single, list_read, registers_right, objects_right}
@@ -187,15 +187,15 @@ document_right text names document f spelled =
     let sections = entries_of document in
     let own = spelled.entries in
     let registers = list_read text (codes "registers") sections (entries_with (codes "registers") sections) own.registers (register_wrongs text) refl own.registered (registers_right text own.registers own.each_register) (λ section. refl) in
-    let objects = list_read text (codes "stack") sections (entries_with (codes "stack") sections) own.objects (λ lines. object_wrongs 0 (groups_of text lines)) refl own.stacked
-    (objects_right 0 (groups_of text own.objects) (sym (ap length own.stack) ∙ own.each_object)) (λ section. refl) in
+    let objects = list_read text (codes "stack") sections (entries_with (codes "stack") sections) own.objects (λ lines. object_wrongs 0 (stack_entries text lines)) refl own.stacked
+    (objects_right 0 (stack_entries text own.objects) (sym (ap length own.stack) ∙ own.each_object)) (λ section. refl) in
     let singles : (k : KnownKey) → Single text (key_bytes k) sections = singles_of text names f sections own registers.single objects.single in
     let entries = entries_right text [] sections singles own.keyed in
     let parsed = read_document text sections in
     let lines : body_lines text sections ≡ own.lines = body_under text sections (entries_with (codes "body") sections) own.lines refl own.bodied in
     let blocks : parsed.blocks ≡ blocks_in text own.lines = ap (blocks_in text) lines in
     let classes : parsed.classes ≡ registers_in text own.registers = ap (registers_in text) registers.under in
-    let stack : parsed.objects ≡ f.stack = ap (λ lines. objects_from 0 (groups_of text lines)) objects.under ∙ sym own.stack in
+    let stack : parsed.objects ≡ f.stack = ap (λ lines. objects_from 0 (stack_entries text lines)) objects.under ∙ sym own.stack in
     let tables_are : Tables = record { classes = registers_in text own.registers; blocks = block_numbers text (blocks_in text own.lines).sections; objects = length f.stack } in
     let tables : tables_of text parsed ≡ tables_are = rw (blocks, classes, stack) refl in
     let types = types_in f in

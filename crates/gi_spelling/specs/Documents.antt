@@ -2,7 +2,7 @@
 -- number by its bytes, and a global by the place of its token in the text.
 -- (Machine IR (MIR) Format Reference Manual, "High Level Structure", "Machine Functions".)
 use Rattle.std.specs.Prelude.{ℕ, suc, Bool, true, false, not, ◌&&◌, ◌||◌, List, [], ◌∷◌, ◌++◌, Option, Some, None, Ok, Err, length, map, filter, filter_map, flat_map, fold, find, min, nat_lt, ◌==◌, bytes_eq, if◌then◌else◌, codes, unwrap_or}
-use Rattle.std.specs.List.{list_all, list_any}
+use Rattle.std.specs.List.{list_all, list_any, cons_option}
 use Rattle.std.specs.Option.{option_map_or}
 use Rattle.std.specs.Str.{is_utf8}
 use Rattle.gi_llt.specs.Tokens.{is_word_byte}
@@ -17,7 +17,10 @@ use Rattle.gi_spelling.specs.declared.token.What.{What}
 use Rattle.gi_spelling.specs.declared.token.What.TheVariants as what
 use Rattle.gi_spelling.specs.declared.token.Item.{Item}
 use Rattle.gi_spelling.specs.declared.written.Fields.{Fields}
+use Rattle.gi_spelling.specs.declared.written.Entry.{Entry}
 use Rattle.gi_spelling.specs.declared.written.EntryKind.TheVariants as entry_kind
+use Rattle.gi_spelling.specs.declared.written.EntryState.TheVariants as entry_state
+use Rattle.gi_spelling.specs.declared.written.StackEntry.{StackEntry}
 use Rattle.gi_spelling.specs.declared.written.Fault.{Fault}
 use Rattle.gi_spelling.specs.declared.written.Fault.TheVariants as fault
 use Rattle.gi_spelling.specs.declared.written.ListValue.{ListValue}
@@ -27,7 +30,7 @@ use Rattle.gi_spelling.specs.Lines.{Line, Section, Sections, value_bytes, behind
 use Rattle.gi_spelling.specs.Items.{items_of_line, value_items}
 use Rattle.gi_spelling.specs.Words.{greatest_register, greatest_size}
 use Rattle.gi_spelling.specs.Reading.{Read, syntax}
-use Rattle.gi_spelling.specs.Entries.{read_entry}
+use Rattle.gi_spelling.specs.Entries.{entry, no_fields, steps, has_all, is_at_end, read_entry}
 use Rattle.gi_spelling.specs.Resolved.{Tables, block_place}
 use Rattle.gi_spelling.specs.Blocks.{wrong, Body, blocks_in, block_numbers, bodies_from, wrongs_from, outer_wrong, shown_wrongs}
 
@@ -108,63 +111,70 @@ register_by (Err error) = None
 abbrev pub registers_in : (text : List ℕ) → List Line → List (ℕ × RegisterClass)
 registers_in text lines = filter_map (λ line. register_by (line_entry text line)) lines
 
--- an entry of `stack` goes on over lines up to one with a closing brace, or one that has no tokens
-abbrev pub brace_by : What → Bool
-brace_by what.CloseBrace = true
-brace_by w = false
+-- An entry of `stack` may go on over lines. It is read token by token, and ends with the line that makes it whole, with a
+-- line that has a token which can't continue it, or with the last line.
+abbrev pub entry_front : Entry
+entry_front = entry entry_state.AtDash no_fields
 
-abbrev pub ends_entry : Option (List Item) → Bool
-ends_entry None = true
-ends_entry (Some items) = list_any (λ item. brace_by item.what) items
+-- where an entry stands behind a line, and none where the line can't continue it
+abbrev pub continued_by : Read Entry → Option Entry
+continued_by (Ok at) = Some at
+continued_by (Err error) = None
 
--- the tokens of an entry so far, none where a line has none, and the number of its last line
-pub record Group : Type 0 where
-  pub line : ℕ
-  pub items : Option (List Item)
+abbrev pub continued : Entry → Option (List Item) → Option Entry
+continued at None = None
+continued at (Some items) = continued_by (steps entry_kind.Object at items)
 
-abbrev pub joined : Option (List Item) → Option (List Item) → Option (List Item)
-joined None next = None
-joined items None = None
-joined (Some items) (Some next) = Some (items ++ next)
+abbrev pub behind_line : (text : List ℕ) → Entry → Line → Option Entry
+behind_line text at line = continued at (items_of_line text line)
 
-abbrev pub onto_group : Option (List Item) → List Group → Line → List Group
-onto_group items [] line = record { line = line.number; items = items } ∷ []
-onto_group items (group ∷ groups) line = record { line = group.line; items = joined items group.items } ∷ groups
+-- the entry that ends there, if one does
+abbrev pub whole_fields : Entry → Option Fields
+whole_fields at = if is_at_end at.state && has_all entry_kind.Object at.fields then Some at.fields else None
 
-abbrev pub groups_of : (text : List ℕ) → List Line → List Group
-groups_of text [] = []
-groups_of text (line ∷ lines) =
-    if ends_entry (items_of_line text line) then record { line = line.number; items = items_of_line text line } ∷ groups_of text lines
-    else onto_group (items_of_line text line) (groups_of text lines) line
+abbrev pub stack_entry : (line : ℕ) → Option Fields → StackEntry
+stack_entry line fields = record { line = line; fields = fields }
 
-abbrev pub read_group_items : Option (List Item) → Read Fields
-read_group_items None = syntax
-read_group_items (Some items) = read_entry entry_kind.Object items
+abbrev pub ended_by : (line : ℕ) (last : Bool) → Option Entry → Option StackEntry
+ended_by line last None = Some (stack_entry line None)
+ended_by line last (Some at) = if is_at_end at.state || last then Some (stack_entry line (whole_fields at)) else None
+
+-- where the next line goes on
+abbrev pub next_by : Option Entry → Entry
+next_by None = entry_front
+next_by (Some at) = if is_at_end at.state then entry_front else at
+
+abbrev pub is_last : List Line → Bool
+is_last [] = true
+is_last (line ∷ lines) = false
+
+abbrev pub stack_entries_from : (text : List ℕ) → Entry → List Line → List StackEntry
+stack_entries_from text at [] = []
+stack_entries_from text at (line ∷ lines) =
+    cons_option (ended_by line.number (is_last lines) (behind_line text at line)) (stack_entries_from text (next_by (behind_line text at line)) lines)
+
+abbrev pub stack_entries : (text : List ℕ) → List Line → List StackEntry
+stack_entries text lines = stack_entries_from text entry_front lines
 
 -- the objects are numbered from 0 in order
-abbrev pub object_by : (place : ℕ) → Read Fields → Option StackObject
-object_by place (Ok fields) =
+abbrev pub object_by : (place : ℕ) → Fields → Option StackObject
+object_by place fields =
     option_map_or (λ id. option_map_or (λ size. option_map_or (λ align. if id == place then Some (record { size = min size greatest_size; align = min align greatest_size }) else None) fields.alignment None) fields.size None) fields.id None
-object_by place (Err error) = None
 
-abbrev pub object_at : (place : ℕ) → Group → Option StackObject
-object_at place group = object_by place (read_group_items group.items)
+abbrev pub object_at : (place : ℕ) → StackEntry → Option StackObject
+object_at place one = option_map_or (object_by place) one.fields None
 
-abbrev pub onto_there : {X : Type 0} → Option X → List X → List X
-onto_there None xs = xs
-onto_there (Some x) xs = x ∷ xs
-
-abbrev pub objects_from : (place : ℕ) → List Group → List StackObject
+abbrev pub objects_from : (place : ℕ) → List StackEntry → List StackObject
 objects_from place [] = []
-objects_from place (group ∷ groups) = onto_there (object_at place group) (objects_from (suc place) groups)
+objects_from place (first ∷ more) = cons_option (object_at place first) (objects_from (suc place) more)
 
 abbrev pub object_wrong : ℕ → Option StackObject → List Wrong
 object_wrong line None = wrong line fault.Syntax ∷ []
 object_wrong line (Some object) = []
 
-abbrev pub object_wrongs : (place : ℕ) → List Group → List Wrong
+abbrev pub object_wrongs : (place : ℕ) → List StackEntry → List Wrong
 object_wrongs place [] = []
-object_wrongs place (group ∷ groups) = object_wrong group.line (object_at place group) ++ object_wrongs (suc place) groups
+object_wrongs place (first ∷ more) = object_wrong first.line (object_at place first) ++ object_wrongs (suc place) more
 
 -- ══ The entries of a document ══
 
@@ -196,7 +206,7 @@ key_wrongs text key section =
     else if bytes_eq key (codes "registers") then
     list_wrongs (list_value (value_items text section.head)) section (register_wrongs text section.under)
     else if bytes_eq key (codes "stack") then
-    list_wrongs (list_value (value_items text section.head)) section (object_wrongs 0 (groups_of text section.under))
+    list_wrongs (list_value (value_items text section.head)) section (object_wrongs 0 (stack_entries text section.under))
     else if bytes_eq key (codes "body") then
     (if is_bar (value_items text section.head) then [] else wrong section.head.number fault.Syntax ∷ [])
     else []
@@ -252,7 +262,7 @@ read_document text sections = record {
   banked = is_key_true text (codes "regBankSelected") sections;
   selected = is_key_true text (codes "selected") sections;
   classes = registers_in text (list_under text (codes "registers") sections);
-  objects = objects_from 0 (groups_of text (list_under text (codes "stack") sections));
+  objects = objects_from 0 (stack_entries text (list_under text (codes "stack") sections));
   blocks = blocks_in text (body_lines text sections);
 }
 

@@ -41,7 +41,7 @@ use Rattle.gi_spelling.specs.Resolved.{Tables, block_place, resolved}
 use Rattle.gi_spelling.specs.declared.written.ListKind.{ListKind}
 use Rattle.gi_spelling.specs.declared.written.ListKind.TheVariants.{Successors, Liveins}
 use Rattle.gi_spelling.specs.Blocks.{list_kind, listed_in, is_head, blocks_in, block_numbers, shown_types, has_type}
-use Rattle.gi_spelling.specs.Documents.{is_name, name_value, registers_in, groups_of, objects_from, entries_of, ir_wrongs}
+use Rattle.gi_spelling.specs.Documents.{is_name, name_value, registers_in, stack_entries, objects_from, entries_of, ir_wrongs}
 use Rattle.gi_spelling.specs.Named.{IsNamedInstr}
 
 -- ══ How a written instruction is spelled ══
@@ -269,8 +269,8 @@ pub record SpellsEntries (text : List ℕ) (names : List (List ℕ)) (sections :
   pub each_register : length (registers_in text registers) ≡ length registers
   pub objects : List Line
   pub stacked : Lists text (entries_with (codes "stack") sections) objects
-  pub stack : f.stack ≡ objects_from 0 (groups_of text objects)
-  pub each_object : length f.stack ≡ length (groups_of text objects)
+  pub stack : f.stack ≡ objects_from 0 (stack_entries text objects)
+  pub each_object : length f.stack ≡ length (stack_entries text objects)
   pub lines : List Line
   pub bodied : SpellsBody text (entries_with (codes "body") sections) lines
   pub from_a_head : (blocks_in text lines).before ≡ []

@@ -128,7 +128,7 @@ pub enum EntryState {
     AtValue(Word),
     AtSeparator,
     /// In a value that is passed over, so many brackets deep.
-    Passing(usize),
+    Passing(u128),
     AtEnd,
 }
 
@@ -137,6 +137,13 @@ pub enum EntryState {
 pub struct Entry {
     pub state: EntryState,
     pub fields: Fields,
+}
+
+/// An entry of `stack`: the number of its last line, and its fields where nothing in it is wrong.
+#[derive(Clone, Copy, Debug, PartialEq, Eq)]
+pub struct StackEntry {
+    pub line: u32,
+    pub fields: Option<Fields>,
 }
 
 /// Whether an entry is one of `registers` or one of `stack`.
