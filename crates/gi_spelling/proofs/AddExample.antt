@@ -1,18 +1,21 @@
 -- The example's texts spell its two modules.
-use Rattle.std.proofs.Common.{◌≡◌, [], ◌∷◌, true, false, refl, subst}
+use Rattle.std.proofs.Common.{◌≡◌, ℕ, List, [], ◌∷◌, true, false, refl, subst, arith}
+use Rattle.std.specs.List.{AllZip}
 use Rattle.std.specs.Fmt.{digits}
-use Rattle.gi_spelling.specs.AddExample.{block_of, function_of, generic_module, selected_module, stated_text, selected_text}
-use Rattle.gi_mir.specs.declared.opcode.Opcode.TheVariants.{GenericAdd, Add}
-use Rattle.gi_mir.specs.declared.operand.Kind.TheVariants.{Banked, Class}
-use Rattle.gi_llt.specs.declared.Llt.TheVariants.{Scalar}
+use Rattle.gi_spelling.specs.AddExample.{function_of, generic_module, selected_module, stated_text, selected_text}
+use Rattle.gi_mir.specs.Data.{InstrData}
+use Rattle.gi_mir.specs.declared.opcode.Opcode.TheVariants.{Add}
+use Rattle.gi_mir.specs.declared.operand.Kind.TheVariants.{Class}
 use Rattle.gi_mir.specs.Formed.{is_formed}
+use Rattle.gi_mir.specs.Row.{opcode_of}
+use Rattle.gi_spelling.specs.Named.{IsNamedOperand, IsNamedEntry}
 use Rattle.gi_spelling.specs.Printed.{printed}
 use Rattle.gi_spelling.specs.Printable.{IsPrintableModule}
+use Rattle.gi_spelling.specs.Read.{IsReadModule}
 use Rattle.gi_spelling.specs.Spelling.{Spells}
-use Rattle.gi_spelling.specs.Stated.{CopyIn, AddUp, CopyOut, Return, IsStatedText}
 use Rattle.gi_spelling.proofs.OneModule.{spelled_one}
 use Rattle.gi_spelling.proofs.PrintedTexts.{printed_spells}
-use Rattle.gi_spelling.proofs.StatedTexts.{stated_text_spelled}
+use Rattle.gi_spelling.proofs.ReadSpells.{read_spelled}
 
 pub prints_selected : printed selected_module ≡ selected_text
 unfolding digits
@@ -56,33 +59,45 @@ is_printable = record {
 pub spells_selected : Spells selected_text selected_module
 spells_selected = subst (λ text. Spells text selected_module) prints_selected (printed_spells selected_module is_printable)
 
-pub is_stated : IsStatedText stated_text generic_module
-unfolding digits
-is_stated = record {
-  f = function_of (Banked (Scalar 32)) GenericAdd;
-  instrs = CopyIn 0 10 ∷ CopyIn 1 11 ∷ AddUp 2 0 1 ∷ CopyOut 10 2 ∷ Return ∷ [];
-  block = block_of (Banked (Scalar 32)) GenericAdd;
-  gaps = record { name = 0; legal = 0; banked = 0; body = 0 };
-  closed = false;
-  no_ir = refl;
-  functions = refl;
-  stated = record {
-    named = refl;
-    legal = refl;
-    banked = refl;
-    chosen = refl;
-    no_objects = refl;
-    blocks = refl;
-    no_successors = refl;
-    live = refl;
-    instructed = (refl, (refl, (refl, (refl, (refl, tt)))));
-    ordered = refl;
-  };
-  lines = refl;
+-- an entry that is read as it stands
+pub same_entry : {text : List ℕ} {names : List (List ℕ)} {entry : ℕ × InstrData} → AllZip (IsNamedOperand text names) (entry.1).operands (entry.1).operands → IsNamedEntry text names entry entry
+same_entry operands = record { id = refl; instr = record { op = refl; flags = refl; operands = operands; memory = refl; line = refl } }
+
+reads_stated : IsReadModule stated_text generic_module
+unfolding is_formed opcode_of
+reads_stated = record {
+  right = refl;
+  ir = refl;
+  functions = (
+    record {
+      within = omega arith;
+      name = refl;
+      same = record {
+        legalized = refl;
+        banked = refl;
+        selected = refl;
+        stack = refl;
+        blocks = (
+          record {
+            successors = refl;
+            liveins = refl;
+            instrs = (
+              same_entry (refl, (refl, tt)),
+              (same_entry (refl, (refl, tt)), (same_entry (refl, (refl, (refl, tt))), (same_entry (refl, (refl, tt)), (same_entry (refl, tt), tt)))),
+            );
+          },
+          tt,
+        );
+        next_reg = refl;
+        next_id = refl;
+      };
+    },
+    tt,
+  );
 }
 
 pub spells_stated : Spells stated_text generic_module
-spells_stated = stated_text_spelled stated_text generic_module is_stated
+spells_stated = read_spelled stated_text generic_module reads_stated
 
 -- a text that says nothing of the key `selected` doesn't spell a function that is selected
 pub spells_no_selected : Spells stated_text selected_module → ⊥

@@ -49,8 +49,6 @@ pub mod SpelledPrintable
 pub mod SpelledReads
 pub mod SpelledRight
 pub mod SpellingExamples
-pub mod StatedLines
-pub mod StatedTexts
 pub mod Texts
 pub mod ThereSame
 pub mod TokenBounds

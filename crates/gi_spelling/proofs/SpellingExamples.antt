@@ -1,9 +1,8 @@
 -- What a text may hold beside what is printed, and texts that spell nothing.
 use Rattle.std.proofs.Common.{◌≡◌, ℕ, List, [], ◌∷◌, ◌++◌, Some, None, false, refl, arith}
 use Rattle.std.specs.Prelude.{codes}
-use Rattle.std.specs.List.{AllZip}
 use Rattle.gi_llt.specs.declared.Llt.TheVariants.{Scalar}
-use Rattle.gi_mir.specs.Data.{InstrData, FunctionData, ModuleData, reg_of}
+use Rattle.gi_mir.specs.Data.{FunctionData, ModuleData, reg_of}
 use Rattle.gi_mir.specs.Formed.{is_formed}
 use Rattle.gi_mir.specs.Row.{opcode_of}
 use Rattle.gi_mir.specs.declared.opcode.Opcode.TheVariants.{Copy, GenericAdd, GenericBranchConditional, PseudoReturn}
@@ -11,17 +10,13 @@ use Rattle.gi_mir.specs.declared.operand.Kind.TheVariants.{Banked, Generic}
 use Rattle.gi_mir.specs.declared.operand.Operand.TheVariants.{Def, Use, Phys, PhysDef, Block, ImplicitUse}
 use Rattle.gi_spelling.specs.AddExample.{function_of, instr, module_of}
 use Rattle.gi_spelling.specs.Blocks.{wrong}
-use Rattle.gi_spelling.specs.Named.{IsNamedOperand, IsNamedEntry}
 use Rattle.gi_spelling.specs.Printed.{text_of}
 use Rattle.gi_spelling.specs.Read.{IsReadModule}
 use Rattle.gi_spelling.specs.Spelling.{Spells}
 use Rattle.gi_spelling.specs.declared.written.Fault.TheVariants as fault
+use Rattle.gi_spelling.proofs.AddExample.{same_entry}
 use Rattle.gi_spelling.proofs.ReadSpells.{read_spelled}
 use Rattle.gi_spelling.proofs.SpelledRight.{spelled_right}
-
--- an entry that is read as it stands
-same_entry : {text : List ℕ} {names : List (List ℕ)} {entry : ℕ × InstrData} → AllZip (IsNamedOperand text names) (entry.1).operands (entry.1).operands → IsNamedEntry text names entry entry
-same_entry operands = record { id = refl; instr = record { op = refl; flags = refl; operands = operands; memory = refl; line = refl } }
 
 -- comments, blanks, empty lines, other keys, and keys in another order
 abbrev free_text : List ℕ
@@ -53,19 +48,16 @@ free_text = text_of (codes "# RUN: llc -mtriple=riscv32"
     ∷ [])
 
 -- the function, each instruction with its line
-abbrev at : ℕ → ℕ × InstrData → ℕ × InstrData
-at line entry = (entry.0, record entry.1 { line = line })
-
 abbrev free_module : ModuleData
 free_module = module_of (record (function_of (Banked (Scalar 32)) GenericAdd) {
   blocks = record {
     successors = [];
     liveins = 10 ∷ 11 ∷ [];
-    instrs = at 10 (0, instr Copy (Def (reg_of 0) (Banked (Scalar 32)) ∷ Phys 10 ∷ []))
-        ∷ at 11 (1, instr Copy (Def (reg_of 1) (Banked (Scalar 32)) ∷ Phys 11 ∷ []))
-        ∷ at 13 (2, instr GenericAdd (Def (reg_of 2) (Banked (Scalar 32)) ∷ Use (reg_of 0) ∷ Use (reg_of 1) ∷ []))
-        ∷ at 14 (3, instr Copy (PhysDef 10 ∷ Use (reg_of 2) ∷ []))
-        ∷ at 15 (4, instr PseudoReturn (ImplicitUse 10 ∷ []))
+    instrs = (0, instr 10 Copy (Def (reg_of 0) (Banked (Scalar 32)) ∷ Phys 10 ∷ []))
+        ∷ (1, instr 11 Copy (Def (reg_of 1) (Banked (Scalar 32)) ∷ Phys 11 ∷ []))
+        ∷ (2, instr 13 GenericAdd (Def (reg_of 2) (Banked (Scalar 32)) ∷ Use (reg_of 0) ∷ Use (reg_of 1) ∷ []))
+        ∷ (3, instr 14 Copy (PhysDef 10 ∷ Use (reg_of 2) ∷ []))
+        ∷ (4, instr 15 PseudoReturn (ImplicitUse 10 ∷ []))
         ∷ [];
   } ∷ [];
 })
@@ -118,10 +110,10 @@ two_ways = record {
       record {
         successors = 2 ∷ 1 ∷ [];
         liveins = 10 ∷ [];
-        instrs = at 6 (0, instr Copy (Def (reg_of 0) (Generic (Scalar 32)) ∷ Phys 10 ∷ [])) ∷ at 7 (1, instr GenericBranchConditional (Use (reg_of 0) ∷ Block 2 ∷ [])) ∷ [];
+        instrs = (0, instr 6 Copy (Def (reg_of 0) (Generic (Scalar 32)) ∷ Phys 10 ∷ [])) ∷ (1, instr 7 GenericBranchConditional (Use (reg_of 0) ∷ Block 2 ∷ [])) ∷ [];
       }
       ∷ record { successors = 2 ∷ []; liveins = []; instrs = [] }
-      ∷ record { successors = []; liveins = []; instrs = at 10 (2, instr PseudoReturn (ImplicitUse 10 ∷ [])) ∷ [] }
+      ∷ record { successors = []; liveins = []; instrs = (2, instr 10 PseudoReturn (ImplicitUse 10 ∷ [])) ∷ [] }
       ∷ [];
   next_reg = 1;
   next_id = 3;

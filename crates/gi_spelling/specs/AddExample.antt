@@ -1,5 +1,5 @@
 -- An example: a function that adds its two arguments, before and after the selection of instructions, with its
--- two texts.
+-- two texts. Each instruction has its line in the first.
 use Rattle.std.specs.Prelude.{ℕ, List, [], ◌∷◌, None, true, false, codes}
 use Rattle.gi_llt.specs.declared.Llt.TheVariants.{Scalar}
 use Rattle.gi_mir.specs.declared.opcode.Opcode.{Opcode}
@@ -11,19 +11,19 @@ use Rattle.gi_mir.specs.declared.operand.Operand.TheVariants.{Def, Use, Phys, Ph
 use Rattle.gi_mir.specs.Data.{InstrData, BlockData, FunctionData, ModuleData, reg_of, no_flags}
 use Rattle.gi_spelling.specs.Printed.{text_of}
 
-abbrev pub instr : Opcode → List Operand → InstrData
-instr op operands = record { op = op; flags = no_flags; operands = operands; mem = None; line = 1 }
+abbrev pub instr : (line : ℕ) → Opcode → List Operand → InstrData
+instr line op operands = record { op = op; flags = no_flags; operands = operands; mem = None; line = line }
 
 abbrev pub block_of : Kind → Opcode → BlockData
 block_of kind op = record {
   successors = [];
   liveins = 10 ∷ 11 ∷ [];
   instrs =
-      (0, instr Copy (Def (reg_of 0) kind ∷ Phys 10 ∷ []))
-      ∷ (1, instr Copy (Def (reg_of 1) kind ∷ Phys 11 ∷ []))
-      ∷ (2, instr op (Def (reg_of 2) kind ∷ Use (reg_of 0) ∷ Use (reg_of 1) ∷ []))
-      ∷ (3, instr Copy (PhysDef 10 ∷ Use (reg_of 2) ∷ []))
-      ∷ (4, instr PseudoReturn (ImplicitUse 10 ∷ []))
+      (0, instr 9 Copy (Def (reg_of 0) kind ∷ Phys 10 ∷ []))
+      ∷ (1, instr 10 Copy (Def (reg_of 1) kind ∷ Phys 11 ∷ []))
+      ∷ (2, instr 11 op (Def (reg_of 2) kind ∷ Use (reg_of 0) ∷ Use (reg_of 1) ∷ []))
+      ∷ (3, instr 12 Copy (PhysDef 10 ∷ Use (reg_of 2) ∷ []))
+      ∷ (4, instr 13 PseudoReturn (ImplicitUse 10 ∷ []))
       ∷ [];
 }
 

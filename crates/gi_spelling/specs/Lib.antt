@@ -15,7 +15,6 @@ pub mod Resolved
 pub mod Same
 pub mod Spelled
 pub mod Spelling
-pub mod Stated
 pub mod There
 pub mod Words
 pub mod Written

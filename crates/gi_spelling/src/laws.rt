@@ -20,7 +20,6 @@ ghost use Rattle.gi_spelling.specs.AddExample.{generic_module, selected_module, 
 ghost use Rattle.gi_mir.specs.Data.{ModuleData};
 ghost use Rattle.gi_spelling.specs.Printable.{IsPrintableModule};
 ghost use Rattle.gi_spelling.specs.Printed.{printed};
-ghost use Rattle.gi_spelling.specs.Stated.{IsStatedText};
 
 /// What is read of a line is what its tokens spell.
 pub fn read_lines_are_written()
@@ -56,11 +55,6 @@ pub fn example_lines()
 /// The printed text of a module spells that module.
 pub fn printed_text_spells()
     ensures { (m : ModuleData) → IsPrintableModule m → Spells (printed m) m }
-{}
-
-/// A text as the program takes it so far spells its module.
-pub fn stated_text_spells()
-    ensures { (text : List ℕ) (m : ModuleData) → IsStatedText text m → Spells text m }
 {}
 
 /// The texts of an example, before and after the selection of instructions, spell its two modules.
