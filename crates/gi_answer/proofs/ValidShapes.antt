@@ -2,7 +2,7 @@
 -- defined once, and before it is read.
 use Rattle.std.proofs.Common.{◌≡◌, ℕ, suc, ◌+◌, ◌≤◌, Bool, true, false, cond, not, ◌&&◌, ◌||◌, ◌==◌, List, [], ◌∷◌, ◌++◌, length, map, slice_get, Option, Some, None, option_map, append_assoc, ◌⊎◌, inl, inr, ⊎_elim, refl, sym, ap, ap₂, ◌∙◌, subst, arith, true≢false}
 use Rattle.std.specs.Prelude.{⊤, nat_lt, if◌then◌else◌}
-use Rattle.std.specs.Option.{is_none}
+use Rattle.std.specs.Option.{is_none, option_or}
 use Rattle.std.specs.List.{AllZip, list_any}
 use Rattle.std.proofs.lemmas.Bool.{and_parts, or_cases, eqb-true, eq-eqb, lt-ltb}
 use Rattle.std.proofs.lemmas.List.{append-nil}
@@ -27,7 +27,6 @@ use Rattle.gi_valid.specs.Valid.{IsValid}
 use Rattle.gi_valid.proofs.Valid.{orderly, use_available}
 use Rattle.gi_observe.specs.declared.pass.Pass.{Pass}
 use Rattle.gi_answer.specs.Messages.{unbuilt_line}
-use Rattle.gi_options.specs.Options.{or_else}
 use Rattle.gi_answer.specs.Selectable.{IsOneBlock, IsSelectable, AllSelectable}
 use Rattle.gi_answer.specs.Shapes.{is_banked_word, is_argument, is_short, is_plain, is_copied, is_short_constant, is_sum, is_returned, are_shaped, is_shaped, ShapedInstr, CopyIn, MakeConstant, AddUp, CopyOut, Return, word_kind, shaped_instr, IsShapedInstr, is_among, stands_behind, defined_after, are_in_order}
 use Rattle.gi_answer.specs.Unselected.{other_line, other_in_instrs, other_in_blocks, has_several, is_blank, last_of, blank_message, unselected, unselected_in_function, unselected_in}
@@ -230,7 +229,7 @@ record InShape (defined : List ℕ) (is : List (ℕ × InstrData)) : Type 0 wher
   shaped : AllZip IsShapedInstr shapes is
   ordered : are_in_order defined shapes ≡ true
 
-neither_else : {X : Type 0} (a b : Option X) → or_else a b ≡ None → (a ≡ None) × (b ≡ None)
+neither_else : {X : Type 0} (a b : Option X) → option_or a b ≡ None → (a ≡ None) × (b ≡ None)
 neither_else None b h = (refl, h)
 neither_else (Some x) b h = cc
 

@@ -2,6 +2,7 @@
 -- function is generic code: no pass is run there, and the module is printed as it was read.
 use Rattle.std.specs.Prelude.{ℕ, Bool, true, false, not, ◌||◌, List, [], ◌∷◌, ◌==◌, Option, Some, None, option_map, if◌then◌else◌}
 use Rattle.std.specs.List.{list_any}
+use Rattle.std.specs.Option.{option_or}
 use Rattle.gi_mir.specs.Data.{InstrData, BlockData, FunctionData}
 use Rattle.gi_mir.specs.Stages.{is_kind_of, is_opcode_of}
 use Rattle.gi_mir.specs.declared.opcode.Opcode.{Opcode}
@@ -12,7 +13,6 @@ use Rattle.gi_observe.specs.declared.pass.Pass.{Pass}
 use Rattle.gi_observe.specs.declared.pass.Pass.TheVariants.{IrTranslator, PreCombiner, RegBankSelect, Select}
 use Rattle.gi_observe.specs.Passes.{word_of, place_of, next_of}
 use Rattle.gi_answer.specs.Messages.{not_built, unbuilt_line}
-use Rattle.gi_options.specs.Options.{or_else}
 use Rattle.gi_answer.specs.Unselected.{unselected}
 use Rattle.gi_options.specs.declared.machine.Machine.{Machine}
 use Rattle.gi_options.specs.declared.machine.Machine.TheVariants.{Riscv32}
@@ -43,15 +43,15 @@ later_line instr = if is_later instr then Some (instr.line, instr.op) else None
 
 abbrev pub later_in_instrs : List (ℕ × InstrData) → Option (ℕ × Opcode)
 later_in_instrs [] = None
-later_in_instrs (instr ∷ instrs) = or_else (later_line instr.1) (later_in_instrs instrs)
+later_in_instrs (instr ∷ instrs) = option_or (later_line instr.1) (later_in_instrs instrs)
 
 abbrev pub later_in_blocks : List BlockData → Option (ℕ × Opcode)
 later_in_blocks [] = None
-later_in_blocks (block ∷ blocks) = or_else (later_in_instrs block.instrs) (later_in_blocks blocks)
+later_in_blocks (block ∷ blocks) = option_or (later_in_instrs block.instrs) (later_in_blocks blocks)
 
 abbrev pub later_in : List FunctionData → Option (ℕ × Opcode)
 later_in [] = None
-later_in (f ∷ functions) = or_else (later_in_blocks f.blocks) (later_in functions)
+later_in (f ∷ functions) = option_or (later_in_blocks f.blocks) (later_in functions)
 
 -- ══ What is said of what isn't built ══
 

@@ -2,13 +2,12 @@
 -- its last instruction.
 use Rattle.std.specs.Prelude.{ℕ, Bool, ◌&&◌, nat_lt, List, [], ◌∷◌, ◌++◌, Option, Some, None, option_map, length, codes, if◌then◌else◌}
 use Rattle.std.specs.List.{list_any}
-use Rattle.std.specs.Option.{is_none}
+use Rattle.std.specs.Option.{is_none, option_or}
 use Rattle.gi_mir.specs.Data.{InstrData, BlockData, FunctionData}
 use Rattle.gi_mir.specs.declared.opcode.Opcode.{Opcode}
 use Rattle.gi_observe.specs.declared.pass.Pass.TheVariants.{Select}
 use Rattle.gi_observe.specs.Passes.{word_of}
 use Rattle.gi_answer.specs.Messages.{at_line, unbuilt_line}
-use Rattle.gi_options.specs.Options.{or_else}
 use Rattle.gi_answer.specs.Shapes.{is_shaped}
 
 -- the line and the opcode of an instruction of another shape
@@ -18,11 +17,11 @@ other_line instr = if is_shaped instr then None else Some (instr.line, instr.op)
 -- the first such instruction
 abbrev pub other_in_instrs : List (ℕ × InstrData) → Option (ℕ × Opcode)
 other_in_instrs [] = None
-other_in_instrs (instr ∷ instrs) = or_else (other_line instr.1) (other_in_instrs instrs)
+other_in_instrs (instr ∷ instrs) = option_or (other_line instr.1) (other_in_instrs instrs)
 
 abbrev pub other_in_blocks : List BlockData → Option (ℕ × Opcode)
 other_in_blocks [] = None
-other_in_blocks (block ∷ blocks) = or_else (other_in_instrs block.instrs) (other_in_blocks blocks)
+other_in_blocks (block ∷ blocks) = option_or (other_in_instrs block.instrs) (other_in_blocks blocks)
 
 -- the last instruction, and what stands before where there is none
 abbrev pub last_in_instrs : Option (ℕ × Opcode) → List (ℕ × InstrData) → Option (ℕ × Opcode)
@@ -41,11 +40,11 @@ has_several f = nat_lt 1 (length f.blocks)
 
 -- the first instruction of a function that isn't selected
 abbrev pub unselected_in_function : FunctionData → Option (ℕ × Opcode)
-unselected_in_function f = or_else (other_in_blocks f.blocks) (if has_several f then last_of f else None)
+unselected_in_function f = option_or (other_in_blocks f.blocks) (if has_several f then last_of f else None)
 
 abbrev pub unselected_in : List FunctionData → Option (ℕ × Opcode)
 unselected_in [] = None
-unselected_in (f ∷ functions) = or_else (unselected_in_function f) (unselected_in functions)
+unselected_in (f ∷ functions) = option_or (unselected_in_function f) (unselected_in functions)
 
 -- a function of several blocks without an instruction
 abbrev pub is_blank : FunctionData → Bool

@@ -15,6 +15,7 @@ use Rattle.gi_valid.specs.declared.invalid.Invalid.{Invalid}
 use Rattle.gi_valid.specs.declared.invalid.Invalid.TheVariants.{DoubleDefinition, NotAvailable, TypeMismatch, UnknownBlock, PhiEntries, PhysicalAcross, Terminator}
 use Rattle.gi_verify.specs.declared.verifying.VerifyError.{VerifyError}
 use Rattle.gi_verify.specs.declared.verifying.VerifyError.TheVariants as refusal
+use Rattle.gi_spelling.specs.Resolved.{first_of_no_block}
 use Rattle.gi_options.specs.Machine.{width_of}
 use Rattle.gi_answer.specs.Messages.{at_line}
 use Rattle.gi_options.specs.declared.machine.Machine.{Machine}
@@ -43,12 +44,12 @@ used_word (Phys number) = physical_word number
 used_word (ImplicitUse number) = physical_word number
 used_word operand = []
 
--- a block that isn't there is kept with its number, 65536 higher
+-- a block that isn't there is kept as a place by its number
 abbrev pub invalid_words : Invalid → List ℕ
 invalid_words (DoubleDefinition reg) = codes "double definition " ++ register_word reg.0
 invalid_words (NotAvailable operand) = codes "not available " ++ used_word operand
 invalid_words (TypeMismatch reg) = codes "type mismatch " ++ register_word reg.0
-invalid_words (UnknownBlock block) = codes "unknown block " ++ decimal (block - 65536)
+invalid_words (UnknownBlock block) = codes "unknown block " ++ decimal (block - first_of_no_block)
 invalid_words PhiEntries = codes "phi entries"
 invalid_words (PhysicalAcross number) = codes "physical across " ++ physical_word number
 invalid_words Terminator = codes "terminator"

@@ -1,6 +1,6 @@
 -- One block after the other.
 use Rattle.std.proofs.Common.{◌≡◌, ℕ, suc, ◌+◌, ◌≤◌, Bool, true, false, List, [], ◌∷◌, ◌++◌, Option, Some, None, map, length, refl, sym, ap, ◌∙◌, subst, append_assoc, arith}
-use Rattle.std.specs.Prelude.{All, filter_map, flat_map, fold, min, not, nat_eq, ◌&&◌, ◌==◌, unwrap_or, if◌then◌else◌}
+use Rattle.std.specs.Prelude.{All, filter_map, flat_map, fold, min, not, nat_eq, ◌&&◌, ◌==◌, unwrap_or, if◌then◌else◌, is_some}
 use Rattle.std.specs.List.{AllZip, cons_option, list_any, position_from}
 use Rattle.std.specs.Option.{option_map_or}
 use Rattle.std.proofs.lemmas.List.Elements.{All-head, All-tail}
@@ -13,7 +13,7 @@ use Rattle.gi_mir.specs.Edit.{with_block}
 use Rattle.gi_spelling.specs.declared.written.Fault.TheVariants as fault
 use Rattle.gi_spelling.specs.declared.written.Wrong.{Wrong}
 use Rattle.gi_spelling.specs.Items.{kept_items}
-use Rattle.gi_spelling.specs.Blocks.{Body, block_numbers, bodies_from, body_of, defined_kind, first_kind, has_type, head_faults, head_number, is_head, is_there, kinds_in, no_body, number_at, outer_wrong, shown_wrong, shown_wrongs, with_line, wrong, wrongs_from}
+use Rattle.gi_spelling.specs.Blocks.{Body, block_numbers, bodies_from, body_of, defined_kind, first_kind, has_type, head_faults, head_number, is_head, kinds_in, no_body, number_at, outer_wrong, shown_wrong, shown_wrongs, with_line, wrong, wrongs_from}
 use Rattle.gi_spelling.specs.Documents.{head_of_body, lower, with_body, with_last}
 use Rattle.gi_spelling.specs.Lines as lines
 use Rattle.gi_spelling.specs.Lines.{Line, Section, with_head}
@@ -189,7 +189,7 @@ numbers-are text (t ∷ told) all =
     chosen t.head (All-head (IsToldIn text) t told all).head (numbers-are text told (All-tail (IsToldIn text) t told all))
   where
     chosen : (head : Option ℕ) → head ≡ head_number text (told_at text t) → filter_map head_of told ≡ block_numbers text (blocks_of text told).sections
-        → cons_option head (filter_map head_of told) ≡ block_numbers text (if is_there (head_number text (told_at text t)) then with_head (told_at text t) (blocks_of text told) else lines.with_line (told_at text t) (blocks_of text told)).sections
+        → cons_option head (filter_map head_of told) ≡ block_numbers text (if is_some (head_number text (told_at text t)) then with_head (told_at text t) (blocks_of text told) else lines.with_line (told_at text t) (blocks_of text told)).sections
     chosen None is more = rw (← is) more
     chosen (Some number) is more = rw (← is) (ap (λ n. n ∷ filter_map head_of told) (ap (λ found. unwrap_or found 0) is) ∙ ap (λ those. number_at text (record { head = told_at text t; under = (blocks_of text told).before }) ∷ those) more)
 

@@ -2,9 +2,10 @@
 use Rattle.std.proofs.Common.{◌≡◌, ℕ, suc, ◌+◌, ◌<◌, Bool, true, false, List, [], ◌∷◌, ◌++◌, Some, length, get_or, drop, take, refl, sym, ap, ◌∙◌, subst, drop-cons, add-one, append_assoc}
 use Rattle.std.proofs.Math.Seq.{take-suc}
 use Rattle.std.specs.Prelude.{if◌then◌else◌}
+use Rattle.gi_spelling.specs.Kept.{is_comma}
 use Rattle.gi_spelling.specs.declared.token.Item.{Item}
 use Rattle.gi_spelling.specs.declared.token.What.TheVariants as what
-use Rattle.gi_spelling.specs.Reading.{Split, onto_split, onto_first_part, is_comma_item, is_equals, without_first, parts_of, split_at_equals, split_at_colons}
+use Rattle.gi_spelling.specs.Reading.{Split, onto_split, onto_first_part, is_equals, without_first, parts_of, split_at_equals, split_at_colons}
 use Rattle.gi_mir_read.specs.declared.split.Separator.{Separator}
 use Rattle.gi_mir_read.specs.declared.split.Separator.TheVariants.{Comma, Equals, Colons}
 use Rattle.gi_mir_read.specs.Splits.{begins, width_of, split_at, parts_left}
@@ -31,7 +32,7 @@ colons-split (item ∷ rest) = rw (behind-colons item rest, colons-split rest) r
 
 pub parts-split : (items : List Item) → parts_of items ≡ (split_at Comma items).before ∷ parts_left (split_at Comma items).after
 parts-split [] = refl
-parts-split (item ∷ rest) = chosen (is_comma_item item.what) (parts-split rest)
+parts-split (item ∷ rest) = chosen (is_comma item.what) (parts-split rest)
   where
     chosen : (comma : Bool) → parts_of rest ≡ (split_at Comma rest).before ∷ parts_left (split_at Comma rest).after
         → (if comma then [] ∷ parts_of rest else onto_first_part item (parts_of rest))

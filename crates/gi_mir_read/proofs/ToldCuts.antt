@@ -1,9 +1,9 @@
 -- The lines that say something are cut into blocks.
 use Rattle.std.proofs.Common.{◌≡◌, ℕ, Bool, cond, List, [], ◌∷◌, refl, ap, ◌∙◌}
-use Rattle.std.specs.Prelude.{All, not}
+use Rattle.std.specs.Prelude.{All, not, is_some}
 use Rattle.std.proofs.lemmas.List.Elements.{All-head, All-tail, All-weaker}
 use Rattle.gi_llt.specs.Tokens.{run_of, past_run}
-use Rattle.gi_spelling.specs.Blocks.{is_block_head, is_there}
+use Rattle.gi_spelling.specs.Blocks.{is_block_head}
 use Rattle.gi_mir_read.specs.declared.told.Told.{Told}
 use Rattle.gi_mir_read.specs.Blocked.{IsCutAtBlock, IsToldIn, begins_block, blocks_of, told_at, told_lines_at}
 use Rattle.gi_mir_read.proofs.SectionCuts.{passes, front_is, past_is, past_headed}
@@ -30,7 +30,7 @@ module _ (text : List ℕ) where
   begins_none = passes (is_block_head text) (told_at text)
 
   agrees : (told : List Told) → All (IsToldIn text) told → All (λ t. unheaded t ≡ begins_none t) told
-  agrees told all = All-weaker (IsToldIn text) (λ t. unheaded t ≡ begins_none t) (λ t is. ap (λ head. not (is_there head)) is.head) told all
+  agrees told all = All-weaker (IsToldIn text) (λ t. unheaded t ≡ begins_none t) (λ t is. ap (λ head. not (is_some head)) is.head) told all
 
   pub cut_at : (told before after : List Told) → All (IsToldIn text) told → before ≡ run_of unheaded told → after ≡ past_run unheaded told
       → All (IsToldIn text) before → All (IsToldIn text) after → IsCutAtBlock text told before after

@@ -1,7 +1,7 @@
 -- The lines of a function's blocks as the reader keeps them.
-use Rattle.std.specs.Prelude.{◌≡◌, ℕ, Bool, List, [], ◌∷◌, Option, Some, None, All, map, if◌then◌else◌}
+use Rattle.std.specs.Prelude.{◌≡◌, ℕ, Bool, List, [], ◌∷◌, Option, Some, None, All, map, if◌then◌else◌, is_some}
 use Rattle.gi_spelling.specs.declared.token.Item.{Item}
-use Rattle.gi_spelling.specs.Blocks.{head_in, head_number, is_block_head, is_debug_kept, is_there}
+use Rattle.gi_spelling.specs.Blocks.{head_in, head_number, is_block_head, is_debug_kept}
 use Rattle.gi_spelling.specs.Items.{kept_items}
 use Rattle.gi_spelling.specs.Lines as lines
 use Rattle.gi_spelling.specs.Lines.{Section, Sections, sections_of}
@@ -29,7 +29,7 @@ pub record IsToldIn (text : List ℕ) (told : Told) : Type 0 where
 
 -- a line begins a block
 abbrev pub begins_block : Told → Bool
-begins_block told = is_there told.head
+begins_block told = is_some told.head
 
 -- the blocks of these lines
 abbrev pub blocks_of : (text : List ℕ) → List Told → Sections

@@ -1,7 +1,8 @@
 -- Where the tokens of a line are split.
 use Rattle.std.specs.Prelude.{ℕ, Bool, false, ◌&&◌, List, [], ◌∷◌, Option, Some, None, drop, if◌then◌else◌}
+use Rattle.gi_spelling.specs.Kept.{is_comma}
 use Rattle.gi_spelling.specs.declared.token.Item.{Item}
-use Rattle.gi_spelling.specs.Reading.{Split, onto_split, is_colon, is_comma_item, is_equals, begins_with_colon, parts_of}
+use Rattle.gi_spelling.specs.Reading.{Split, onto_split, is_colon, is_equals, begins_with_colon, parts_of}
 use Rattle.gi_mir_read.specs.declared.split.Separator.{Separator}
 use Rattle.gi_mir_read.specs.declared.split.Separator.TheVariants.{Comma, Equals, Colons}
 
@@ -14,7 +15,7 @@ width_of Colons = 2
 -- the tokens begin with a separator
 abbrev pub begins : Separator → List Item → Bool
 begins separator [] = false
-begins Comma (item ∷ rest) = is_comma_item item.what
+begins Comma (item ∷ rest) = is_comma item.what
 begins Equals (item ∷ rest) = is_equals item.what
 begins Colons (item ∷ rest) = is_colon item.what && begins_with_colon rest
 

@@ -6,7 +6,7 @@
 -- Without FILE, or with `-`, standard input is read. Each word is looked at from the left; the first is at fault that is
 -- no such word, that sets a thing again, or behind which a FILE is missing. A stop before the start is found last.
 use Rattle.std.specs.Prelude.{ℕ, Bool, true, false, List, [], ◌∷◌, Option, Some, None, Result, Ok, Err, is_some, nat_lt, bytes_eq, codes, if◌then◌else◌, option_map, unwrap_or, ◌==◌}
-use Rattle.std.specs.Option.{option_map_or}
+use Rattle.std.specs.Option.{option_map_or, option_or}
 use Rattle.gi_observe.specs.declared.pass.Pass.{Pass}
 use Rattle.gi_observe.specs.declared.pass.Pass.TheVariants.{Select}
 use Rattle.gi_observe.specs.Passes.{pass_of, place_of}
@@ -23,14 +23,9 @@ behind [] word = Some word
 behind (first ∷ prefix) [] = None
 behind (first ∷ prefix) (byte ∷ word) = if first == byte then behind prefix word else None
 
--- the first of two that is there
-abbrev pub or_else : {X : Type 0} → Option X → Option X → Option X
-or_else None other = other
-or_else (Some x) other = Some x
-
 -- an option less its one or two dashes; `-` alone is none
 abbrev pub option_name : List ℕ → Option (List ℕ)
-option_name word = if bytes_eq word (codes "-") then None else or_else (behind (codes "--") word) (behind (codes "-") word)
+option_name word = if bytes_eq word (codes "-") then None else option_or (behind (codes "--") word) (behind (codes "-") word)
 
 -- the value behind a prefix decides, if the prefix stands there
 abbrev pub by_prefix : Option (List ℕ) → (List ℕ → Option Setting) → (other : Option Setting) → Option Setting

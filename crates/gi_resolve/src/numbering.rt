@@ -2,9 +2,9 @@
 
 ghost use Rattle.std.specs.Prelude.{◌≡◌, ℕ, [], ◌∷◌, ◌++◌, length, nat_eq, position, IfOk, OnOk};
 ghost use Rattle.std.specs.HashMap.{get};
+ghost use Rattle.std.specs.Option.{option_or};
 ghost use Rattle.gi_mir.specs.Data.{reg_of};
 ghost use Rattle.gi_spelling.specs.Resolved.{class_in};
-ghost use Rattle.gi_spelling.specs.Words.{or_else};
 ghost use Rattle.gi_resolve.specs.Numbered.{last_of};
 
 use gi_llt::Memory;
@@ -25,7 +25,7 @@ fn push<T: Copy>(list: &mut Vec<T>, x: T) -> Result<(), Memory>
 
 /// Notes a value under a number, unless one stands there.
 fn note_first<V: Copy>(firsts: &mut HashMap<u32, V>, number: u32, value: V) -> Result<(), Memory>
-    ensures { OnOk result ((key : ℕ) → get nat_eq firsts.new key ≡ or_else (get nat_eq firsts.old key) (last_of number value key)) }
+    ensures { OnOk result ((key : ℕ) → get nat_eq firsts.new key ≡ option_or (get nat_eq firsts.old key) (last_of number value key)) }
 {
     if firsts.contains_key(&number) {
         return Ok(());

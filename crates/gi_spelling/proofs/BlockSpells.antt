@@ -17,7 +17,7 @@ use Rattle.gi_spelling.specs.declared.written.ListKind.TheVariants.{Successors, 
 use Rattle.gi_spelling.specs.Items.{what_in, kept_items}
 use Rattle.gi_spelling.specs.Lines.{Line, Section as LineSection}
 use Rattle.gi_spelling.specs.Resolved.{Tables, block_place}
-use Rattle.gi_spelling.specs.Blocks.{is_debug_kept, is_told, head_by, head_in, head_number, is_there, is_block_head as is_head_line, is_head, list_by, list_kind_in, list_kind, listed_in, block_numbers}
+use Rattle.gi_spelling.specs.Blocks.{is_debug_kept, is_told, head_by, head_in, head_number, is_block_head as is_head_line, is_head, list_by, list_kind_in, list_kind, listed_in, block_numbers}
 use Rattle.gi_spelling.specs.Spelling.{word_what, listed_whats, block_whats, physical_whats, SpellsInstr, is_list_line as states_list, is_kind, StatesSuccessors, SpellsSuccessors, SpellsLiveins, SpellsBlock, SpellsBlocks, are_distinct}
 use Rattle.gi_spelling.specs.Printed.{instr_line, instr_lines, implied_successors, states_successors}
 use Rattle.gi_spelling.proofs.Nameable.{is_named_instr, is_named_block}
@@ -137,7 +137,7 @@ head_tells text place within =
     let w = word_what (word.BlockHead place) in
     record {
       told = λ line is. list_told text line (head_line place) w [] is lists;
-      head = λ line is. ap is_there (list_head text line (head_line place) w [] is lists) ∙ sym (head_begins place);
+      head = λ line is. ap is_some (list_head text line (head_line place) w [] is lists) ∙ sym (head_begins place);
       list = λ line is. ap is_some (list_kind_is text line (head_line place) w [] is lists) ∙ sym (head_no_list place);
     }
 
@@ -148,7 +148,7 @@ successors_tells text numbers below =
     let ws = listed_whats (map block_whats numbers) in
     record {
       told = λ line is. list_told text line (successors_line numbers) w ws is lists;
-      head = λ line is. ap is_there (list_head text line (successors_line numbers) w ws is lists) ∙ sym ((successors_listed numbers).no_head);
+      head = λ line is. ap is_some (list_head text line (successors_line numbers) w ws is lists) ∙ sym ((successors_listed numbers).no_head);
       list = λ line is. ap is_some (list_kind_is text line (successors_line numbers) w ws is lists) ∙ sym (a_list (successors_line numbers) true (successors_listed numbers));
     }
 
@@ -160,7 +160,7 @@ liveins_tells text number numbers below =
     let ws = listed_whats (map physical_whats (number ∷ numbers)) in
     record {
       told = λ line is. list_told text line line_is w ws is lists;
-      head = λ line is. ap is_there (list_head text line line_is w ws is lists) ∙ sym ((liveins_listed (number ∷ numbers)).no_head);
+      head = λ line is. ap is_some (list_head text line line_is w ws is lists) ∙ sym ((liveins_listed (number ∷ numbers)).no_head);
       list = λ line is. ap is_some (list_kind_is text line line_is w ws is lists) ∙ sym (a_list line_is false (liveins_listed (number ∷ numbers)));
     }
 
@@ -176,7 +176,7 @@ instr_tells text kinds names tables types instr named one = record {
     told {line} s = ap (λ items. not (is_debug_kept items)) s.tokens ∙ ap not (line_told s.items s.written s.spelled)
 
     head : {line : Line} → SpellsInstr text names tables types line instr → is_head_line text line ≡ false
-    head {line} s = ap (λ items. is_there (head_in items)) s.tokens ∙ ap is_there (headless s.items _ s.spelled.same (line_begins s.written))
+    head {line} s = ap (λ items. is_some (head_in items)) s.tokens ∙ ap is_some (headless s.items _ s.spelled.same (line_begins s.written))
 
     list : {line : Line} → SpellsInstr text names tables types line instr → states_list text line ≡ false
     list {line} s = ap (λ items. is_some (list_kind_in items)) s.tokens ∙ ap is_some (listless s.items _ s.spelled.same (line_begins s.written))

@@ -4,15 +4,16 @@ use Rattle.std.specs.Prelude.{◌&&◌, flat_map, if◌then◌else◌}
 use Rattle.std.specs.List.{AllZip}
 use Rattle.std.proofs.lemmas.Bool.{and_parts}
 use Rattle.std.proofs.lemmas.List.Elements.{filter_map-append}
+use Rattle.gi_spelling.specs.Kept.{is_comma}
 use Rattle.gi_spelling.specs.declared.token.What.{What}
 use Rattle.gi_spelling.specs.declared.token.What.TheVariants as what
 use Rattle.gi_spelling.specs.declared.token.Item.{Item}
 use Rattle.gi_spelling.specs.Items.{what_in}
-use Rattle.gi_spelling.specs.Reading.{Read, then_read, is_comma_item, onto_first_part, parts_of, read_all, is_equals, is_colon, onto_split, split_at_equals, split_at_colons, begins_with_colon, without_first}
+use Rattle.gi_spelling.specs.Reading.{Read, then_read, onto_first_part, parts_of, read_all, is_equals, is_colon, onto_split, split_at_equals, split_at_colons, begins_with_colon, without_first}
 use Rattle.gi_spelling.specs.Spelling.{name_place, name_places, listed_whats}
 use Rattle.gi_spelling.proofs.TokenLists.{Tokens, then_ok, settled}
 
-comma_is : (w : What) → is_comma_item w ≡ true → w ≡ what.Comma
+comma_is : (w : What) → is_comma w ≡ true → w ≡ what.Comma
 comma_is what.Comma e = refl
 comma_is w e = absurd (cc)
 
@@ -31,7 +32,7 @@ parts_whats parts = map (map what_in) parts
 
 pub some_parts : (items : List Item) → (part : List Item) × (parts : List (List Item)) × (parts_of items ≡ part ∷ parts)
 some_parts [] = ([], [], refl)
-some_parts (item ∷ rest) = chosen (is_comma_item item.what) (parts_of rest)
+some_parts (item ∷ rest) = chosen (is_comma item.what) (parts_of rest)
   where
     chosen : (comma : Bool) (later : List (List Item)) → (part : List Item) × (parts : List (List Item)) × ((if comma then [] ∷ later else onto_first_part item later) ≡ part ∷ parts)
     chosen true later = ([], later, refl)
@@ -50,9 +51,9 @@ behind_comma items =
 
 pub parts-listed : (items : List Item) → listed_whats (parts_whats (parts_of items)) ≡ map what_in items
 parts-listed [] = refl
-parts-listed (item ∷ rest) = chosen (is_comma_item item.what) refl (parts-listed rest)
+parts-listed (item ∷ rest) = chosen (is_comma item.what) refl (parts-listed rest)
   where
-    chosen : (comma : Bool) → is_comma_item item.what ≡ comma → listed_whats (parts_whats (parts_of rest)) ≡ map what_in rest
+    chosen : (comma : Bool) → is_comma item.what ≡ comma → listed_whats (parts_whats (parts_of rest)) ≡ map what_in rest
         → listed_whats (parts_whats (if comma then [] ∷ parts_of rest else onto_first_part item (parts_of rest))) ≡ item.what ∷ map what_in rest
     chosen true is later = behind_comma rest ∙ cc (comma_is item.what is, later)
     chosen false is later = onto_listed item (parts_of rest) ∙ ap (λ whats. item.what ∷ whats) later
@@ -64,9 +65,9 @@ onto_places item (part ∷ parts) =
 
 pub parts-places : (items : List Item) → flat_map name_places (parts_of items) ≡ name_places items
 parts-places [] = refl
-parts-places (item ∷ rest) = chosen (is_comma_item item.what) refl (parts-places rest)
+parts-places (item ∷ rest) = chosen (is_comma item.what) refl (parts-places rest)
   where
-    chosen : (comma : Bool) → is_comma_item item.what ≡ comma → flat_map name_places (parts_of rest) ≡ name_places rest
+    chosen : (comma : Bool) → is_comma item.what ≡ comma → flat_map name_places (parts_of rest) ≡ name_places rest
         → flat_map name_places (if comma then [] ∷ parts_of rest else onto_first_part item (parts_of rest)) ≡ name_places (item ∷ rest)
     chosen true is later = rw (comma_is item.what is) later
     chosen false is later =

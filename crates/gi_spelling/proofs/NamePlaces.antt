@@ -2,7 +2,7 @@
 use Rattle.std.proofs.Common.{◌≡◌, ℕ, zero, suc, Bool, true, false, List, [], ◌∷◌, ◌++◌, length, drop, Option, Some, None, map, refl, sym, ap, ◌∙◌, subst}
 use Rattle.std.specs.Prelude.{◌&&◌, ◌==◌, nat_lt, bytes_eq, codes, find, position, option_map, unwrap_or, Ok, Err, if◌then◌else◌}
 use Rattle.std.specs.List.{list_all, AllZip}
-use Rattle.std.specs.Option.{option_map_or}
+use Rattle.std.specs.Option.{option_map_or, option_or}
 use Rattle.std.proofs.lemmas.Bool.{and_parts, not-true, false≢true}
 use Rattle.gi_llt.specs.Tokens.{LexemeKind, Word as OfWord, Number as OfNumber, Register as OfRegister, Physical as OfPhysical, Global as OfGlobal, Routine as OfRoutine, Quoted as OfQuoted, Metadata as OfMetadata, Mark as OfMark, Lexeme, lexeme, is_digit, is_hexadecimal_digit, is_word_byte, run_of, through, Start, OfBlank, OfComment, OfMinus, OfName, OfNothing, start_of, Found, FoundBlank, FoundComment, FoundToken, FoundNothing, found_some, found_minus, found_hexadecimal, found_number, found_quoted, found, tokens_from, tokens_past}
 use Rattle.gi_llt.specs.Tokens as start
@@ -18,7 +18,7 @@ use Rattle.gi_spelling.specs.Items.{item_of, end_of}
 use Rattle.gi_spelling.specs.Lines.{Line}
 use Rattle.gi_spelling.specs.Named.{name_of_token}
 use Rattle.gi_spelling.specs.Spelling.{name_place, name_places}
-use Rattle.gi_spelling.specs.Words.{numeral, behind as behind_prefix, or_else, physical_of, marks, what_by, what_of}
+use Rattle.gi_spelling.specs.Words.{numeral, behind as behind_prefix, physical_of, marks, what_by, what_of}
 use Rattle.gi_spelling.proofs.PlacedLines.{IsLine, line_slice, drop_next}
 use Rattle.gi_spelling.proofs.PrintedPieces.{name_by, name_shown, names_shown, no_name}
 use Rattle.gi_spelling.proofs.TokenLists.{names_nothing, no_place}
@@ -30,7 +30,7 @@ is_global_kind OfGlobal = true
 is_global_kind kind = false
 
 quiet_register : (register block frame : Option ℕ)
-    → names_nothing (unwrap_or (or_else (option_map (λ n. what.Register n) register) (or_else (option_map (λ n. what.Block n) block) (option_map (λ n. what.Frame n) frame))) what.Other) ≡ true
+    → names_nothing (unwrap_or (option_or (option_map (λ n. what.Register n) register) (option_or (option_map (λ n. what.Block n) block) (option_map (λ n. what.Frame n) frame))) what.Other) ≡ true
 quiet_register (Some n) block frame = refl
 quiet_register None (Some n) frame = refl
 quiet_register None None (Some n) = refl

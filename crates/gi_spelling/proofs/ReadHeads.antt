@@ -1,6 +1,6 @@
 -- What holds of the lists and instructions of a block in which nothing is wrong.
 use Rattle.std.proofs.Common.{◌≡◌, ℕ, zero, suc, Bool, true, false, List, [], ◌∷◌, ◌++◌, Option, Some, None, Ok, Err, map, refl, sym, ap, ◌∙◌, subst, inl, inr, append_assoc, append-nil}
-use Rattle.std.specs.Prelude.{◌⊎◌, filter, fold, unwrap_or, if◌then◌else◌}
+use Rattle.std.specs.Prelude.{◌⊎◌, filter, fold, unwrap_or, if◌then◌else◌, is_some}
 use Rattle.std.specs.List.{list_all, AllZip}
 use Rattle.std.specs.Option.{option_map_or}
 use Rattle.std.proofs.lemmas.Bool.{and_parts}
@@ -15,7 +15,7 @@ use Rattle.gi_spelling.specs.Items.{kept_items}
 use Rattle.gi_spelling.specs.Lines.{Line}
 use Rattle.gi_spelling.specs.Reading.{Read}
 use Rattle.gi_spelling.specs.Resolved.{Tables, block_place}
-use Rattle.gi_spelling.specs.Blocks.{is_there, list_kind, listed_in, read_successors, read_liveins, Lists, with_successors, with_liveins, with_list, Body, shown_types, shown_at, with_line}
+use Rattle.gi_spelling.specs.Blocks.{list_kind, listed_in, read_successors, read_liveins, Lists, with_successors, with_liveins, with_list, Body, shown_types, shown_at, with_line}
 use Rattle.gi_spelling.specs.Spelling.{is_list_line, is_kind, SpellsSuccessors, SpellsLiveins}
 use Rattle.gi_spelling.proofs.ReadBlocks.{successors_whats, liveins_whats, liveins_some, ReadsAs, Step, ListStep, InstrStep, first_step, shown_before, map_fine, ReadsInstrs, reads_instrs}
 
@@ -41,7 +41,7 @@ listed_front : (text : List ℕ) (read : List Item → Read (List ℕ)) (line : 
 listed_front text read line lines numbers before after none own (Same empty same) = New line numbers (ap (λ more. line ∷ more) empty) none own same
 listed_front text read line lines numbers before after none own (New other more one absent found new) = absurd (cc)
 
-not_there : (old : Option (List ℕ)) → is_there old ≡ false → old ≡ None
+not_there : (old : Option (List ℕ)) → is_some old ≡ false → old ≡ None
 not_there None e = refl
 not_there (Some numbers) e = absurd (cc)
 
@@ -55,9 +55,9 @@ record AddsSuccessors (lists new : Lists) (read : Read (List ℕ)) : Type 0 wher
 
 adds_successors : (lists new : Lists) (read : Read (List ℕ)) → with_successors lists read ≡ Some new → AddsSuccessors lists new read
 adds_successors lists new (Err error) e = absurd (cc)
-adds_successors lists new (Ok numbers) e = chosen (is_there lists.successors) refl e
+adds_successors lists new (Ok numbers) e = chosen (is_some lists.successors) refl e
   where
-    chosen : (there : Bool) → is_there lists.successors ≡ there → (if there then None else Some (record lists { successors = Some numbers })) ≡ Some new → AddsSuccessors lists new (Ok numbers)
+    chosen : (there : Bool) → is_some lists.successors ≡ there → (if there then None else Some (record lists { successors = Some numbers })) ≡ Some new → AddsSuccessors lists new (Ok numbers)
     chosen true is e = absurd (cc)
     chosen false is e =
         let same : record lists { successors = Some numbers } ≡ new = cc in
@@ -75,9 +75,9 @@ adds_liveins : (place : ℕ) (lists new : Lists) (read : Read (List ℕ)) → wi
 adds_liveins zero lists new (Err error) e = absurd (cc)
 adds_liveins (suc place) lists new (Err error) e = absurd (cc)
 adds_liveins (suc place) lists new (Ok numbers) e = absurd (cc)
-adds_liveins zero lists new (Ok numbers) e = chosen (is_there lists.liveins) refl e
+adds_liveins zero lists new (Ok numbers) e = chosen (is_some lists.liveins) refl e
   where
-    chosen : (there : Bool) → is_there lists.liveins ≡ there → (if there then None else Some (record lists { liveins = Some numbers })) ≡ Some new → AddsLiveins zero lists new (Ok numbers)
+    chosen : (there : Bool) → is_some lists.liveins ≡ there → (if there then None else Some (record lists { liveins = Some numbers })) ≡ Some new → AddsLiveins zero lists new (Ok numbers)
     chosen true is e = absurd (cc)
     chosen false is e =
         let same : record lists { liveins = Some numbers } ≡ new = cc in

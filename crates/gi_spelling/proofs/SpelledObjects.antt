@@ -6,9 +6,10 @@ use Rattle.std.specs.Option.{option_map_or}
 use Rattle.std.specs.Cmp.Derive.{both_true}
 use Rattle.std.proofs.lemmas.Bool.{and_parts}
 use Rattle.std.proofs.lemmas.Bool.Decides.{nat_tests}
+use Rattle.gi_spelling.specs.Kept.{is_comma}
 use Rattle.gi_mir.specs.declared.operand.StackObject.{StackObject}
 use Rattle.gi_spelling.specs.Documents.{entry_front, continued_by, continued, behind_line, whole_fields, stack_entry, ended_by, next_by, is_last, stack_entries_from, stack_entries, object_by, object_at, objects_from}
-use Rattle.gi_spelling.specs.Entries.{counts, has_field, entry, key_by, colon_by, value_by, separator_by, passed_at, opens, closes, is_comma, is_close_brace, dash_by, brace_by, step, steps, has_all, is_at_end}
+use Rattle.gi_spelling.specs.Entries.{counts, has_field, entry, key_by, colon_by, value_by, separator_by, passed_at, opens, closes, is_close_brace, dash_by, brace_by, step, steps, has_all, is_at_end}
 use Rattle.gi_spelling.specs.Items.{items_of_line, end_of}
 use Rattle.gi_spelling.specs.Lines.{Line}
 use Rattle.gi_spelling.specs.Printable.{is_writable_object}

@@ -2,7 +2,7 @@
 use Rattle.std.proofs.Common.{◌≡◌, ℕ, Bool, true, false, List, [], ◌∷◌, length, Option, Some, None, refl, arith}
 use Rattle.std.specs.Prelude.{◌^◌, ◌==◌, nat_lt, nat_le, nat_eq, min, if◌then◌else◌, unwrap_or, option_map, bytes_eq, find, drop, codes}
 use Rattle.std.specs.List.{list_all, starts_with, position_or_len}
-use Rattle.std.specs.Option.{option_map_or}
+use Rattle.std.specs.Option.{option_map_or, option_or}
 use Rattle.std.proofs.lemmas.Bool.{and_parts}
 use Rattle.std.proofs.lemmas.Bool.Decides.{nat_tests}
 use Rattle.gi_llt.specs.Tokens.{LexemeKind, is_digit, run_of, past_run}
@@ -13,7 +13,7 @@ use Rattle.gi_mir.specs.Row.{opcode_of}
 use Rattle.gi_mir.specs.Routines.{routine_names}
 use Rattle.gi_mir.specs.declared.opcode.Opcode.{Opcode}
 use Rattle.gi_spelling.specs.Printable.{is_writable_type}
-use Rattle.gi_spelling.specs.Words.{is_plain, numeral, greatest_register, greatest_width, greatest_block, words, fixed_word, width_behind, is_pointed_name, numeral_before_name, behind, block_head, or_else, word_of, register_token, physical_of, routine_token, marks, mark_token, what_by}
+use Rattle.gi_spelling.specs.Words.{is_plain, numeral, greatest_register, greatest_width, greatest_block, words, fixed_word, width_behind, is_pointed_name, numeral_before_name, behind, block_head, word_of, register_token, physical_of, routine_token, marks, mark_token, what_by}
 use Rattle.gi_spelling.specs.declared.token.Word.{Word}
 use Rattle.gi_spelling.specs.declared.token.Word.TheVariants as word
 use Rattle.gi_spelling.specs.declared.token.What.{What}
@@ -46,7 +46,7 @@ map_fine : {X Y : Type 0} (p : X → Bool) (q : Y → Bool) (f : X → Y) → ((
 map_fine p q f one None fine = record { all = refl }
 map_fine p q f one (Some x) fine = record { all = one x fine.all }
 
-or_fine : {X : Type 0} {p : X → Bool} {a b : Option X} → Fine p a → Fine p b → Fine p (or_else a b)
+or_fine : {X : Type 0} {p : X → Bool} {a b : Option X} → Fine p a → Fine p b → Fine p (option_or a b)
 or_fine {a = None} first second = second
 or_fine {a = Some x} first second = record { all = first.all }
 

@@ -3,11 +3,12 @@ use Rattle.std.proofs.Common.{◌≡◌, ℕ, Bool, true, false, List, [], ◌�
 use Rattle.std.specs.Prelude.{not, if◌then◌else◌}
 use Rattle.std.specs.List.{list_all}
 use Rattle.std.proofs.lemmas.Bool.{and_parts, not-true}
+use Rattle.gi_spelling.specs.Kept.{is_comma}
 use Rattle.gi_spelling.specs.declared.token.What.{What}
 use Rattle.gi_spelling.specs.declared.token.What.TheVariants as what
 use Rattle.gi_spelling.specs.declared.token.Item.{Item}
 use Rattle.gi_spelling.specs.Items.{what_in}
-use Rattle.gi_spelling.specs.Reading.{is_comma_item, onto_first_part, parts_of, is_equals, is_colon, Split, onto_split, split_at_equals, split_at_colons}
+use Rattle.gi_spelling.specs.Reading.{onto_first_part, parts_of, is_equals, is_colon, Split, onto_split, split_at_equals, split_at_colons}
 use Rattle.gi_spelling.specs.Spelling.{name_place, name_places, listed_whats}
 use Rattle.gi_spelling.proofs.TokenLists.{names_nothing, no_place}
 use Rattle.gi_spelling.proofs.ItemParts.{parts_whats}
@@ -21,7 +22,7 @@ onto_first_what w (part ∷ parts) = (w ∷ part) ∷ parts
 
 what_parts : List What → List (List What)
 what_parts [] = [] ∷ []
-what_parts (w ∷ ws) = if is_comma_item w then [] ∷ what_parts ws else onto_first_what w (what_parts ws)
+what_parts (w ∷ ws) = if is_comma w then [] ∷ what_parts ws else onto_first_what w (what_parts ws)
 
 onto_same : (item : Item) (parts : List (List Item)) → parts_whats (onto_first_part item parts) ≡ onto_first_what item.what (parts_whats parts)
 unfolding onto_first_what
@@ -31,7 +32,7 @@ onto_same item (part ∷ parts) = refl
 parts-whats : (items : List Item) → parts_whats (parts_of items) ≡ what_parts (map what_in items)
 unfolding what_parts
 parts-whats [] = refl
-parts-whats (item ∷ rest) = chosen (is_comma_item item.what) (parts-whats rest)
+parts-whats (item ∷ rest) = chosen (is_comma item.what) (parts-whats rest)
   where
     chosen : (comma : Bool) → parts_whats (parts_of rest) ≡ what_parts (map what_in rest)
         → parts_whats (if comma then [] ∷ parts_of rest else onto_first_part item (parts_of rest))
@@ -40,21 +41,21 @@ parts-whats (item ∷ rest) = chosen (is_comma_item item.what) (parts-whats rest
     chosen false later = onto_same item (parts_of rest) ∙ ap (onto_first_what item.what) later
 
 abbrev pub no_comma : What → Bool
-no_comma w = not (is_comma_item w)
+no_comma w = not (is_comma w)
 
 last_part : (whats : List What) → list_all no_comma whats ≡ true → what_parts whats ≡ whats ∷ []
 unfolding what_parts onto_first_what
 last_part [] none = refl
 last_part (w ∷ ws) none =
     let parts = and_parts (no_comma w) (list_all no_comma ws) none in
-    rw (not-true (is_comma_item w) parts.0, last_part ws parts.1) refl
+    rw (not-true (is_comma w) parts.0, last_part ws parts.1) refl
 
 next_part : (whats later : List What) → list_all no_comma whats ≡ true → what_parts (whats ++ (what.Comma ∷ later)) ≡ whats ∷ what_parts later
 unfolding what_parts onto_first_what
 next_part [] later none = refl
 next_part (w ∷ ws) later none =
     let parts = and_parts (no_comma w) (list_all no_comma ws) none in
-    rw (not-true (is_comma_item w) parts.0, next_part ws later parts.1) refl
+    rw (not-true (is_comma w) parts.0, next_part ws later parts.1) refl
 
 parts-listed_whats : {X : Type 0} (spell : X → List What) → ((x : X) → list_all no_comma (spell x) ≡ true) → (x : X) (xs : List X)
     → what_parts (listed_whats (map spell (x ∷ xs))) ≡ map spell (x ∷ xs)

@@ -4,7 +4,7 @@
 --       successors: %bb.A, %bb.B
 --       liveins: $x10, $x11
 --       instructions
-use Rattle.std.specs.Prelude.{ℕ, zero, suc, Bool, true, false, not, ◌&&◌, List, [], ◌∷◌, ◌++◌, Option, Some, None, Ok, Err, map, filter, filter_map, flat_map, fold, find, option_map, nat_eq, ◌==◌, if◌then◌else◌, unwrap_or}
+use Rattle.std.specs.Prelude.{ℕ, zero, suc, Bool, true, false, not, ◌&&◌, List, [], ◌∷◌, ◌++◌, Option, Some, None, Ok, Err, map, filter, filter_map, flat_map, fold, find, option_map, nat_eq, ◌==◌, if◌then◌else◌, unwrap_or, is_some}
 use Rattle.std.specs.List.{list_any}
 use Rattle.std.specs.Option.{option_map_or}
 use Rattle.gi_llt.specs.declared.Llt.{Llt}
@@ -60,12 +60,8 @@ head_in (Some (item ∷ rest)) = head_by item.what
 abbrev pub head_number : (text : List ℕ) → Line → Option ℕ
 head_number text line = head_in (kept_items text line)
 
-abbrev pub is_there : {X : Type 0} → Option X → Bool
-is_there None = false
-is_there (Some x) = true
-
 abbrev pub is_block_head : (text : List ℕ) → Line → Bool
-is_block_head text line = is_there (head_number text line)
+is_block_head text line = is_some (head_number text line)
 
 -- the blocks of the lines under `body`
 abbrev pub blocks_in : (text : List ℕ) → List Line → Sections
@@ -171,11 +167,11 @@ no_lists = record { successors = None; liveins = None }
 
 -- each list stands once at most, and liveins in the first block alone
 abbrev pub with_successors : Lists → Read (List ℕ) → Option Lists
-with_successors lists (Ok numbers) = if is_there lists.successors then None else Some (record lists { successors = Some numbers })
+with_successors lists (Ok numbers) = if is_some lists.successors then None else Some (record lists { successors = Some numbers })
 with_successors lists (Err error) = None
 
 abbrev pub with_liveins : (place : ℕ) → Lists → Read (List ℕ) → Option Lists
-with_liveins zero lists (Ok numbers) = if is_there lists.liveins then None else Some (record lists { liveins = Some numbers })
+with_liveins zero lists (Ok numbers) = if is_some lists.liveins then None else Some (record lists { liveins = Some numbers })
 with_liveins (suc place) lists (Ok numbers) = None
 with_liveins place lists (Err error) = None
 

@@ -2,6 +2,7 @@
 -- stand in any order, each of those that count once; other fields are passed over, with what stands in brackets.
 -- (MIR Format Reference Manual, "High Level Structure"; which fields count is this project's own.)
 use Rattle.std.specs.Prelude.{ℕ, zero, suc, Bool, true, false, ◌&&◌, List, [], ◌∷◌, Some, None, Ok, is_some, if◌then◌else◌}
+use Rattle.gi_spelling.specs.Kept.{is_comma}
 use Rattle.gi_spelling.specs.declared.token.Word.{Word}
 use Rattle.gi_spelling.specs.declared.token.Word.TheVariants as word
 use Rattle.gi_spelling.specs.declared.token.What.{What}
@@ -78,10 +79,6 @@ closes what.Close = true
 closes what.CloseBrace = true
 closes what.CloseSquare = true
 closes w = false
-
-abbrev pub is_comma : What → Bool
-is_comma what.Comma = true
-is_comma w = false
 
 abbrev pub is_close_brace : What → Bool
 is_close_brace what.CloseBrace = true

@@ -5,6 +5,7 @@
 -- there is unknown; whatever else goes wrong is a matter of syntax. Whether the operands agree with the opcode's row
 -- is looked at later.
 use Rattle.std.specs.Prelude.{ℕ, Bool, true, false, ◌&&◌, List, [], ◌∷◌, Option, Some, None, Result, Ok, Err, unwrap_or, if◌then◌else◌}
+use Rattle.gi_spelling.specs.Kept.{is_comma}
 use Rattle.gi_llt.specs.declared.Llt.{Llt}
 use Rattle.gi_mir.specs.declared.opcode.Opcode.{Opcode}
 use Rattle.gi_mir.specs.declared.opcode.Opcode.TheVariants.{GenericConstant}
@@ -236,13 +237,9 @@ abbrev pub onto_first_part : Item → List (List Item) → List (List Item)
 onto_first_part item [] = (item ∷ []) ∷ []
 onto_first_part item (part ∷ parts) = (item ∷ part) ∷ parts
 
-abbrev pub is_comma_item : What → Bool
-is_comma_item what.Comma = true
-is_comma_item w = false
-
 abbrev pub parts_of : List Item → List (List Item)
 parts_of [] = [] ∷ []
-parts_of (item ∷ rest) = if is_comma_item item.what then [] ∷ parts_of rest else onto_first_part item (parts_of rest)
+parts_of (item ∷ rest) = if is_comma item.what then [] ∷ parts_of rest else onto_first_part item (parts_of rest)
 
 abbrev pub read_all : {X : Type 0} → (List Item → Read X) → List (List Item) → Read (List X)
 read_all read [] = Ok []

@@ -74,9 +74,16 @@ resolved_truth bits truth = if bits == 1 then Some (operand.Constant 1 (if truth
 abbrev pub whole_number : NumberData → ℤ
 whole_number number = if number.negative then neg_ℤ (pos (min number.size (2 ^ 127))) else pos (min number.size (2 ^ 127 - 1))
 
--- a block by its place in layout; a number of no block is kept, 65536 higher, as far as 32 bits hold that
+-- a number of no block is kept as a place, 65536 higher, as far as 32 bits hold that
+abbrev pub first_of_no_block : ℕ
+first_of_no_block = 65536
+
+abbrev pub place_of_no_block : ℕ → ℕ
+place_of_no_block number = min (first_of_no_block + number) 4294967295
+
+-- a block by its place in layout
 abbrev pub block_place : List ℕ → ℕ → ℕ
-block_place blocks number = unwrap_or (position (nat_eq number) blocks) (min (65536 + number) 4294967295)
+block_place blocks number = unwrap_or (position (nat_eq number) blocks) (place_of_no_block number)
 
 abbrev pub resolved_source : Tables → Source → Option Operand
 resolved_source tables (source.Use reg) = Some (operand.Use reg)

@@ -4,7 +4,7 @@
 -- bound counts as the bound.
 use Rattle.std.specs.Prelude.{ℕ, ◌^◌, Bool, false, not, ◌&&◌, List, [], ◌∷◌, Option, Some, None, option_map, min, nat_lt, nat_eq, ◌==◌, bytes_eq, if◌then◌else◌, codes, find, position, length, drop, unwrap_or, map}
 use Rattle.std.specs.List.{list_all, starts_with}
-use Rattle.std.specs.Option.{option_map_or}
+use Rattle.std.specs.Option.{option_map_or, option_or}
 use Rattle.gi_llt.specs.Tokens.{LexemeKind, Lexeme, is_digit, is_word_byte, run_of, past_run}
 use Rattle.gi_llt.specs.Tokens.{Word as OfWord, Number as OfNumber, Register as OfRegister, Physical as OfPhysical, Global as OfGlobal, Routine as OfRoutine, Quoted as OfQuoted, Metadata as OfMetadata, Mark as OfMark}
 use Rattle.gi_llt.specs.declared.Llt.TheVariants.{Scalar, Pointer}
@@ -145,20 +145,15 @@ behind prefix bytes = if starts_with nat_eq bytes prefix then Some (drop (length
 abbrev pub block_head : List ℕ → Option ℕ
 block_head bytes = option_map_or (numeral_before_name greatest_block) (behind (codes "bb.") bytes) None
 
--- the first of two that is there
-abbrev pub or_else : {X : Type 0} → Option X → Option X → Option X
-or_else None other = other
-or_else (Some x) other = Some x
-
 -- a word in the tables, of which no two have one word
 abbrev pub word_of : List ℕ → Word
 word_of bytes =
     unwrap_or
-    (or_else (fixed_word bytes)
-    (or_else (option_map (λ op. word.Opcode op) (opcode_of bytes))
-    (or_else (option_map (λ bits. word.Type (Scalar bits)) (width_behind 115 bytes))
-    (or_else (option_map (λ bits. word.Integer bits) (width_behind 105 bytes))
-    (or_else (option_map (λ number. word.BlockHead number) (block_head bytes))
+    (option_or (fixed_word bytes)
+    (option_or (option_map (λ op. word.Opcode op) (opcode_of bytes))
+    (option_or (option_map (λ bits. word.Type (Scalar bits)) (width_behind 115 bytes))
+    (option_or (option_map (λ bits. word.Integer bits) (width_behind 105 bytes))
+    (option_or (option_map (λ number. word.BlockHead number) (block_head bytes))
     (if starts_with nat_eq bytes (codes "DBG_") then Some word.Debug else None))))))
     word.Unknown
 
@@ -168,8 +163,8 @@ word_of bytes =
 abbrev pub register_token : List ℕ → What
 register_token bytes =
     unwrap_or
-    (or_else (option_map (λ number. what.Register number) (numeral greatest_register bytes))
-    (or_else (option_map (λ number. what.Block number) (option_map_or (numeral greatest_block) (behind (codes "bb.") bytes) None))
+    (option_or (option_map (λ number. what.Register number) (numeral greatest_register bytes))
+    (option_or (option_map (λ number. what.Block number) (option_map_or (numeral greatest_block) (behind (codes "bb.") bytes) None))
     (option_map (λ number. what.Frame number) (option_map_or (numeral_before_name greatest_register) (behind (codes "stack.") bytes) None))))
     what.Other
 
