@@ -1,6 +1,6 @@
 //! The entries of `stack`, each of which may go on over lines.
 
-ghost use Rattle.std.specs.Prelude.{◌≡◌, ℕ, List, ◌+◌, ◌-◌, ◌<◌, ◌≤◌, ◌^◌, ◌++◌, [], ◌∷◌, Some, All, IfOk, IfSome, OnOk, fold, length};
+ghost use Rattle.std.specs.Prelude.{◌≡◌, ℕ, ◌+◌, ◌-◌, ◌<◌, ◌≤◌, ◌^◌, ◌++◌, [], All, IfOk, IfSome, OnOk, fold, length};
 ghost use Rattle.std.specs.List.{cons_option};
 ghost use Rattle.gi_spelling.specs.Documents.{behind_line, ended_by, lower, next_by, object_at, object_by, object_wrong, object_wrongs, objects_from, stack_entries, whole_fields};
 ghost use Rattle.gi_mir_read.specs.Depths.{depth_of};
