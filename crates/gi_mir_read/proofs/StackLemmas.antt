@@ -1,15 +1,12 @@
--- The lines of `stack` are read one after the other, and so are its entries.
-use Rattle.std.proofs.Common.{◌≡◌, ℕ, zero, suc, ◌+◌, ◌<◌, ◌≤◌, Bool, true, false, List, [], ◌∷◌, ◌++◌, Some, None, length, drop, refl, sym, ap, ◌∙◌, arith, append_assoc, add-one, get_or}
-use Rattle.std.specs.Prelude.{◌==◌, Option, IfSome, fold}
+-- The lines of `stack` are read one after the other.
+use Rattle.std.proofs.Common.{◌≡◌, ℕ, zero, suc, ◌+◌, ◌<◌, ◌≤◌, false, List, [], ◌∷◌, ◌++◌, Some, None, length, drop, refl, sym, ap, ◌∙◌, arith, append_assoc, get_or}
+use Rattle.std.specs.Prelude.{◌==◌, Option, IfSome}
 use Rattle.std.specs.List.{cons_option}
+use Rattle.std.proofs.lemmas.Bool.Decides.{nat_tests}
 use Rattle.std.proofs.lemmas.List.{at_drop_more}
-use Rattle.std.proofs.lemmas.Grind.{fold-append}
-use Rattle.gi_mir.specs.declared.operand.StackObject.{StackObject}
 use Rattle.gi_spelling.specs.declared.written.Entry.{Entry}
 use Rattle.gi_spelling.specs.declared.written.StackEntry.{StackEntry}
-use Rattle.gi_spelling.specs.declared.written.Wrong.{Wrong}
-use Rattle.gi_spelling.specs.Documents.{behind_line, ended_by, entry_front, is_last, lower, next_by, object_at, object_wrong, object_wrongs, objects_from, stack_entries_from}
-use Rattle.gi_spelling.specs.Entries.{is_at_end}
+use Rattle.gi_spelling.specs.Documents.{behind_line, ended_by, is_last, next_by, stack_entries_from}
 use Rattle.gi_mir_read.specs.declared.lines.Line.{Line}
 use Rattle.gi_mir_read.specs.Depths.{depth_of}
 use Rattle.gi_mir_read.specs.Placed.{line_at, lines_at}
@@ -18,22 +15,28 @@ cons-append : {X : Type 0} (x : Option X) (xs : List X) → cons_option x [] ++ 
 cons-append None xs = refl
 cons-append (Some x) xs = refl
 
--- ══ Lines ══
+-- where a line goes on is deeper in brackets by no more
+pub deeper : (found : Option Entry) (low most : ℕ) → low ≤ most → IfSome found (λ at. depth_of at.state ≤ low) → IfSome found (λ at. depth_of at.state ≤ most)
+deeper None low most less small = tt
+deeper (Some at) low most less small = omega (arith, less, small)
 
--- where the next line goes on is no deeper in brackets
-pub next-depth : (found : Option Entry) (most : ℕ) → IfSome found (λ at. depth_of at.state ≤ most) → depth_of (next_by found).state ≤ most
-next-depth None most small = omega arith
-next-depth (Some at) most small = chosen (is_at_end at.state)
-  where
-    chosen : (ends : Bool) → depth_of (if ends then entry_front else at).state ≤ most
-    chosen true = omega arith
-    chosen false = small
+suc-same : (k n : ℕ) → (k == n) ≡ (suc k == suc n)
+suc-same k n = grind (arith, nat_tests)
+
+zero-other : (n : ℕ) → false ≡ (0 == suc n)
+zero-other n = grind (arith, nat_tests)
 
 last-is : (text : List ℕ) (placed : List Line) (k : ℕ) → k ≤ length placed → is_last (lines_at text (drop k placed)) ≡ (k == length placed)
 last-is text [] zero within = refl
 last-is text [] (suc k) within = absurd (omega (arith, within))
-last-is text (line ∷ placed) zero within = refl
-last-is text (line ∷ placed) (suc k) within = last-is text placed k (omega (arith, within))
+last-is text (line ∷ placed) zero within = zero-other (length placed)
+last-is text (line ∷ placed) (suc k) within = last-is text placed k (omega (arith, within)) ∙ suc-same k (length placed)
+
+-- what is at a place of a list doesn't depend on what stands in for nothing
+pub same-at : {X : Type 0} (xs : List X) (k : ℕ) (d e : X) → k < length xs → get_or xs k d ≡ get_or xs k e
+same-at [] k d e within = absurd (omega (arith, within))
+same-at (x ∷ xs) zero d e within = refl
+same-at (x ∷ xs) (suc k) d e within = same-at xs k d e (omega (arith, within))
 
 -- one line more
 pub entries-more : (text : List ℕ) (placed : List Line) (k : ℕ) (at next : Entry) (entries more total : List StackEntry) (line : Line) (found : Option Entry) (ended : Option StackEntry)
@@ -52,30 +55,3 @@ entries-more text placed k at next entries more total line found ended within is
     ∙ ap (λ next. cons_option ended (stack_entries_from text next left)) (sym goes) in
     ap (λ xs. xs ++ stack_entries_from text next left) grown ∙ append_assoc entries (cons_option ended []) (stack_entries_from text next left)
     ∙ ap (λ xs. entries ++ xs) (cons-append ended (stack_entries_from text next left) ∙ sym step) ∙ so_far
-
--- ══ Entries ══
-
--- one entry more
-pub objects-more : (all : List StackEntry) (k : ℕ) (one : StackEntry) (objects more total : List StackObject)
-    → k < length all → one ≡ get_or all k one → more ≡ objects ++ cons_option (object_at k one) []
-    → objects ++ objects_from k (drop k all) ≡ total
-    → more ++ objects_from (k + 1) (drop (k + 1) all) ≡ total
-objects-more all k one objects more total within is grown so_far =
-    let later = objects_from (k + 1) (drop (k + 1) all) in
-    let step : objects_from k (drop k all) ≡ cons_option (object_at k one) later =
-    at_drop_more (objects_from k) all k one within ∙ ap (λ y. objects_from k (y ∷ drop (k + 1) all)) (sym is)
-    ∙ ap (λ place. cons_option (object_at k one) (objects_from place (drop (k + 1) all))) (sym (add-one k)) in
-    ap (λ xs. xs ++ later) grown ∙ append_assoc objects (cons_option (object_at k one) []) later
-    ∙ ap (λ xs. objects ++ xs) (cons-append (object_at k one) later ∙ sym step) ∙ so_far
-
-pub noted-more : (all : List StackEntry) (k : ℕ) (one : StackEntry) (old new total : Option Wrong)
-    → k < length all → one ≡ get_or all k one → new ≡ fold lower old (object_wrong one.line (object_at k one))
-    → fold lower old (object_wrongs k (drop k all)) ≡ total
-    → fold lower new (object_wrongs (k + 1) (drop (k + 1) all)) ≡ total
-noted-more all k one old new total within is noted so_far =
-    let here = object_wrong one.line (object_at k one) in
-    let later = object_wrongs (k + 1) (drop (k + 1) all) in
-    let step : object_wrongs k (drop k all) ≡ here ++ later =
-    at_drop_more (object_wrongs k) all k one within ∙ ap (λ y. object_wrongs k (y ∷ drop (k + 1) all)) (sym is)
-    ∙ ap (λ place. here ++ object_wrongs place (drop (k + 1) all)) (sym (add-one k)) in
-    ap (λ w. fold lower w later) noted ∙ sym (fold-append lower old here later) ∙ ap (fold lower old) (sym step) ∙ so_far
