@@ -1,10 +1,10 @@
 //! Memory operands.
 
 ghost use Rattle.std.specs.Prelude.{◌≡◌};
-ghost use Rattle.gi_spelling.specs.Reading.{access_by, align_word_by, read_access, read_align, read_align_number, read_memory, read_memory_closed, read_memory_end, read_memory_opened, read_memory_type, size_by, wrong_memory_word};
+ghost use Rattle.gi_spelling.specs.Reading.{access_by, align_word_by, read_access, read_align, read_align_end, read_align_number, read_memory, read_memory_closed, read_memory_end, read_memory_opened, read_memory_type, read_passed_word, size_by, wrong_memory_word};
 
 use crate::definition::read_type;
-use crate::faults::{at_end, closed, unknown};
+use crate::faults::{at_end, unknown};
 use gi_spelling::token::{Item, What, Word};
 use gi_spelling::written::{Fault, Memory};
 
@@ -57,6 +57,34 @@ pub(crate) fn size(what: What) -> Result<u128, Fault>
     }
 }
 
+/// A token behind the comma of something that is passed over.
+fn passed_word(items: &[Item]) -> Result<Memory, Fault>
+    ensures { result ≡ read_passed_word items.now }
+{
+    match items {
+        [] => Err(Fault::Syntax),
+        [first, ..] => match first.what {
+            What::Word(word) => wrong_word(word, *first),
+            _ => Err(Fault::Syntax),
+        },
+    }
+}
+
+/// `)` behind the alignment.
+fn read_align_end(memory: Memory, items: &[Item]) -> Result<Memory, Fault>
+    ensures { result ≡ read_align_end memory items.now }
+{
+    match items {
+        [] => Err(Fault::Syntax),
+        [first, rest @ ..] => match first.what {
+            What::Close => at_end(memory, rest),
+            What::Comma => passed_word(rest),
+            What::Word(word) => wrong_word(word, *first),
+            _ => Err(Fault::Syntax),
+        },
+    }
+}
+
 /// `2)` behind `align`.
 fn read_align_number(memory: Memory, items: &[Item]) -> Result<Memory, Fault>
     ensures { result ≡ read_align_number memory items.now }
@@ -65,7 +93,7 @@ fn read_align_number(memory: Memory, items: &[Item]) -> Result<Memory, Fault>
         [] => Err(Fault::Syntax),
         [first, rest @ ..] => {
             let align = Some(size(first.what)?);
-            closed(Memory { align, ..memory }, rest)
+            read_align_end(Memory { align, ..memory }, rest)
         }
     }
 }
@@ -92,6 +120,7 @@ fn read_end(memory: Memory, items: &[Item]) -> Result<Memory, Fault>
         [first, rest @ ..] => match first.what {
             What::Close => at_end(memory, rest),
             What::Comma => read_align(memory, rest),
+            What::Word(word) => wrong_word(word, *first),
             _ => Err(Fault::Syntax),
         },
     }
@@ -132,6 +161,7 @@ fn read_opened(load: bool, items: &[Item]) -> Result<Memory, Fault>
         [] => Err(Fault::Syntax),
         [open, rest @ ..] => match open.what {
             What::Open => read_accessed(load, rest),
+            What::Word(word) => wrong_word(word, *open),
             _ => Err(Fault::Syntax),
         },
     }

@@ -18,7 +18,7 @@ use Rattle.gi_spelling.specs.declared.written.Source.{Source}
 use Rattle.gi_spelling.specs.declared.written.Memory.{Memory}
 use Rattle.gi_spelling.specs.declared.written.Fault.TheVariants as fault
 use Rattle.gi_spelling.specs.Written.{WrittenData}
-use Rattle.gi_spelling.specs.Reading.{then_read, closed, read_definition, read_operand, parts_of, read_all, read_operands, read_type, access_by, align_word_by, size_by, read_align_number, read_align, memory_end_by, read_memory_end, memory_closed_by, read_memory_closed, read_memory_type, memory_opened_by, read_memory_opened, read_access, memory_by, read_memory, split_at_equals, split_at_colons, flag_at, past_flag, is_no_unsigned_wrap, is_no_signed_wrap, is_exact, is_disjoint, is_non_negative, read_flags, opcode_by, is_constant_op, read_sources, read_memory_behind, read_tail, read_opcode, read_body, begins_definition, read_behind, read_defined_line, read_instr}
+use Rattle.gi_spelling.specs.Reading.{unknown, then_read, closed_by, closed, read_definition, read_operand, parts_of, read_all, read_operands, read_type, access_by, align_word_by, is_memory_word, wrong_memory_word, size_by, passed_word_by, read_passed_word, align_end_by, read_align_end, read_align_number, read_align, memory_end_by, read_memory_end, memory_closed_by, read_memory_closed, read_memory_type, memory_opened_by, read_memory_opened, read_access, memory_by, read_memory, split_at_equals, split_at_colons, flag_at, past_flag, is_no_unsigned_wrap, is_no_signed_wrap, is_exact, is_disjoint, is_non_negative, read_flags, opcode_by, is_constant_op, read_sources, read_memory_behind, read_tail, read_opcode, read_body, begins_definition, read_behind, read_defined_line, read_instr}
 use Rattle.gi_spelling.specs.Spelling.{word_what, type_whats, definition_whats, source_whats, listed_whats, defined_whats, flag_whats, flags_whats, plain_size, align_whats, memory_whats, whats_of, place_of_source, places_of, AreWritten}
 use Rattle.gi_spelling.proofs.TokenLists.{Tokens, no_tokens, one_more, both_tokens, then_ok, closed_ok, ended_ok, settled}
 use Rattle.gi_spelling.proofs.ReadPieces.{type_ok, definition_ok, operand_ok}
@@ -85,12 +85,39 @@ size_ok (what.Number number true) size e = chosen number.negative refl e
         ap (λ n. what.Number n true) (plain_is number size is same)
 size_ok w size e = absurd (cc)
 
+-- a word in the place of a word of memory is never read
+wrong_word_never : {X : Type 0} (w : Word) (item : Item) (x : X) → wrong_memory_word w item ≡ Ok x → ⊥
+wrong_word_never w item x e = chosen (is_memory_word w) e
+  where
+    chosen : (wrong : Bool) → (if wrong then Err fault.Syntax else unknown item) ≡ Ok x → ⊥
+    chosen true e = cc
+    chosen false e = cc
+
+passed_word_never : (items : List Item) (whole : Memory) → read_passed_word items ≡ Ok whole → ⊥
+passed_word_never [] whole e = cc
+passed_word_never (item ∷ rest) whole e = chosen item.what e
+  where
+    chosen : (w : What) → passed_word_by w item ≡ Ok whole → ⊥
+    chosen (what.Word w) e = wrong_word_never w item whole e
+    chosen w e = cc
+
+-- what is read behind the alignment is the closing bracket
+align_end_by_ok : (memory whole : Memory) (w : What) (item : Item) (rest : List Item) → align_end_by memory w item rest ≡ Ok whole → closed_by w memory rest ≡ Ok whole
+align_end_by_ok memory whole what.Close item rest e = e
+align_end_by_ok memory whole what.Comma item rest e = absurd (passed_word_never rest whole e)
+align_end_by_ok memory whole (what.Word w) item rest e = absurd (wrong_word_never w item whole e)
+align_end_by_ok memory whole w item rest e = absurd (cc)
+
+align_end_ok : (memory whole : Memory) (items : List Item) → read_align_end memory items ≡ Ok whole → closed memory items ≡ Ok whole
+align_end_ok memory whole [] e = absurd (cc)
+align_end_ok memory whole (item ∷ rest) e = align_end_by_ok memory whole item.what item rest e
+
 align_number_ok : (comma align : Item) (memory whole : Memory) (items : List Item) → comma.what ≡ what.Comma → align.what ≡ word_what word.Align → read_align_number memory items ≡ Ok whole
     → EndsMemory memory (comma ∷ align ∷ items) whole
 align_number_ok comma align memory whole [] commas aligns e = absurd (cc)
 align_number_ok comma align memory whole (item ∷ rest) commas aligns e =
-    let p = then_ok (size_by item.what) (λ (size : ℕ). closed (record memory { align = Some size }) rest) whole e in
-    let q = closed_ok (record memory { align = Some p.0 }) whole rest p.2 in
+    let p = then_ok (size_by item.what) (λ (size : ℕ). read_align_end (record memory { align = Some size }) rest) whole e in
+    let q = closed_ok (record memory { align = Some p.0 }) whole rest (align_end_ok (record memory { align = Some p.0 }) whole rest p.2) in
     let number = what.Number (plain_size p.0) true in
     subst (EndsMemory memory (comma ∷ align ∷ item ∷ rest)) q.0 (record {
       load = refl;
@@ -106,11 +133,12 @@ align_ok comma memory whole (item ∷ rest) commas e =
     let p = then_ok (align_word_by item.what item) (λ (w : Word). read_align_number memory rest) whole e in
     align_number_ok comma item memory whole rest commas (align_word_ok item.what item p.0 p.1) p.2
 
-memory_end_by_ok : (item : Item) (memory whole : Memory) (w : What) (rest : List Item) → item.what ≡ w → memory.align ≡ None → memory_end_by memory w rest ≡ Ok whole → EndsMemory memory (item ∷ rest) whole
+memory_end_by_ok : (item : Item) (memory whole : Memory) (w : What) (rest : List Item) → item.what ≡ w → memory.align ≡ None → memory_end_by memory w item rest ≡ Ok whole → EndsMemory memory (item ∷ rest) whole
 memory_end_by_ok item memory whole what.Close rest is none e =
     let p = ended_ok memory whole rest e in
     subst (EndsMemory memory (item ∷ rest)) p.0 (record { load = refl; ty = refl; tokens = rw none (one_more item rest what.Close [] [] is refl p.1) })
 memory_end_by_ok item memory whole what.Comma rest is none e = align_ok item memory whole rest is e
+memory_end_by_ok item memory whole (what.Word w) rest is none e = absurd (wrong_word_never w item whole e)
 memory_end_by_ok item memory whole w rest is none e = absurd (cc)
 
 memory_end_ok : (memory whole : Memory) (items : List Item) → memory.align ≡ None → read_memory_end memory items ≡ Ok whole → EndsMemory memory items whole
@@ -151,8 +179,9 @@ memory_type_ok bracket load whole (item ∷ rest) opens e =
       tokens = one_more bracket (item ∷ rest) what.Open (word_what (word.Type whole.ty) ∷ ends) [] opens refl (one_more item rest (word_what (word.Type whole.ty)) ends [] is refl closes.tokens);
     }
 
-memory_opened_by_ok : (item : Item) (load : Bool) (whole : Memory) (w : What) (rest : List Item) → item.what ≡ w → memory_opened_by load w rest ≡ Ok whole → TypesMemory load (item ∷ rest) whole
+memory_opened_by_ok : (item : Item) (load : Bool) (whole : Memory) (w : What) (rest : List Item) → item.what ≡ w → memory_opened_by load w item rest ≡ Ok whole → TypesMemory load (item ∷ rest) whole
 memory_opened_by_ok item load whole what.Open rest is e = memory_type_ok item load whole rest is e
+memory_opened_by_ok item load whole (what.Word w) rest is e = absurd (wrong_word_never w item whole e)
 memory_opened_by_ok item load whole w rest is e = absurd (cc)
 
 memory_opened_ok : (load : Bool) (whole : Memory) (items : List Item) → read_memory_opened load items ≡ Ok whole → TypesMemory load items whole

@@ -255,7 +255,8 @@ read_operands typed (part ∷ parts) = then_read (read_operand typed part) (λ x
 
 -- ══ Memory ══
 
--- a word in the place of another word of memory
+-- A word in the place of another word of memory: one that is none is unknown. Behind `load` or `store`, behind the type,
+-- behind the alignment and behind a comma words may stand that are passed over, so these are such places.
 abbrev pub is_memory_word : Word → Bool
 is_memory_word word.Load = true
 is_memory_word word.Store = true
@@ -281,23 +282,44 @@ abbrev pub size_by : What → Read ℕ
 size_by (what.Number number true) = if number.negative then syntax else Ok number.size
 size_by w = syntax
 
+-- behind the comma of something that is passed over
+abbrev pub passed_word_by : What → Item → Read Memory
+passed_word_by (what.Word w) item = wrong_memory_word w item
+passed_word_by w item = syntax
+
+abbrev pub read_passed_word : List Item → Read Memory
+read_passed_word [] = syntax
+read_passed_word (item ∷ rest) = passed_word_by item.what item
+
+-- `)` behind the alignment
+abbrev pub align_end_by : Memory → What → Item → List Item → Read Memory
+align_end_by memory what.Close item rest = at_end memory rest
+align_end_by memory what.Comma item rest = read_passed_word rest
+align_end_by memory (what.Word w) item rest = wrong_memory_word w item
+align_end_by memory w item rest = syntax
+
+abbrev pub read_align_end : Memory → List Item → Read Memory
+read_align_end memory [] = syntax
+read_align_end memory (item ∷ rest) = align_end_by memory item.what item rest
+
 abbrev pub read_align_number : Memory → List Item → Read Memory
 read_align_number memory [] = syntax
-read_align_number memory (item ∷ rest) = then_read (size_by item.what) (λ align. closed (record memory { align = Some align }) rest)
+read_align_number memory (item ∷ rest) = then_read (size_by item.what) (λ align. read_align_end (record memory { align = Some align }) rest)
 
 abbrev pub read_align : Memory → List Item → Read Memory
 read_align memory [] = syntax
 read_align memory (item ∷ rest) = then_read (align_word_by item.what item) (λ w. read_align_number memory rest)
 
 -- `)` or `, align 2)`
-abbrev pub memory_end_by : Memory → What → List Item → Read Memory
-memory_end_by memory what.Close rest = at_end memory rest
-memory_end_by memory what.Comma rest = read_align memory rest
-memory_end_by memory w rest = syntax
+abbrev pub memory_end_by : Memory → What → Item → List Item → Read Memory
+memory_end_by memory what.Close item rest = at_end memory rest
+memory_end_by memory what.Comma item rest = read_align memory rest
+memory_end_by memory (what.Word w) item rest = wrong_memory_word w item
+memory_end_by memory w item rest = syntax
 
 abbrev pub read_memory_end : Memory → List Item → Read Memory
 read_memory_end memory [] = syntax
-read_memory_end memory (item ∷ rest) = memory_end_by memory item.what rest
+read_memory_end memory (item ∷ rest) = memory_end_by memory item.what item rest
 
 abbrev pub memory_closed_by : Memory → What → List Item → Read Memory
 memory_closed_by memory what.Close rest = read_memory_end memory rest
@@ -311,13 +333,14 @@ abbrev pub read_memory_type : (load : Bool) → List Item → Read Memory
 read_memory_type load [] = syntax
 read_memory_type load (item ∷ rest) = then_read (read_type item) (λ ty. read_memory_closed (record { load = load; ty = ty; align = None }) rest)
 
-abbrev pub memory_opened_by : (load : Bool) → What → List Item → Read Memory
-memory_opened_by load what.Open rest = read_memory_type load rest
-memory_opened_by load w rest = syntax
+abbrev pub memory_opened_by : (load : Bool) → What → Item → List Item → Read Memory
+memory_opened_by load what.Open item rest = read_memory_type load rest
+memory_opened_by load (what.Word w) item rest = wrong_memory_word w item
+memory_opened_by load w item rest = syntax
 
 abbrev pub read_memory_opened : (load : Bool) → List Item → Read Memory
 read_memory_opened load [] = syntax
-read_memory_opened load (item ∷ rest) = memory_opened_by load item.what rest
+read_memory_opened load (item ∷ rest) = memory_opened_by load item.what item rest
 
 abbrev pub read_access : List Item → Read Memory
 read_access [] = syntax
