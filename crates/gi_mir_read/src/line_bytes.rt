@@ -136,13 +136,13 @@ pub(crate) fn is_block_start(line: &[u8]) -> bool
     }
 }
 
-/// Whether a key may begin the line.
+/// Whether a line stands under no key: it begins one, or it is wrong.
 pub(crate) fn is_at_column_one(line: &[u8]) -> bool
     ensures { result ≡ begins_at_column_one line.now }
 {
     match line {
         [] => false,
-        [first, ..] => !is_blank(*first) && *first != b'-',
+        [first, ..] => !is_blank(*first) && *first != b'-' || is_block_start(line),
     }
 }
 

@@ -1,18 +1,18 @@
 -- The lines of printed blocks spell these blocks.
 use Rattle.std.proofs.Common.{◌≡◌, ℕ, suc, Bool, true, false, List, [], ◌∷◌, ◌++◌, sym, refl, ap, ◌∙◌, subst, arith}
-use Rattle.std.specs.Prelude.{◌⊎◌, ◌==◌, not, bytes_eq, if◌then◌else◌, codes}
+use Rattle.std.specs.Prelude.{◌⊎◌, ◌==◌, ◌&&◌, not, bytes_eq, if◌then◌else◌, codes}
 use Rattle.std.specs.List.{list_all}
 use Rattle.std.specs.Cmp.Derive.{both_true}
 use Rattle.std.proofs.lemmas.Bool.{and_parts, or_left, or_right}
 use Rattle.std.proofs.lemmas.Bool.Decides.{nat_tests}
 use Rattle.std.proofs.lemmas.List.Elements.{filter-append}
 use Rattle.std.proofs.lemmas.List.{append-nil}
-use Rattle.gi_llt.specs.Tokens.{is_blank}
+use Rattle.gi_llt.specs.Tokens.{is_blank, run_of, past_run}
 use Rattle.gi_llt.proofs.Apart.{is_no_feed}
 use Rattle.gi_mir.specs.declared.operand.Kind.{Kind}
 use Rattle.gi_mir.specs.Data.{BlockData}
 use Rattle.gi_spelling.specs.Printed.{instr_lines, implied_successors, states_successors, liveins_lines, set_off, block_lines, blocks_lines}
-use Rattle.gi_spelling.specs.Lines.{is_dropped, without_comment, with_byte, without_last_blanks, line_bytes, is_start, is_end}
+use Rattle.gi_spelling.specs.Lines.{is_dropped, without_comment, with_byte, without_last_blanks, line_bytes, is_start, is_end, is_bar_behind_blanks, is_block_start}
 use Rattle.gi_spelling.proofs.PlainLines.{kept_lines, Section, Sections, with_head, with_line, sections_of, is_block_head, lists, is_list_line}
 use Rattle.gi_spelling.proofs.Nameable.{is_named_block}
 use Rattle.gi_spelling.proofs.BlockLines.{EachLine, each-append, each-weaker, begins_blank, IsInner, instrs_inner, instrs_no_block, head_line, head_inner, head_begins, successors_line, IsListLine, successors_listed, liveins_listed}
@@ -181,10 +181,31 @@ no_end line other = line_differs 46 line other
 pub no_start : (line : List ℕ) → begins line 45 ≡ false → is_start line ≡ false
 no_start line other = line_differs 45 line other
 
+-- a line that begins with another byte than `-` begins no IR block
+undashed : (byte : ℕ) (rest : List ℕ) → (byte == 45) ≡ false → run_of (λ byte. byte == 45) (with_byte byte rest) ≡ []
+undashed byte [] other = go (is_blank byte)
+  where
+    go : (blank : Bool) → run_of (λ byte. byte == 45) (if blank then [] else byte ∷ []) ≡ []
+    go true = refl
+    go false = rw other refl
+undashed byte (next ∷ rest) other = rw other refl
+
+line_undashed : (line : List ℕ) → begins line 45 ≡ false → run_of (λ byte. byte == 45) (line_bytes line) ≡ []
+line_undashed [] other = refl
+line_undashed (byte ∷ rest) other = go (byte == 59)
+  where
+    go : (comment : Bool) → run_of (λ byte. byte == 45) (without_last_blanks (if not comment then byte ∷ without_comment rest else [])) ≡ []
+    go true = refl
+    go false = undashed byte (without_last_blanks (without_comment rest)) other
+
+pub no_block_start : (line : List ℕ) → begins line 45 ≡ false → is_block_start line ≡ false
+no_block_start line other =
+    ap (λ dashes. bytes_eq dashes (codes "---") && is_bar_behind_blanks (past_run (λ byte. byte == 45) (line_bytes line))) (line_undashed line other)
+
 blank_no_minus : (byte : ℕ) → is_blank byte ≡ true → (byte == 45) ≡ false
 blank_no_minus byte blank = grind (arith, nat_tests)
 
-begins_no_minus : (line : List ℕ) → begins_blank line ≡ true → begins line 45 ≡ false
+pub begins_no_minus : (line : List ℕ) → begins_blank line ≡ true → begins line 45 ≡ false
 begins_no_minus [] blank = refl
 begins_no_minus (byte ∷ rest) blank = blank_no_minus byte blank
 

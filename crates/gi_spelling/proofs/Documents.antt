@@ -1,19 +1,19 @@
 -- The lines of the entries of a printed document, and of one with other gaps behind its colons, as they stand one by one.
 use Rattle.std.proofs.Common.{◌≡◌, ℕ, zero, suc, Bool, true, false, List, [], ◌∷◌, ◌++◌, Option, Some, None, sym, refl, ap, ◌∙◌, subst, arith}
-use Rattle.std.specs.Prelude.{◌==◌, not, replicate, if◌then◌else◌, codes}
+use Rattle.std.specs.Prelude.{◌==◌, ◌&&◌, not, replicate, if◌then◌else◌, codes}
 use Rattle.std.specs.List.{list_all}
-use Rattle.std.proofs.lemmas.Bool.{and_parts, false≢true}
+use Rattle.std.proofs.lemmas.Bool.{and_parts, or_from, false≢true}
 use Rattle.std.proofs.lemmas.Bool.Decides.{nat_tests}
 use Rattle.std.proofs.lemmas.List.{append-nil}
 use Rattle.gi_llt.specs.Tokens.{Lexeme, is_blank, is_word_byte, past_run}
 use Rattle.gi_llt.proofs.Pieces.{with_token}
 use Rattle.gi_llt.proofs.Apart.{is_no_feed, spaces_no_feed, append_no_feed, words_no_feed}
 use Rattle.gi_spelling.specs.Printed.{key_lines}
-use Rattle.gi_spelling.specs.Lines.{is_empty_line, is_dropped, without_comment, with_byte, without_last_blanks, line_bytes, value_bytes, is_end, begins_at_column_one}
+use Rattle.gi_spelling.specs.Lines.{is_empty_line, is_dropped, without_comment, with_byte, without_last_blanks, line_bytes, value_bytes, is_end, is_block_start, begins_at_column_one}
 use Rattle.gi_spelling.proofs.PlainLines.{kept_lines, Section, with_head, sections_of}
 use Rattle.gi_spelling.specs.Documents.{is_name}
 use Rattle.gi_spelling.proofs.BlockLines.{EachLine, each-append, each-weaker, begins_blank, IsInner}
-use Rattle.gi_spelling.proofs.Blocks.{sections_of-append, IsRaw, begins, no_end, no_start}
+use Rattle.gi_spelling.proofs.Blocks.{sections_of-append, IsRaw, begins, begins_no_minus, no_block_start, no_end, no_start}
 
 -- a value with no blank around it, no comment and no line feed
 pub record IsSolid (value : List ℕ) : Type 0 where
@@ -208,7 +208,9 @@ blank_at_no_column line inner = go line inner.indented
   where
     go : (line : List ℕ) → begins_blank line ≡ true → begins_at_column_one line ≡ false
     go [] blank = refl
-    go (byte ∷ rest) blank = rw blank refl
+    go (byte ∷ rest) blank =
+        or_from (not (is_blank byte) && not (byte == 45)) (is_block_start (byte ∷ rest)) (ap (λ is. not is && not (byte == 45)) blank)
+        (no_block_start (byte ∷ rest) (begins_no_minus (byte ∷ rest) blank))
 
 pub body_sections : (line : List ℕ) (lines : List (List ℕ)) → begins_at_column_one line ≡ true → EachLine IsInner lines
     → sections_of begins_at_column_one (line ∷ lines) ≡ record { before = []; sections = record { head = line; under = lines } ∷ [] }

@@ -165,10 +165,10 @@ end_number document (line ∷ lines) = line.number
 abbrev pub document_end : Section → ℕ
 document_end document = end_number document (document_rest document)
 
--- a key stands at column 1; what is indented or begins with `-` stands under it
+-- a key stands at column 1; what is indented or begins with `-` stands under it, but for `--- |`, which is no key either
 abbrev pub begins_at_column_one : List ℕ → Bool
 begins_at_column_one [] = false
-begins_at_column_one (byte ∷ rest) = not (is_blank byte) && not (byte == 45)
+begins_at_column_one (byte ∷ rest) = not (is_blank byte) && not (byte == 45) || is_block_start (byte ∷ rest)
 
 abbrev pub is_at_column_one : Line → Bool
 is_at_column_one line = begins_at_column_one line.bytes
