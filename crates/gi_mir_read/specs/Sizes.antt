@@ -11,7 +11,6 @@
 --     rank 8     alignment of a memory operand      4096
 use Rattle.std.specs.Prelude.{ℕ, ◌+◌, ℤ, pos, negsuc, min, Bool, true, false, ◌&&◌, ◌||◌, List, [], ◌∷◌, ◌++◌, Option, Some, None, length, flat_map, fold, option_map, unwrap_or, nat_lt, nat_le, ◌==◌, if◌then◌else◌}
 use Rattle.std.specs.List.{list_any}
-use Rattle.std.specs.Option.{option_map_or}
 use Rattle.gi_llt.specs.declared.Llt.{Llt}
 use Rattle.gi_llt.specs.Llt.{width_of}
 use Rattle.gi_text.specs.declared.token.SizeError.{SizeError}
@@ -85,10 +84,10 @@ is_right_result x instr place ty = if is_physical_copy instr then is_word x ty e
 abbrev pub is_right_source : ℕ → InstrData → (place : ℕ) → Llt → Bool
 is_right_source x instr place ty = if is_physical_copy instr then is_word x ty else is_source_type x instr.op place ty
 
--- the bits of the first result
-abbrev pub result_bits : List Operand → ℕ
-result_bits (Def reg kind ∷ operands) = option_map_or scalar_bits (type_of_kind kind) 0
-result_bits operands = 0
+-- the type of the first result, which one of class `gpr` has not
+abbrev pub result_type : List Operand → Option Llt
+result_type (Def reg kind ∷ operands) = type_of_kind kind
+result_type operands = None
 
 abbrev pub told_number : ℤ → ℕ
 told_number (pos k) = min k 65535
@@ -98,9 +97,13 @@ abbrev pub is_extension : Opcode → Bool
 is_extension GenericSignExtendInRegister = true
 is_extension _ = false
 
+-- a number of low bits that don't fill a result of this type, or aren't there
+abbrev pub low_faults : (x line : ℕ) → ℤ → Option Llt → List Fault
+low_faults x line k None = []
+low_faults x line k (Some ty) = width_unless (is_in_register x (scalar_bits ty) k) line (told_number k)
+
 abbrev pub number_faults : ℕ → InstrData → ℤ → List Fault
-number_faults x instr k =
-    if is_extension instr.op then width_unless (is_in_register x (result_bits instr.operands) k) instr.line (told_number k) else []
+number_faults x instr k = if is_extension instr.op then low_faults x instr.line k (result_type instr.operands) else []
 
 -- what an operand shows, where so many results and so many other virtual registers stand before, by the forms from it on
 abbrev pub operand_faults : ℕ → (kinds : ℕ → Kind) → InstrData → (results sources : ℕ) → List Form → Operand → List Fault

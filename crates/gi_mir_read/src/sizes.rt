@@ -6,7 +6,7 @@ ghost use Rattle.gi_mir.specs.Registers.{kind_of, type_of_kind};
 ghost use Rattle.gi_mir.specs.Row.{rows_of};
 ghost use Rattle.gi_mir.specs.Types.{is_any};
 ghost use Rattle.gi_spelling.specs.Printed.{definitions_of, first_row, is_definition, sources_of, forms_after, is_typed_by, is_typed_form, source_forms};
-ghost use Rattle.gi_mir_read.specs.Sizes.{above, access_faults, blocks_faults, count_after, count_faults, counted, first_line, forms_behind, function_faults, functions_faults, head_faults, line_of, is_before, is_copy, is_definition_form, is_extension, is_physical, is_physical_copy, is_right_result, is_right_source, instr_faults, instrs_faults, is_word, lower, lowest_after, memory_faults, number_faults, numbers_faults, numbers_of, object_faults, objects_faults, operand_faults, operands_faults, parts_of, register_faults, result_bits, results_after, shown_faults, size_fault, sources_after, told_number, type_faults, width_unless};
+ghost use Rattle.gi_mir_read.specs.Sizes.{above, access_faults, blocks_faults, count_after, count_faults, counted, first_line, forms_behind, function_faults, functions_faults, head_faults, line_of, low_faults, is_before, is_copy, is_definition_form, is_extension, is_physical, is_physical_copy, is_right_result, is_right_source, instr_faults, instrs_faults, is_word, lower, lowest_after, memory_faults, number_faults, numbers_faults, numbers_of, object_faults, objects_faults, operand_faults, operands_faults, parts_of, register_faults, result_type, results_after, shown_faults, size_fault, sources_after, told_number, type_faults, width_unless};
 
 use gi_llt::{Llt, Target, width};
 use gi_mir::accepted::{
@@ -210,16 +210,13 @@ fn with_source(
     }
 }
 
-/// The bits of the first result, and 0 without one.
-fn result_bits(operands: &[Operand]) -> u16
-    ensures { result ≡ result_bits operands.now }
+/// The type of the first result, which one of class `gpr` has not.
+fn result_type(operands: &[Operand]) -> Option<Llt>
+    ensures { result ≡ result_type operands.now }
 {
     match operands {
-        [Operand::Def(_, kind), ..] => match type_of(*kind) {
-            Some(ty) => scalar_bits(ty),
-            None => 0,
-        },
-        _ => 0,
+        [Operand::Def(_, kind), ..] => type_of(*kind),
+        _ => None,
     }
 }
 
@@ -236,14 +233,34 @@ fn told_number(k: i128) -> u16
     }
 }
 
+/// The lowest, where a number of low bits may fill a result of this type, or may not be there.
+fn with_low(
+    lowest: Option<Fault>,
+    target: Target,
+    line: u32,
+    k: i128,
+    ty: Option<Llt>,
+) -> Option<Fault>
+    requires { (target.xlen ≡ 32) ⊎ (target.xlen ≡ 64) }
+    ensures { result ≡ lowest_after lowest (low_faults target.xlen line k ty) }
+{
+    match ty {
+        Some(ty) => {
+            let is_right = is_in_register(target, scalar_bits(ty), k);
+            with_width(lowest, is_right, line, told_number(k))
+        }
+        None => lowest,
+    }
+}
+
 /// The lowest, where a number may be no width to extend from.
 fn with_number(lowest: Option<Fault>, target: Target, instr: &Instr, k: i128) -> Option<Fault>
     requires { (target.xlen ≡ 32) ⊎ (target.xlen ≡ 64) }
     ensures { result ≡ lowest_after lowest (number_faults target.xlen instr.now k) }
 {
     if is_extension(instr.op) {
-        let is_right = is_in_register(target, result_bits(instr.operands.as_slice()), k);
-        with_width(lowest, is_right, instr.line, told_number(k))
+        let ty = result_type(instr.operands.as_slice());
+        with_low(lowest, target, instr.line, k, ty)
     } else {
         lowest
     }
