@@ -20,10 +20,12 @@ use Rattle.gi_spelling.proofs.PrintedTexts.{printed_spells}
 use Rattle.gi_spelling.proofs.ReadSpells.{read_spelled}
 use Rattle.gi_spelling.proofs.SpelledPrintable.{spelled_printable}
 use Rattle.gi_meaning.proofs.Renaming.{runs_renamed}
+use Rattle.gi_meaning.specs.InRow.{are_in_rows}
 use Rattle.gi_refine.specs.Refinement.{IsRefinement}
 use Rattle.gi_refine.specs.Replacing.{IsSameBlock as IsAlikeBlock}
 use Rattle.gi_refine.proofs.SameBlocks.{same_blocks_refine}
 use Rattle.gi_refine.proofs.Refining.{refines_through}
+use Rattle.gi_refine.proofs.RowsHeld.{allowed_in_rows}
 use Rattle.gi_answer.specs.Rows.{selection_rows}
 use Rattle.gi_answer.specs.Selecting.{short_among}
 use Rattle.gi_answer.specs.Selection.{classed_block, selected_form, IsSameInstr, IsSameBlock, IsSameFunction, IsSelected, IsSelectedModule}
@@ -35,6 +37,7 @@ use Rattle.gi_answer.proofs.SelectShapes.{shaped, classed_all, in_order}
 use Rattle.gi_answer.proofs.SelectSteps.{Came}
 use Rattle.gi_answer.proofs.SelectLoops.{NormalOf, normal_of, normal_without_blocks}
 use Rattle.gi_answer.proofs.SelectedPrintable.{among_short, selected_fine}
+use Rattle.gi_answer.proofs.SelectedRows.{IsRowed, no_block_in_rows, one_block_in_rows, rowed_same, selected_rowed, shapes_rowed}
 
 -- ══ What is selected ══
 
@@ -186,11 +189,25 @@ selected_name : (f : FunctionData) → IsSelectable f → (g : FunctionData) →
 selected_name f (inl none) g made = (selected_empty f g none made).name
 selected_name f (inr h) g made = (selected_block f h g made).name
 
+-- both stand in their rows
+taken_in_rows : (f : FunctionData) → IsSelectable f → are_in_rows 32 f ≡ true
+taken_in_rows f (inl none) = no_block_in_rows f none
+taken_in_rows f (inr h) = one_block_in_rows f h.block h.blocks (shapes_rowed h.shapes h.block.instrs [] h.shaped (in_order [] h.shapes h.ordered))
+
+selected_in_rows : (f : FunctionData) → IsSelectable f → (g : FunctionData) → IsSelected f g → are_in_rows 32 g ≡ true
+selected_in_rows f (inl none) g made = no_block_in_rows g (selected_empty f g none made).blocks
+selected_in_rows f (inr h) g made =
+    let one : SelectedBlock f h g = selected_block f h g made in
+    let read = h.block.instrs in
+    one_block_in_rows g one.block one.blocks
+    (rowed_same one.came.back one.block.instrs one.instrs
+    (subst (AllByRecursion IsRowed) (sym one.came.same) (selected_rowed (short_among read) h.shapes read [] h.shaped (in_order [] h.shapes h.ordered))))
+
 numbered_refines : (names : List (List ℕ)) (f g : FunctionData) → IsSelectable f → IsSelected f g → Refines 32 names names f (numbered g)
 numbered_refines names f g h made = record {
   name = ap (name_at names) (selected_name f h g made);
   runs = λ world is_world n outcome run.
-      (selected_refines names f h g made).runs world is_world n outcome
+      allowed_in_rows 32 names f g (taken_in_rows f h) (selected_in_rows f h g made) (selected_refines names f h g made) world is_world n outcome
       (runs_renamed (number_in (order_of g)) (number_in_apart (order_of g)) 32 names g world n outcome run);
 }
 

@@ -16,5 +16,6 @@ pub mod SelectRuns
 pub mod SelectShapes
 pub mod SelectSteps
 pub mod SelectedPrintable
+pub mod SelectedRows
 pub mod ValidBlocks
 pub mod ValidShapes

@@ -1,12 +1,11 @@
 -- A text of a module that is printed as it was read keeps the promise.
-use Rattle.std.proofs.Common.{◌≡◌, ℕ, List, [], ◌∷◌, map, refl, sym, subst}
+use Rattle.std.proofs.Common.{◌≡◌, ℕ, List, [], ◌∷◌, map, inl, refl, sym, subst}
 use Rattle.std.specs.List.{AllZip}
 use Rattle.gi_mir.specs.Data.{FunctionData, ModuleData}
 use Rattle.gi_mir.specs.Numbering.{order_of, number_in, numbered, numbered_module}
 use Rattle.gi_mir.proofs.NumberingLaws.{number_in_apart}
 use Rattle.gi_meaning.proofs.Renaming.{runs_renamed}
 use Rattle.gi_valid.specs.Typing.{Phase}
-use Rattle.gi_refine.proofs.Refining.{refines_itself}
 use Rattle.gi_spelling.specs.Printable.{IsPrintableModule}
 use Rattle.gi_spelling.specs.Printed.{printed}
 use Rattle.gi_spelling.specs.Read.{IsReadModule}
@@ -25,8 +24,7 @@ numbered_refine x names [] = tt
 numbered_refine x names (f ∷ functions) = (
   record {
     name = refl;
-    runs = λ world is_world n outcome run.
-        (refines_itself x names f).runs world is_world n outcome (runs_renamed (number_in (order_of f)) (number_in_apart (order_of f)) x names f world n outcome run);
+    runs = λ world is_world n outcome run. inl (runs_renamed (number_in (order_of f)) (number_in_apart (order_of f)) x names f world n outcome run);
   },
   numbered_refine x names functions,
 )

@@ -1,8 +1,11 @@
 -- Functions that are the same come to the same outcomes.
 use mathlib.Core.Path.{fun_ext}
 use Rattle.std.proofs.Common.{◌≡◌, ℕ, zero, suc, Bool, true, false, List, [], ◌∷◌, ◌++◌, Option, Some, None, map, refl, ap, ap₂, ◌∙◌}
-use Rattle.std.specs.Prelude.{cond, if◌then◌else◌, unwrap_or, slice_get}
-use Rattle.std.specs.List.{AllZip}
+use Rattle.std.specs.Prelude.{cond, ◌&&◌, if◌then◌else◌, unwrap_or, slice_get}
+use Rattle.std.specs.List.{AllZip, list_all}
+use Rattle.gi_llt.specs.declared.Llt.{Llt}
+use Rattle.gi_mir.specs.Row.{access_of, typing_of}
+use Rattle.gi_mir.specs.declared.opcode.Opcode.{Opcode}
 use Rattle.gi_mir.specs.declared.operand.Operand.{Operand}
 use Rattle.gi_mir.specs.declared.operand.Operand.TheVariants as operand
 use Rattle.gi_mir.specs.declared.operand.Kind.TheVariants.{Class}
@@ -10,6 +13,7 @@ use Rattle.gi_mir.specs.declared.operand.Reg.{Reg}
 use Rattle.gi_mir.specs.Data.{InstrData, BlockData, FunctionData}
 use Rattle.gi_mir.specs.Registers.{kind_of}
 use Rattle.gi_meaning.specs.Argument.{Argument}
+use Rattle.gi_meaning.specs.InRow.{type_held, type_in, results_in, sources_in, have_types, has_memory, is_operand_of, has_row, is_in_row, nowhere, checked_pair, checked_block, checked_blocks}
 use Rattle.gi_meaning.specs.State.{World, State, Outcome, Virtual, Physical, start}
 use Rattle.gi_meaning.specs.Meaning.{Meaning, Calling, Nothing, meaning_of, is_joining}
 use Rattle.gi_meaning.specs.Act.{clobbered, is_result_register}
@@ -199,11 +203,84 @@ module _ (names others : List (List ℕ)) (x : ℕ) (width : ℕ → ℕ) (world
       any_block_same (slice_get blocks b) (slice_get theirs b) (got_same blocks theirs b all) (Enters new world theirs n) from b state outcome
       ∙ ap (λ (enters : Entering). RunsBlock old world (slice_get blocks b) enters from b state outcome) (enters_same blocks theirs all n)))))
 
+-- ══ Rows ══
+
+module _ (names others : List (List ℕ)) (x : ℕ) where
+  operand_row_same : (o : Opcode) (types : List Llt) (a b : Operand) → IsSameOperand names others a b → is_operand_of x o types b ≡ is_operand_of x o types a
+  operand_row_same o types (operand.Global flag number) b is = rw is.same refl
+  operand_row_same o types _ b is = rw is refl
+
+  operands_row_same : (o : Opcode) (types : List Llt) (xs ys : List Operand) → AllZip (IsSameOperand names others) xs ys → list_all (is_operand_of x o types) ys ≡ list_all (is_operand_of x o types) xs
+  operands_row_same o types [] [] all = refl
+  operands_row_same o types [] (b ∷ ys) all = absurd all
+  operands_row_same o types (a ∷ xs) [] all = absurd all
+  operands_row_same o types (a ∷ xs) (b ∷ ys) all = ap₂ (λ s t. s && t) (operand_row_same o types a b all.0) (operands_row_same o types xs ys all.1)
+
+  results_in_same : (xs ys : List Operand) → AllZip (IsSameOperand names others) xs ys → results_in ys ≡ results_in xs
+  results_in_same [] [] all = refl
+  results_in_same [] (b ∷ ys) all = absurd all
+  results_in_same (a ∷ xs) [] all = absurd all
+  results_in_same (a ∷ xs) (b ∷ ys) all = by a b all.0 (results_in_same xs ys all.1)
+    where
+      by : (a b : Operand) → IsSameOperand names others a b → results_in ys ≡ results_in xs → results_in (b ∷ ys) ≡ results_in (a ∷ xs)
+      by (operand.Global flag number) b is later = rw is.same later
+      by (operand.Def r kind) b is later = rw is (ap (λ rs. r.0 ∷ rs) later)
+      by _ b is later = rw is later
+
+  sources_in_same : (xs ys : List Operand) → AllZip (IsSameOperand names others) xs ys → sources_in ys ≡ sources_in xs
+  sources_in_same [] [] all = refl
+  sources_in_same [] (b ∷ ys) all = absurd all
+  sources_in_same (a ∷ xs) [] all = absurd all
+  sources_in_same (a ∷ xs) (b ∷ ys) all = by a b all.0 (sources_in_same xs ys all.1)
+    where
+      by : (a b : Operand) → IsSameOperand names others a b → sources_in ys ≡ sources_in xs → sources_in (b ∷ ys) ≡ sources_in (a ∷ xs)
+      by (operand.Global flag number) b is later = rw is.same later
+      by (operand.Use r) b is later = rw is (ap (λ rs. r.0 ∷ rs) later)
+      by _ b is later = rw is later
+
+  in_row_same : (type : ℕ → Llt) (i j : ℕ × InstrData) → IsSameInstr names others i j → is_in_row x type j.1 ≡ is_in_row x type i.1
+  in_row_same type i j is =
+      let results : results_in (j.1).operands ≡ results_in (i.1).operands = results_in_same (i.1).operands (j.1).operands is.operands in
+      let sources : sources_in (j.1).operands ≡ sources_in (i.1).operands = sources_in_same (i.1).operands (j.1).operands is.operands in
+      let rs : List Llt = map type (results_in (i.1).operands) in
+      let ss : List Llt = map type (sources_in (i.1).operands) in
+      ap₂ (λ us vs. has_row x j.1 (map type us) (map type vs)) results sources
+      ∙ ap₂ (λ o mem. have_types x o (typing_of o) rs ss && has_memory x (access_of o) o (rs ++ ss) mem && list_all (is_operand_of x o (rs ++ ss)) (j.1).operands) is.op is.memory
+      ∙ ap (λ b. have_types x (i.1).op (typing_of (i.1).op) rs ss && has_memory x (access_of (i.1).op) (i.1).op (rs ++ ss) (i.1).mem && b)
+      (operands_row_same (i.1).op (rs ++ ss) (i.1).operands (j.1).operands is.operands)
+
+  checked_pair_same : (type : ℕ → Llt) (i j : ℕ × InstrData) → IsSameInstr names others i j → IsSameInstr names others (checked_pair x type i) (checked_pair x type j)
+  checked_pair_same type i j is = by (is_in_row x type i.1) (is_in_row x type j.1) (in_row_same type i j is)
+    where
+      by : (a b : Bool) → b ≡ a → IsSameInstr names others (i.0, cond a i.1 (nowhere i.1)) (j.0, cond b j.1 (nowhere j.1))
+      by true true e = record { op = is.op; flags = is.flags; operands = is.operands; memory = is.memory }
+      by true false e = absurd (cc)
+      by false true e = absurd (cc)
+      by false false e = record { op = refl; flags = is.flags; operands = tt; memory = is.memory }
+
+  checked_instrs_same : (type : ℕ → Llt) (is js : List (ℕ × InstrData)) → AllZip (IsSameInstr names others) is js → AllZip (IsSameInstr names others) (map (checked_pair x type) is) (map (checked_pair x type) js)
+  checked_instrs_same type [] [] all = tt
+  checked_instrs_same type [] (j ∷ js) all = absurd all
+  checked_instrs_same type (i ∷ is) [] all = absurd all
+  checked_instrs_same type (i ∷ is) (j ∷ js) all = (checked_pair_same type i j all.0, checked_instrs_same type is js all.1)
+
+  checked_blocks_same : (type : ℕ → Llt) (blocks theirs : List BlockData) → AllZip (IsSameBlock names others) blocks theirs → AllZip (IsSameBlock names others) (map (checked_block x type) blocks) (map (checked_block x type) theirs)
+  checked_blocks_same type [] [] all = tt
+  checked_blocks_same type [] (c ∷ theirs) all = absurd all
+  checked_blocks_same type (b ∷ blocks) [] all = absurd all
+  checked_blocks_same type (b ∷ blocks) (c ∷ theirs) all = (
+    record { successors = (all.0).successors; liveins = (all.0).liveins; instrs = checked_instrs_same type b.instrs c.instrs (all.0).instrs },
+    checked_blocks_same type blocks theirs all.1,
+  )
+
 -- what one runs to the other runs to
 pub same_runs : (x : ℕ) (names others : List (List ℕ)) (f g : FunctionData) → IsSameFunction names others f g → (world : World) (n : ℕ) (outcome : Outcome)
     → Runs x others g world n outcome ≡ Runs x names f world n outcome
 same_runs x names others f g is world n outcome =
     let width : (λ (r : ℕ). width_of_kind x (kind_of g r)) ≡ (λ (r : ℕ). width_of_kind x (kind_of f r)) =
     fun_ext (λ r. ap (λ kind. width_of_kind x (unwrap_or kind Class)) (blocks_kind names others r f.blocks g.blocks is.blocks)) in
-    ap (λ (width : ℕ → ℕ). Enters (record { x = x; names = others; width = width }) world g.blocks n None 0 (start world) outcome) width
-    ∙ ap (λ (enters : Entering). enters None 0 (start world) outcome) (enters_same names others x (λ r. width_of_kind x (kind_of f r)) world f.blocks g.blocks is.blocks n)
+    let type : type_in x g ≡ type_in x f = fun_ext (λ r. ap (λ kind. type_held x (unwrap_or kind Class)) (blocks_kind names others r f.blocks g.blocks is.blocks)) in
+    let theirs : List BlockData = map (checked_block x (type_in x f)) g.blocks in
+    ap₂ (λ (width : ℕ → ℕ) (type : ℕ → Llt). Enters (record { x = x; names = others; width = width }) world (map (checked_block x type) g.blocks) n None 0 (start world) outcome) width type
+    ∙ ap (λ (enters : Entering). enters None 0 (start world) outcome)
+    (enters_same names others x (λ r. width_of_kind x (kind_of f r)) world (checked_blocks x f) theirs (checked_blocks_same names others x (type_in x f) f.blocks g.blocks is.blocks) n)

@@ -22,7 +22,8 @@ use Rattle.gi_mir.specs.declared.operand.Operand.TheVariants.{Def, Use, Phys, Ph
 use Rattle.gi_meaning.specs.Runs.{is_phi, phis_of, after_phis}
 use Rattle.gi_valid.specs.Available.{IsAvailable, at_once, one_by_one, behind, defines_origin}
 use Rattle.gi_valid.specs.Faults.{definitions, times}
-use Rattle.gi_valid.specs.Typing.{Phase, results_in}
+use Rattle.gi_meaning.specs.InRow.{results_in}
+use Rattle.gi_valid.specs.Typing.{Phase}
 use Rattle.gi_valid.specs.Valid.{IsValid}
 use Rattle.gi_valid.proofs.Valid.{orderly, use_available}
 use Rattle.gi_observe.specs.declared.pass.Pass.{Pass}

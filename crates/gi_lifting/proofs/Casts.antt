@@ -10,7 +10,7 @@ use Rattle.gi_meaning.specs.Act.{Results}
 use Rattle.gi_meaning.specs.State.{World, Outside}
 use Rattle.gi_refine.specs.Values.{Correspond, Defines, Environment, Holds, IsCertain, IsSound, Makes, MayMake, Rule, StandAt}
 use Rattle.gi_refine.specs.ValueRules.{on_one}
-use Rattle.gi_refine.proofs.RuleSteps.{OneOf, entry_value, exactly, from_low_bits}
+use Rattle.gi_refine.proofs.RuleSteps.{OneOf, entry_value, exactly, low_of_results}
 use Rattle.gi_pattern.specs.Examples.{truncated_extension}
 use Rattle.gi_pattern.specs.declared.binding.Binding.{Binding}
 use Rattle.gi_lifting.specs.OnValues.{Types, values_of}
@@ -29,7 +29,7 @@ cut_back flags more m n = record {
 
 -- the extension has the value's low bits
 low_known : (x : ℕ) (w : World) (outside : Outside) (more : Flags) (m n u v : ℕ) → v < 2 ^ n → Holds x w outside ((m, u) ∷ (n, v) ∷ []) (Defines (record (on_one op.GenericAnyExtend m 1) { flags = more }) (0 ∷ [])) → wrapped n u ≡ v
-low_known x w outside more m n u v fits h = by h.0 h.2 (from_low_bits n m v outside (Results h.0 outside) h.1)
+low_known x w outside more m n u v fits h = by h.0 h.2 (low_of_results n m v outside h.0 h.1)
   where
     results_are : (a c : List ℕ) → Results a outside ≡ Results c outside → a ≡ c
     results_are a c e = cc

@@ -1,3 +1,4 @@
+pub mod CallExamples
 pub mod Counting
 pub mod Few
 pub mod Folding
@@ -7,5 +8,6 @@ pub mod Numbers
 pub mod Order
 pub mod Quotients
 pub mod Renaming
+pub mod RowExamples
 pub mod Shifting
 pub mod Values

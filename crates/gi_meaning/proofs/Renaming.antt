@@ -1,12 +1,17 @@
 -- The numbers of virtual registers don't matter to a run.
-use Rattle.std.proofs.Common.{◌≡◌, ℕ, zero, suc, ◌+◌, Bool, true, false, cond, ◌==◌, List, [], ◌∷◌, ◌++◌, map, Option, Some, None, option_map, unwrap_or, slice_get, refl, ap, ap₂, ◌∙◌, subst}
+use Rattle.std.proofs.Common.{◌≡◌, ℕ, zero, suc, ◌+◌, Bool, true, false, cond, ◌&&◌, ◌==◌, List, [], ◌∷◌, ◌++◌, map, Option, Some, None, option_map, unwrap_or, slice_get, refl, ap, ap₂, ◌∙◌, subst}
 use mathlib.Core.Path.{fun_ext}
+use Rattle.std.specs.List.{list_all}
 use Rattle.std.proofs.lemmas.Option.{slice_get-map}
+use Rattle.gi_llt.specs.declared.Llt.{Llt}
 use Rattle.gi_mir.specs.Data.{InstrData, BlockData, FunctionData}
+use Rattle.gi_mir.specs.Row.{access_of, typing_of}
+use Rattle.gi_mir.specs.declared.opcode.Opcode.{Opcode}
 use Rattle.gi_mir.specs.declared.operand.Kind.TheVariants as kind
 use Rattle.gi_mir.specs.declared.operand.Operand.{Operand}
 use Rattle.gi_mir.specs.declared.operand.Operand.TheVariants as operand
 use Rattle.gi_meaning.specs.Argument.{Argument}
+use Rattle.gi_meaning.specs.InRow.{type_held, type_in, results_in, sources_in, have_types, has_memory, is_operand_of, has_row, is_in_row, nowhere, checked_instr, checked_pair, checked_block, checked_blocks}
 use Rattle.gi_meaning.specs.State.{World, State, outside_of, start, Outcome, Fails, Place, Virtual, Physical, put}
 use Rattle.gi_meaning.specs.Meaning.{Meaning, Calling, Nothing, meaning_of}
 use Rattle.gi_meaning.specs.Act.{Answer, Results, Leaves, Returns, Asks, Breaks, Act, clobbered, is_result_register}
@@ -272,9 +277,75 @@ setting_old number h x names f =
     ap (λ (width : ℕ → ℕ). let s : Setting = record { x = x; names = names; width = width } in s)
     (fun_ext (λ r. ap (λ k. width_of_kind x (unwrap_or k kind.Class)) (kind_in_blocks_old number h r f.blocks)))
 
+-- ══ Rows ══
+
+results_renamed : (number : ℕ → ℕ) (os : List Operand) → results_in (map (renamed_operand number) os) ≡ map number (results_in os)
+results_renamed number [] = refl
+results_renamed number (operand.Def r k ∷ os) = ap (λ rs. number r.0 ∷ rs) (results_renamed number os)
+results_renamed number (_ ∷ os) = results_renamed number os
+
+sources_renamed : (number : ℕ → ℕ) (os : List Operand) → sources_in (map (renamed_operand number) os) ≡ map number (sources_in os)
+sources_renamed number [] = refl
+sources_renamed number (operand.Use r ∷ os) = ap (λ rs. number r.0 ∷ rs) (sources_renamed number os)
+sources_renamed number (_ ∷ os) = sources_renamed number os
+
+types_renamed : (number : ℕ → ℕ) (old new : ℕ → Llt) → ((r : ℕ) → new (number r) ≡ old r) → (rs : List ℕ) → map new (map number rs) ≡ map old rs
+types_renamed number old new same [] = refl
+types_renamed number old new same (r ∷ rs) = ap₂ (λ t ts. t ∷ ts) (same r) (types_renamed number old new same rs)
+
+operand_renamed : (number : ℕ → ℕ) (x : ℕ) (o : Opcode) (types : List Llt) (each : Operand) → is_operand_of x o types (renamed_operand number each) ≡ is_operand_of x o types each
+operand_renamed number x o types (operand.Def r k) = refl
+operand_renamed number x o types (operand.Use r) = refl
+operand_renamed number x o types _ = refl
+
+operands_renamed : (number : ℕ → ℕ) (x : ℕ) (o : Opcode) (types : List Llt) (os : List Operand)
+    → list_all (is_operand_of x o types) (map (renamed_operand number) os) ≡ list_all (is_operand_of x o types) os
+operands_renamed number x o types [] = refl
+operands_renamed number x o types (each ∷ os) = ap₂ (λ a b. a && b) (operand_renamed number x o types each) (operands_renamed number x o types os)
+
+in_row_renamed : (number : ℕ → ℕ) (x : ℕ) (old new : ℕ → Llt) → ((r : ℕ) → new (number r) ≡ old r) → (i : InstrData)
+    → is_in_row x new (renamed_instr number i) ≡ is_in_row x old i
+in_row_renamed number x old new same i =
+    let results : map new (results_in (map (renamed_operand number) i.operands)) ≡ map old (results_in i.operands) =
+    ap (map new) (results_renamed number i.operands) ∙ types_renamed number old new same (results_in i.operands) in
+    let sources : map new (sources_in (map (renamed_operand number) i.operands)) ≡ map old (sources_in i.operands) =
+    ap (map new) (sources_renamed number i.operands) ∙ types_renamed number old new same (sources_in i.operands) in
+    let types : List Llt = map old (results_in i.operands) ++ map old (sources_in i.operands) in
+    ap₂ (has_row x (renamed_instr number i)) results sources
+    ∙ ap (λ b. have_types x i.op (typing_of i.op) (map old (results_in i.operands)) (map old (sources_in i.operands)) && has_memory x (access_of i.op) i.op types i.mem && b)
+    (operands_renamed number x i.op types i.operands)
+
+chosen_renamed : (number : ℕ → ℕ) (i : InstrData) (b : Bool)
+    → cond b (renamed_instr number i) (nowhere (renamed_instr number i)) ≡ renamed_instr number (cond b i (nowhere i))
+chosen_renamed number i true = refl
+chosen_renamed number i false = refl
+
+instr_checked : (number : ℕ → ℕ) (x : ℕ) (old new : ℕ → Llt) → ((r : ℕ) → new (number r) ≡ old r) → (i : InstrData)
+    → checked_instr x new (renamed_instr number i) ≡ renamed_instr number (checked_instr x old i)
+instr_checked number x old new same i =
+    ap (λ b. cond b (renamed_instr number i) (nowhere (renamed_instr number i))) (in_row_renamed number x old new same i) ∙ chosen_renamed number i (is_in_row x old i)
+
+instrs_checked : (number : ℕ → ℕ) (x : ℕ) (old new : ℕ → Llt) → ((r : ℕ) → new (number r) ≡ old r) → (is : List (ℕ × InstrData))
+    → map (checked_pair x new) (map (renamed_pair number) is) ≡ map (renamed_pair number) (map (checked_pair x old) is)
+instrs_checked number x old new same [] = refl
+instrs_checked number x old new same (i ∷ is) =
+    ap₂ (λ (d : InstrData) (ds : List (ℕ × InstrData)). (i.0, d) ∷ ds) (instr_checked number x old new same i.1) (instrs_checked number x old new same is)
+
+blocks_checked : (number : ℕ → ℕ) (x : ℕ) (old new : ℕ → Llt) → ((r : ℕ) → new (number r) ≡ old r) → (blocks : List BlockData)
+    → map (checked_block x new) (map (renamed_block number) blocks) ≡ map (renamed_block number) (map (checked_block x old) blocks)
+blocks_checked number x old new same [] = refl
+blocks_checked number x old new same (b ∷ blocks) =
+    ap₂ (λ (is : List (ℕ × InstrData)) (bs : List BlockData). (record b { instrs = is }) ∷ bs) (instrs_checked number x old new same b.instrs) (blocks_checked number x old new same blocks)
+
+checked_renamed : (number : ℕ → ℕ) → IsInjective number → (x : ℕ) (f : FunctionData) → checked_blocks x (renamed number f) ≡ map (renamed_block number) (checked_blocks x f)
+checked_renamed number h x f =
+    blocks_checked number x (type_in x f) (type_in x (renamed number f))
+    (λ r. ap (λ k. type_held x (unwrap_or k kind.Class)) (kind_in_blocks_old number h r f.blocks)) f.blocks
+
 -- what the renamed function may come to, the function may come to
 pub runs_renamed : (number : ℕ → ℕ) → IsInjective number → (x : ℕ) (names : List (List ℕ)) (f : FunctionData) (w : World) (n : ℕ) (o : Outcome)
     → Runs x names (renamed number f) w n o → Runs x names f w n o
 runs_renamed number h x names f w n o run =
-    subst (λ s. Enters s w f.blocks n None 0 (start w) o) (setting_old number h x names f)
-    ((enters_old number h (setting_of x names (renamed number f)) w f.blocks n).by None 0 (start w) o run)
+    subst (λ s. Enters s w (checked_blocks x f) n None 0 (start w) o) (setting_old number h x names f)
+    ((enters_old number h (setting_of x names (renamed number f)) w (checked_blocks x f) n).by None 0 (start w) o
+    (subst (λ blocks. Enters (setting_of x names (renamed number f)) w blocks n None 0 (start w) o) (checked_renamed number h x f) run))

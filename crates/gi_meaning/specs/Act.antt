@@ -1,6 +1,7 @@
 -- What an instruction does with its arguments and with what is outside the registers. It knows no virtual
 -- register: reading the arguments and writing the results is the step's.
 use Rattle.std.specs.Prelude.{◌≡◌, ℕ, ◌+◌, ◌*◌, ◌/◌, ◌%◌, ◌^◌, ◌<◌, List, [], ◌∷◌, ◌++◌, length, map, Option, Some, None, Bool, cond, ◌&&◌, ◌||◌, not, nat_lt, nat_le, ◌==◌, if◌then◌else◌, ◌⊎◌, slice_get}
+use Rattle.std.specs.Option.{is_some}
 use Rattle.gi_llt.specs.Bits.{wrapped, unsigned, sign_extended}
 use Rattle.gi_llt.specs.Llt.{width_of}
 use Rattle.gi_mir.specs.declared.operand.MemOp.{MemOp}
@@ -46,12 +47,12 @@ AnswersWords x widths Undefined outside answer = answer ≡ Breaks
 AnswersWords x widths given outside answer =
     (words : List ℕ) × IsGiven given words × (answer ≡ Results (all_fitted x widths words) outside)
 
--- ══ Reading words: a register of fewer than x bits stands for any word with these low bits ══
+-- ══ Reading words: a register of fewer than x bits stands for any word with its value's low bits ══
 
 abbrev pub IsWordOf : (x width value : ℕ) → Argument → Type 0
 IsWordOf x width value argument =
     cond (nat_lt width x)
-    ((word : ℕ) × (word < 2 ^ x) × (word % 2 ^ width ≡ value) × (argument ≡ Value x word))
+    ((word : ℕ) × (word < 2 ^ x) × (word % 2 ^ width ≡ value % 2 ^ width) × (argument ≡ Value x word))
     (argument ≡ Value width value)
 
 abbrev pub ReadsAs : (x : ℕ) → Argument → Argument → Type 0
@@ -187,20 +188,36 @@ CallsGlobal x world callee words results outside answer =
     ⊎ (((event : Event) → slice_get world.trace outside.taken ≡ Some event → Fits event callee words outside.memory results → ⊥)
     × (answer ≡ Asks callee words))
 
--- the two operands, each low word first, stand in x10 to x13, and the results in x10 and x11
-abbrev pub are_routine_registers : List (ℕ × ℕ) → List ℕ → Bool
-are_routine_registers (l ∷ h ∷ m ∷ k ∷ []) (p ∷ q ∷ []) =
-    (l.0 == 10) && (h.0 == 11) && (m.0 == 12) && (k.0 == 13) && (p == 10) && (q == 11)
-are_routine_registers _ _ = not (0 == 0)
+-- the word that is passed in a register, where there is one
+abbrev pub passed_in : ℕ → List (ℕ × ℕ) → Option ℕ
+passed_in register [] = None
+passed_in register (each ∷ rest) = if each.0 == register then Some each.1 else passed_in register rest
+
+-- the two operands of a routine, each low word first, stand in x10 to x13, in any order and with others beside them
+abbrev pub has_operands : List (ℕ × ℕ) → Bool
+has_operands inputs =
+    is_some (passed_in 10 inputs) && is_some (passed_in 11 inputs) && is_some (passed_in 12 inputs) && is_some (passed_in 13 inputs)
+
+abbrev pub of_four_words : (x place : ℕ) → Option ℕ → Option ℕ → Option ℕ → Option ℕ → Given
+of_four_words x place (Some l) (Some h) (Some m) (Some k) = computation_at place (2 * x) (l + 2 ^ x * h) (m + 2 ^ x * k)
+of_four_words x place _ _ _ _ = Undefined
 
 abbrev pub routine_given : (x place : ℕ) → List (ℕ × ℕ) → Given
-routine_given x place (l ∷ h ∷ m ∷ k ∷ []) = computation_at place (2 * x) (l.1 + 2 ^ x * h.1) (m.1 + 2 ^ x * k.1)
-routine_given x place _ = Undefined
+routine_given x place inputs = of_four_words x place (passed_in 10 inputs) (passed_in 11 inputs) (passed_in 12 inputs) (passed_in 13 inputs)
 
-abbrev pub CallsRoutine : (x routine : ℕ) → List (ℕ × ℕ) → List ℕ → Outside → Answer → Type 0
+-- of the two words of a result, the low one is given in x10 and the high one in x11
+abbrev pub result_word : (words : List ℕ) → (register : ℕ) → ℕ
+result_word (low ∷ high ∷ []) register = if register == 10 then low else high
+result_word _ register = 0
+
+abbrev pub result_words : (words registers : List ℕ) → List ℕ
+result_words words registers = map (result_word words) registers
+
+-- the result's words in those of the two registers that the call says it defines; the other one is left free as the rest is
+abbrev pub CallsRoutine : (x routine : ℕ) → (inputs : List (ℕ × ℕ)) → (results : List ℕ) → Outside → Answer → Type 0
 CallsRoutine x routine inputs results outside answer =
-    cond (are_routine_registers inputs results && has_routine x routine)
-    ((words : List ℕ) × InTwoWords x (routine_given x routine inputs) words × LeavesFree x words outside answer)
+    cond (has_operands inputs && has_routine x routine)
+    ((words : List ℕ) × InTwoWords x (routine_given x routine inputs) words × LeavesFree x (result_words words results) outside answer)
     (answer ≡ Breaks)
 
 abbrev pub Calls : (x : ℕ) → World → List Argument → Outside → Answer → Type 0

@@ -6,7 +6,7 @@ use Rattle.gi_llt.specs.Bits.{wrapped, signed, unsigned, sign_extended, part_of}
 use Rattle.gi_mir.specs.declared.operand.Flags.{Flags}
 use Rattle.gi_mir.specs.declared.operand.Pred.{Pred}
 use Rattle.gi_mir.specs.declared.operand.Pred.TheVariants.{Eq, Ne, Ugt, Uge, Ult, Ule, Sgt, Sge, Slt, Sle}
-use Rattle.gi_meaning.specs.Given.{Given, Exactly, LowBits, Undefined, one, free, unless_broken}
+use Rattle.gi_meaning.specs.Given.{Given, Exactly, Undefined, one, free, unless_broken, in_low_bits}
 use Rattle.gi_meaning.specs.Argument.{Argument, Value, Number, Bits, Symbol, Test}
 
 -- ══ Sums, differences and products ══
@@ -146,7 +146,7 @@ funnel_right n a b k = wrapped n ((a * 2 ^ n + b) / 2 ^ (k % n))
 
 -- where a promise of no sign is broken, only the bits above the operand's are free
 abbrev pub zero_extension : Flags → (m n a : ℕ) → Given
-zero_extension flags m n a = cond (flags.nneg && nat_le (2 ^ (m - 1)) a) (LowBits m n a) (one a)
+zero_extension flags m n a = cond (flags.nneg && nat_le (2 ^ (m - 1)) a) (in_low_bits m n a) (one a)
 
 -- ══ Parts, from the lowest bits to the highest ══
 

@@ -1,6 +1,6 @@
 -- What an operation gives: one list of results, one result of which only the low bits are fixed, or nothing
 -- at all because it is undefined.
-use Rattle.std.specs.Prelude.{◌≡◌, ℕ, ◌%◌, ◌^◌, ◌<◌, List, [], ◌∷◌, Bool, cond, ◌==◌, if◌then◌else◌}
+use Rattle.std.specs.Prelude.{◌≡◌, ℕ, ◌%◌, ◌^◌, ◌<◌, List, [], ◌∷◌, Bool, cond, nat_lt, ◌==◌, if◌then◌else◌}
 
 pub data Given : Type 0 where
   -- these results and no others
@@ -27,6 +27,6 @@ free width = LowBits 0 width 0
 abbrev pub unless_broken : Bool → ℕ → ℕ → Given
 unless_broken broken width value = cond broken (free width) (one value)
 
--- the value of so many bits in a place of width bits, whose bits above are free
+-- the value of so many bits in a place of width bits, whose bits above are free; undefined where the place has fewer
 abbrev pub in_low_bits : (known width value : ℕ) → Given
-in_low_bits known width value = if known == width then one value else LowBits known width value
+in_low_bits known width value = if nat_lt known width then LowBits known width value else if known == width then one value else Undefined

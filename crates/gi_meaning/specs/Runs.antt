@@ -8,6 +8,7 @@ use Rattle.gi_mir.specs.declared.operand.Kind.{Kind}
 use Rattle.gi_mir.specs.declared.operand.Kind.TheVariants as kind
 use Rattle.gi_mir.specs.declared.operand.Operand.{Operand}
 use Rattle.gi_mir.specs.declared.operand.Operand.TheVariants as operand
+use Rattle.gi_meaning.specs.InRow.{checked_blocks}
 use Rattle.gi_meaning.specs.Argument.{Argument, Value, Implicit, Defined, Number, Bits, Symbol, Called, To, Test, Saved}
 use Rattle.gi_meaning.specs.State.{World, State, outside_of, start, Outcome, Returned, Going, Asking, Fails, Place, Virtual, Physical, word_in, put}
 use Rattle.gi_meaning.specs.Meaning.{Meaning, Calling, Nothing, meaning_of, is_joining}
@@ -214,9 +215,18 @@ Enters setting world blocks zero from b state outcome = outcome ≡ Going state.
 Enters setting world blocks (suc n) from b state outcome =
     RunsBlock setting world (slice_get blocks b) (Enters setting world blocks n) from b state outcome
 
--- In a world, entering at most n blocks, the function comes to this outcome.
+-- In a world, entering at most n of these blocks, the function comes to this outcome.
+abbrev pub RunsOn : (x : ℕ) → (names : List (List ℕ)) → FunctionData → List BlockData → World → (n : ℕ) → Outcome → Type 0
+RunsOn x names f blocks world n outcome = Enters (setting_of x names f) world blocks n None 0 (start world) outcome
+
+-- In a world, entering at most n blocks, the function comes to this outcome. A run that comes to an instruction that doesn't
+-- stand in its opcode's row is undefined.
 abbrev pub Runs : (x : ℕ) → (names : List (List ℕ)) → FunctionData → World → (n : ℕ) → Outcome → Type 0
-Runs x names f world n outcome = Enters (setting_of x names f) world f.blocks n None 0 (start world) outcome
+Runs x names f world n outcome = RunsOn x names f (checked_blocks x f) world n outcome
+
+-- the same where rows aren't looked at: while selection goes on, a copy joins registers of any two types
+abbrev pub RunsUnchecked : (x : ℕ) → (names : List (List ℕ)) → FunctionData → World → (n : ℕ) → Outcome → Type 0
+RunsUnchecked x names f world n outcome = RunsOn x names f f.blocks world n outcome
 
 -- ══ What a function allows ══
 

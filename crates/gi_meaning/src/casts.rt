@@ -31,11 +31,7 @@ pub fn zero_extension(flags: Flags, m: u16, n: u16, a: u128) -> Gives
     ensures { given_of result ≡ generic.zero_extension flags m n a }
 {
     if flags.nneg && is_negative(m, a) {
-        Gives::LowBits {
-            known: m,
-            width: n,
-            value: a,
-        }
+        any_extension(m, n, a)
     } else {
         Gives::One(a)
     }
@@ -45,14 +41,16 @@ pub fn zero_extension(flags: Flags, m: u16, n: u16, a: u128) -> Gives
 pub fn any_extension(m: u16, n: u16, a: u128) -> Gives
     ensures { given_of result ≡ in_low_bits m n a }
 {
-    if m == n {
-        Gives::One(a)
-    } else {
+    if m < n {
         Gives::LowBits {
             known: m,
             width: n,
             value: a,
         }
+    } else if m == n {
+        Gives::One(a)
+    } else {
+        Gives::Undefined
     }
 }
 

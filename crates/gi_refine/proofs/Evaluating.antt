@@ -19,7 +19,6 @@ use Rattle.gi_refine.specs.Outcomes.{ComesTo}
 use Rattle.gi_refine.specs.Refinement.{IsRefinement}
 use Rattle.gi_refine.proofs.Basics.{some_is}
 use Rattle.gi_refine.proofs.Doing.{ActsSo, Does, does_from, DoesAll, does_none, does_next, does_leave, does_end}
-use Rattle.gi_refine.proofs.Failing.{fails_from_may}
 
 -- the claim holds of this one, and of no other
 record Only (A : Type 0) (P : A → Type 0) (a : A) : Type 0 where
@@ -60,7 +59,7 @@ reads_whole x (Value width value ∷ arguments) h =
     let each : (not (nat_lt width x) ≡ true) × (are_whole x arguments ≡ true) = and_parts (not (nat_lt width x)) (are_whole x arguments) h in (
       Value width value,
       arguments,
-      subst (λ b. cond b ((word : ℕ) × (word < 2 ^ x) × (word % 2 ^ width ≡ value) × (Value width value ≡ Value x word)) (Value width value ≡ Value width value)) (sym (not-true (nat_lt width x) each.0)) refl,
+      subst (λ b. cond b ((word : ℕ) × (word < 2 ^ x) × (word % 2 ^ width ≡ value % 2 ^ width) × (Value width value ≡ Value x word)) (Value width value ≡ Value width value)) (sym (not-true (nat_lt width x) each.0)) refl,
       reads_whole x arguments each.1,
       refl,
     )
@@ -72,7 +71,7 @@ reads_only x [] words h reads = reads
 reads_only x (Value width value ∷ arguments) words h reads =
     let each : (not (nat_lt width x) ≡ true) × (are_whole x arguments ≡ true) = and_parts (not (nat_lt width x)) (are_whole x arguments) h in
     reads.4 ∙ ap₂ (λ k ks. k ∷ ks)
-    (subst (λ b. cond b ((word : ℕ) × (word < 2 ^ x) × (word % 2 ^ width ≡ value) × (reads.0 ≡ Value x word)) (reads.0 ≡ Value width value)) (not-true (nat_lt width x) each.0) reads.2)
+    (subst (λ b. cond b ((word : ℕ) × (word < 2 ^ x) × (word % 2 ^ width ≡ value % 2 ^ width) × (reads.0 ≡ Value x word)) (reads.0 ≡ Value width value)) (not-true (nat_lt width x) each.0) reads.2)
     (reads_only x arguments reads.1 each.1 reads.3)
 reads_only x (Number z ∷ arguments) words h reads = reads.4 ∙ ap₂ (λ k ks. k ∷ ks) reads.2 (reads_only x arguments reads.1 h reads.3)
 reads_only x (a ∷ arguments) words h reads = reads.4 ∙ ap₂ (λ k ks. k ∷ ks) reads.2 (reads_only x arguments reads.1 h reads.3)
@@ -255,5 +254,5 @@ refutes x names f g w is_world n o o' old new apart defined refines =
     let old_so : ComesTo x names f w n o = outcome_so x names f w n o old in
     ⊎_elim
     (λ ran. apart (old_so.only o' ran))
-    (λ may. defined (old_so.only Fails (fails_from_may x names f w n may)))
+    (λ fails. defined (old_so.only Fails fails))
     (refines.runs w is_world n o' ((outcome_so x names g w n o' new).can))

@@ -8,6 +8,7 @@ use Rattle.gi_mir.specs.declared.operand.Operand.{Operand}
 use Rattle.gi_mir.specs.declared.operand.Operand.TheVariants as operand
 use Rattle.gi_mir.specs.declared.operand.SymbolFlag.TheVariants.{Plain, Call, Hi, Lo}
 use Rattle.gi_meaning.specs.Argument.{Argument, Symbol, Called}
+use Rattle.gi_meaning.specs.InRow.{checked_blocks}
 use Rattle.gi_meaning.specs.State.{Event, World, State, Outside, outside_of, start, Outcome, Returned, Going, Asking, Fails, Place}
 use Rattle.gi_meaning.specs.Meaning.{Meaning, Copying, Calling, meaning_of}
 use Rattle.gi_meaning.specs.Act.{Answer, Results, Leaves, Returns, Asks, Breaks, Act, Calls, CallsGlobal, words_of, passed}
@@ -196,9 +197,9 @@ enters_more s w blocks (suc n) d =
 pub fails_from_may : (x : ℕ) (names : List (List ℕ)) (f : FunctionData) (w : World) (n : ℕ) → MayFail x names f w n → Runs x names f w n Fails
 fails_from_may x names f w n may =
     let s : Setting = setting_of x names f in
-    let here : Runs x names f w may.entries Fails = (enters_too s w may.events f.blocks may.entries).by None 0 (start w) may.fails in
+    let here : Runs x names f w may.entries Fails = (enters_too s w may.events (checked_blocks x f) may.entries).by None 0 (start w) may.fails in
     let e : may.entries + (n - may.entries) ≡ n = add-sub_of_le may.within in
-    subst (λ m. Runs x names f w m Fails) e ((enters_more s w f.blocks may.entries (n - may.entries)).by None 0 (start w) here)
+    subst (λ m. Runs x names f w m Fails) e ((enters_more s w (checked_blocks x f) may.entries (n - may.entries)).by None 0 (start w) here)
 
 pub may_from_fails : (x : ℕ) (names : List (List ℕ)) (f : FunctionData) (w : World) (n : ℕ) → Runs x names f w n Fails → MayFail x names f w n
 may_from_fails x names f w n fails = record {

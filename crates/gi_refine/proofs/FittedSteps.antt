@@ -43,9 +43,10 @@ wrapped_fits : (n v : ℕ) → wrapped n v < 2 ^ n
 wrapped_fits n v = mod_below v (2 ^ n) (pow_pos n)
 
 -- a value of m bits in a place of n, where they may be one
-in_place_fits : (m n v : ℕ) (b : Bool) → (m == n) ≡ b → v < 2 ^ m → GivenFits (n ∷ []) (cond b (one v) (LowBits m n v))
-in_place_fits m n v true same fits = one_fits n v (subst (λ k. v < 2 ^ k) (eqb-true m n same) fits)
-in_place_fits m n v false same fits = low_bits_fit m n v
+pub in_place_fits : (m n v : ℕ) (less same : Bool) → (m == n) ≡ same → v < 2 ^ m → GivenFits (n ∷ []) (cond less (LowBits m n v) (cond same (one v) Undefined))
+in_place_fits m n v true same is fits = low_bits_fit m n v
+in_place_fits m n v false true is fits = one_fits n v (subst (λ k. v < 2 ^ k) (eqb-true m n is) fits)
+in_place_fits m n v false false is fits = λ results h. absurd h
 
 copied_fits : (m n v : ℕ) (b c : Bool) → (m == n) ≡ c → v < 2 ^ m → GivenFits (n ∷ []) (cond b (LowBits m n v) (cond c (one v) (one (wrapped n v))))
 copied_fits m n v true c same fits = low_bits_fit m n v
@@ -156,7 +157,7 @@ pub opcode_fits : (flags : Flags) (o : Opcode) → always_fits o ≡ true → Me
 opcode_fits flags op.ImplicitDef h = nullary_fits _ (λ n. low_bits_fit 0 n 0)
 opcode_fits flags op.GenericImplicitDef h = nullary_fits _ (λ n. low_bits_fit 0 n 0)
 opcode_fits flags op.GenericTruncate h = unary_fits _ (λ m n a fits. one_fits n _ (wrapped_fits n a))
-opcode_fits flags op.GenericAnyExtend h = unary_fits _ (λ m n a fits. in_place_fits m n a (m == n) refl fits)
+opcode_fits flags op.GenericAnyExtend h = unary_fits _ (λ m n a fits. in_place_fits m n a (nat_lt m n) (m == n) refl fits)
 opcode_fits flags op.GenericSignExtend h = unary_fits _ (λ m n a fits. one_fits n _ (unsigned_below n _))
 opcode_fits flags op.GenericPointerAdd h = binary_fits _ (λ n a b. one_fits n _ (wrapped_fits n (a + b)))
 opcode_fits flags op.GenericPointerToInteger h = unary_fits _ (λ m n a fits. one_fits n _ (wrapped_fits n a))

@@ -14,6 +14,7 @@ pub mod OnePlaceFollows
 pub mod Reaching
 pub mod Refining
 pub mod RewritingFollows
+pub mod RowsHeld
 pub mod RuleSteps
 pub mod RulesUsed
 pub mod SameBlocks

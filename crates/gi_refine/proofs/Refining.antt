@@ -3,7 +3,6 @@ use Rattle.std.proofs.Common.{ℕ, List, inl, inr, ⊎_elim}
 use Rattle.gi_mir.specs.Data.{FunctionData}
 use Rattle.gi_meaning.specs.State.{Fails}
 use Rattle.gi_refine.specs.Refinement.{IsRefinement}
-use Rattle.gi_refine.proofs.Failing.{fails_from_may, may_from_fails}
 
 pub refines_itself : (x : ℕ) (names : List (List ℕ)) (f : FunctionData) → IsRefinement x names f f
 refines_itself x names f = record { runs = λ w is_world n o run. inl run }
@@ -12,7 +11,6 @@ pub refines_through : (x : ℕ) (names : List (List ℕ)) (f g h : FunctionData)
 refines_through x names f g h first second = record {
   runs = λ w is_world n o run. ⊎_elim
       (λ ran. first.runs w is_world n o ran)
-      (λ may. ⊎_elim (λ fails. inr (may_from_fails x names f w n fails)) (λ old. inr old)
-      (first.runs w is_world n Fails (fails_from_may x names g w n may)))
+      (λ fails. ⊎_elim (λ old. inr old) (λ old. inr old) (first.runs w is_world n Fails fails))
       (second.runs w is_world n o run);
 }

@@ -1,5 +1,6 @@
 -- Steps of a proof that a rule on values is sound.
-use Rattle.std.proofs.Common.{◌≡◌, ℕ, ◌^◌, ◌%◌, ◌<◌, ◌==◌, Bool, true, false, cond, List, [], ◌∷◌, ◌++◌, Option, Some, None, slice_get, refl, sym, ap, ◌∙◌, subst}
+use Rattle.std.proofs.Common.{◌≡◌, ℕ, ◌^◌, ◌%◌, ◌<◌, ◌≤◌, ◌==◌, nat_lt, Bool, true, false, cond, List, [], ◌∷◌, ◌++◌, Option, Some, None, slice_get, refl, sym, ap, ◌∙◌, subst, arith}
+use Rattle.std.proofs.lemmas.Bool.{eq-eqb, ltb-false, true≢false}
 use Rattle.std.proofs.Math.Nat.{mod-one}
 use Rattle.gi_meaning.specs.Argument.{Argument, Value}
 use Rattle.gi_meaning.specs.Given.{Given, Exactly, LowBits, Undefined, IsGiven, one, in_low_bits, unless_broken}
@@ -56,7 +57,7 @@ entry_value n a m b h = ap value_of h
 -- a register of a word's width is read as it is
 pub whole_word : (x a : ℕ) (word : Argument) → IsWordOf x x a word → word ≡ Value x a
 whole_word x a word h =
-    subst (λ b. cond b ((u : ℕ) × (u < 2 ^ x) × (u % 2 ^ x ≡ a) × (word ≡ Value x u)) (word ≡ Value x a)) (not_below_itself x) h
+    subst (λ b. cond b ((u : ℕ) × (u < 2 ^ x) × (u % 2 ^ x ≡ a % 2 ^ x) × (word ≡ Value x u)) (word ≡ Value x a)) (not_below_itself x) h
 
 -- the one list of words that a machine instruction gives
 pub words_exactly : (x : ℕ) (widths words : List ℕ) (outside : Outside) (answer : Answer) (env : Environment) (rest : Environment → Option Environment → Type 0) (made : Option Environment)
@@ -72,12 +73,28 @@ pub record OneOf (known value : ℕ) (outside : Outside) (answer : Answer) : Typ
   pub low : result % 2 ^ known ≡ value % 2 ^ known
   pub is : answer ≡ Results (result ∷ []) outside
 
-given_low_bits : (b : Bool) (known width value : ℕ) (outside : Outside) (answer : Answer) → Answers (cond b (one value) (LowBits known width value)) outside answer → OneOf known value outside answer
-given_low_bits true known width value outside answer h = record { result = value; low = refl; is = h.2 ∙ ap (λ rs. Results rs outside) h.1 }
-given_low_bits false known width value outside answer h = record { result = h.1.0; low = h.1.2; is = h.2 ∙ ap (λ rs. Results rs outside) h.1.3 }
+-- a value in a place of more bits, or in one of as many, or else what is undefined
+given_low_bits : (less same : Bool) (known width value : ℕ) (outside : Outside) (answer : Answer) → (less ≡ false → same ≡ false → answer ≡ Breaks → ⊥)
+    → Answers (cond less (LowBits known width value) (cond same (one value) Undefined)) outside answer → OneOf known value outside answer
+given_low_bits true same known width value outside answer defined h = record { result = h.1.0; low = h.1.2; is = h.2 ∙ ap (λ rs. Results rs outside) h.1.3 }
+given_low_bits false true known width value outside answer defined h = record { result = value; low = refl; is = h.2 ∙ ap (λ rs. Results rs outside) h.1 }
+given_low_bits false false known width value outside answer defined h = absurd (defined refl refl h)
 
-pub from_low_bits : (known width value : ℕ) (outside : Outside) (answer : Answer) → Answers (in_low_bits known width value) outside answer → OneOf known value outside answer
-from_low_bits known width value outside answer h = given_low_bits (known == width) known width value outside answer h
+-- a place has fewer bits where it has neither more nor as many
+not_within : (known width : ℕ) → known ≤ width → nat_lt known width ≡ false → (known == width) ≡ false → ⊥
+not_within known width within less same =
+    let least : width ≤ known = ltb-false known width less in
+    let equal : known ≡ width = omega (arith, within, least) in
+    true≢false (sym (eq-eqb known width equal) ∙ same)
+
+pub from_low_bits : (known width value : ℕ) (outside : Outside) (answer : Answer) → known ≤ width → Answers (in_low_bits known width value) outside answer → OneOf known value outside answer
+from_low_bits known width value outside answer within h =
+    given_low_bits (nat_lt known width) (known == width) known width value outside answer (λ less same breaks. not_within known width within less same) h
+
+-- the same of an answer that isn't undefined
+pub low_of_results : (known width value : ℕ) (outside : Outside) (results : List ℕ) → Answers (in_low_bits known width value) outside (Results results outside) → OneOf known value outside (Results results outside)
+low_of_results known width value outside results h =
+    given_low_bits (nat_lt known width) (known == width) known width value outside (Results results outside) (λ less same breaks. cc) h
 
 -- the rest of a run after one result
 pub after_one : (v n : ℕ) (outside : Outside) (answer : Answer) (env : Environment) (rest : Environment → Option Environment → Type 0) (made : Option Environment)

@@ -5,7 +5,6 @@ use Rattle.gi_meaning.specs.State.{World, IsWorld, State, start, Outcome, Going,
 use Rattle.gi_meaning.specs.Runs.{Setting, setting_of, Steps, Progress, On, Left, Over, After, Executes, phis_of, joined, is_among, Follows, RunsAfterPhis, RunsBlock, Enters}
 use Rattle.gi_refine.specs.Refinement.{IsRefinement}
 use Rattle.gi_refine.specs.Simulation.{Stands, IsFollowed, PhisStand, IsBlockFollowed, RunsFrom, RunsThrough, PlaceFollowed, AreFollowed}
-use Rattle.gi_refine.proofs.Failing.{may_from_fails}
 
 -- ══ Lists of instructions one after the other ══
 
@@ -157,9 +156,7 @@ pub refined_by_following : (x : ℕ) (names : List (List ℕ)) (old new : Functi
     → ((w : World) → IsWorld x w → AreFollowed (setting_of x names old) (setting_of x names new) w (entry w) (middle w) (after w) (exit w) old.blocks new.blocks)
     → IsRefinement x names old new
 refined_by_following x names old new entry middle after exit starts followed = record {
-  runs = λ w is_world n o run. ⊎_elim
-      (λ ran. inl ran)
-      (λ fails. inr (may_from_fails x names old w n fails))
-      ((enters_on (setting_of x names old) (setting_of x names new) w (entry w) (middle w) (after w) (exit w) old.blocks new.blocks (followed w is_world) n).by
-      None 0 (start w) (start w) o (starts w is_world) run);
+  runs = λ w is_world n o run.
+      (enters_on (setting_of x names old) (setting_of x names new) w (entry w) (middle w) (after w) (exit w) old.blocks new.blocks (followed w is_world) n).by
+      None 0 (start w) (start w) o (starts w is_world) run;
 }

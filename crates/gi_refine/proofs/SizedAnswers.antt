@@ -16,7 +16,7 @@ use Rattle.gi_meaning.specs.Machine.{is_immediate}
 use Rattle.gi_meaning.specs.Meaning.{Meaning, Copying, Generic, Machine, Loading, Storing, MachineLoading, MachineStoring, Jumping, Branching, MachineBranching, Calling, Returning, Nothing, Joining, Extension, Anything, Zeros, Signs, meaning_of}
 use Rattle.gi_meaning.specs.Memory.{Memory, above, with_byte, loaded, stored, with_byte_at, is_aligned}
 use Rattle.gi_meaning.specs.Routine.{has_routine, InTwoWords}
-use Rattle.gi_meaning.specs.Act.{Answer, Results, Leaves, Answers, AnswersWords, all_fitted, copied, copy, extended, from_loaded, load, machine_load, StoresThere, Stores, MachineStores, jump, machine_branch, LeavesFree, CallsGlobal, Calls, Act, AllReadAs, are_routine_registers, result_registers, passed, words_of}
+use Rattle.gi_meaning.specs.Act.{Answer, Results, Leaves, Answers, AnswersWords, all_fitted, copied, copy, extended, from_loaded, load, machine_load, StoresThere, Stores, MachineStores, jump, machine_branch, LeavesFree, CallsGlobal, Calls, Act, AllReadAs, has_operands, result_registers, result_word, result_words, passed, words_of}
 use Rattle.gi_refine.proofs.Basics.{value_holds}
 use Rattle.gi_refine.proofs.Targets.{or_breaks}
 use Rattle.gi_refine.specs.Worded.{is_implicit_definition, may_have_words}
@@ -101,11 +101,12 @@ loaded_small x (suc k) memory address bytes =
     (with_byte_small x (8 * k) (memory (wrapped x address)) (loaded x k memory (address + 1)) (bytes (wrapped x address)) (loaded_small x k memory (address + 1) bytes))
 
 extended_small : (x m value : ℕ) (extension : Extension) → value < 2 ^ x → GivesWords x (extended extension m x value)
-extended_small x m value Anything h = either (m == x)
+extended_small x m value Anything h = either (nat_lt m x) (m == x)
   where
-    either : (b : Bool) → GivesWords x (if b then one value else LowBits m x value)
-    either true = one_word x value h
-    either false = free_small x m x value (le_refl x)
+    either : (less same : Bool) → GivesWords x (if less then LowBits m x value else if same then one value else Undefined)
+    either true same = free_small x m x value (le_refl x)
+    either false true = one_word x value h
+    either false false = no_word x
 extended_small x m value Zeros h = one_word x value h
 extended_small x m value Signs h = one_word x (sign_extended m x value) (unsigned_below x _)
 
@@ -195,12 +196,28 @@ two_words_small x (Exactly (v ∷ u ∷ vs)) words h = h.0
 two_words_small x (LowBits known width value) words h = h.0
 two_words_small x Undefined words h = h.0
 
+-- so is what a call gives of them
+chosen_small : (x : ℕ) (b : Bool) (u v : ℕ) → u < 2 ^ x → v < 2 ^ x → cond b u v < 2 ^ x
+chosen_small x true u v first second = first
+chosen_small x false u v first second = second
+
+result_word_small : (x : ℕ) (words : List ℕ) (register : ℕ) → AreWords x words → result_word words register < 2 ^ x
+result_word_small x [] register h = pow_pos x
+result_word_small x (u ∷ []) register h = pow_pos x
+result_word_small x (u ∷ v ∷ []) register h = chosen_small x (register == 10) u v h.0 h.1.0
+result_word_small x (u ∷ v ∷ z ∷ words) register h = pow_pos x
+
+result_words_small : (x : ℕ) (words registers : List ℕ) → AreWords x words → AreWords x (result_words words registers)
+result_words_small x words [] h = tt
+result_words_small x words (r ∷ registers) h = (result_word_small x words r h, result_words_small x words registers h)
+
 calls_sized : (x : ℕ) (w : World) → IsWorld x w → (arguments : List Argument) (outside : Outside) (a : Answer) → AreBytes outside.memory → Calls x w arguments outside a → IsAnswerSized x a
 calls_sized x w is_world (Symbol Call callee address ∷ rest) outside a are_bytes h =
     calls_global_sized x w is_world callee (words_of (passed rest)) (length (result_registers rest)) outside a h
 calls_sized x w is_world (Called Call routine ∷ rest) outside a are_bytes h =
-    or_breaks (IsAnswerSized x) tt (are_routine_registers (passed rest) (result_registers rest) && has_routine x routine) _ a
-    (λ answered. leaves_free_sized x answered.0 outside a (two_words_small x _ answered.0 answered.1) are_bytes answered.2) h
+    or_breaks (IsAnswerSized x) tt (has_operands (passed rest) && has_routine x routine) _ a
+    (λ answered. leaves_free_sized x (result_words answered.0 (result_registers rest)) outside a
+    (result_words_small x answered.0 (result_registers rest) (two_words_small x _ answered.0 answered.1)) are_bytes answered.2) h
 calls_sized x w is_world (Symbol Plain callee address ∷ rest) outside a are_bytes h = subst (IsAnswerSized x) (sym h) tt
 calls_sized x w is_world (Symbol Hi callee address ∷ rest) outside a are_bytes h = subst (IsAnswerSized x) (sym h) tt
 calls_sized x w is_world (Symbol Lo callee address ∷ rest) outside a are_bytes h = subst (IsAnswerSized x) (sym h) tt
@@ -240,7 +257,7 @@ plain_or_free flags o os h = plain_by (meaning_of flags o) o os (λ is. ap (mean
 
 -- words are read as words
 word_read_small : (x width value : ℕ) (b : Bool) (word : Argument) (rest : List Argument) → value < 2 ^ x → AreSmall x rest
-    → cond b ((v : ℕ) × (v < 2 ^ x) × (v % 2 ^ width ≡ value) × (word ≡ Value x v)) (word ≡ Value width value) → AreSmall x (word ∷ rest)
+    → cond b ((v : ℕ) × (v < 2 ^ x) × (v % 2 ^ width ≡ value % 2 ^ width) × (word ≡ Value x v)) (word ≡ Value width value) → AreSmall x (word ∷ rest)
 word_read_small x width value true word rest small more h = subst (λ u. AreSmall x (u ∷ rest)) (sym h.3) (h.1, more)
 word_read_small x width value false word rest small more h = subst (λ u. AreSmall x (u ∷ rest)) (sym h) (small, more)
 

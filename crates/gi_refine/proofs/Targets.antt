@@ -13,7 +13,7 @@ use Rattle.gi_meaning.specs.State.{World, State, Outside, outside_of, Place}
 use Rattle.gi_meaning.specs.Machine.{is_immediate}
 use Rattle.gi_meaning.specs.Meaning.{Meaning, Copying, Generic, Machine, Loading, Storing, MachineLoading, MachineStoring, Jumping, Branching, MachineBranching, Calling, Returning, Nothing, Joining, meaning_of}
 use Rattle.gi_meaning.specs.Routine.{has_routine}
-use Rattle.gi_meaning.specs.Act.{Answer, Results, Leaves, Returns, Asks, Breaks, Answers, AnswersWords, ReadsAs, AllReadAs, copy, generic_load, machine_load, StoresThere, Stores, GenericStores, MachineStores, jump, branch, machine_branch, CallsGlobal, Calls, Act, are_routine_registers, result_registers, passed, words_of, alignment}
+use Rattle.gi_meaning.specs.Act.{Answer, Results, Leaves, Returns, Asks, Breaks, Answers, AnswersWords, ReadsAs, AllReadAs, copy, generic_load, machine_load, StoresThere, Stores, GenericStores, MachineStores, jump, branch, machine_branch, CallsGlobal, Calls, Act, has_operands, result_registers, passed, words_of, alignment}
 use Rattle.gi_meaning.specs.Runs.{Setting, argument_of, arguments_of, joined_lists, written_places, width_of_place, put_all, Progress, Left, going_on, progress_of, StepsFrom, Steps}
 use Rattle.gi_refine.specs.Rewriting.{is_target}
 
@@ -157,7 +157,7 @@ global_in P x w callee words results outside a = ⊎_elim (λ event. subst (Leav
 calls_in : (P : ℕ → Type 0) (x : ℕ) (w : World) (arguments : List Argument) (outside : Outside) (a : Answer) → Calls x w arguments outside a → LeavesIn P a
 calls_in P x w (Symbol Call callee address ∷ rest) outside a h = global_in P x w callee (words_of (passed rest)) (length (result_registers rest)) outside a h
 calls_in P x w (Called Call routine ∷ rest) outside a h =
-    or_breaks (LeavesIn P) tt (are_routine_registers (passed rest) (result_registers rest) && has_routine x routine) _ a
+    or_breaks (LeavesIn P) tt (has_operands (passed rest) && has_routine x routine) _ a
     (λ answered. subst (LeavesIn P) (sym answered.2.3) tt) h
 calls_in P x w (Symbol Plain callee address ∷ rest) outside a h = subst (LeavesIn P) (sym h) tt
 calls_in P x w (Symbol Hi callee address ∷ rest) outside a h = subst (LeavesIn P) (sym h) tt
@@ -169,7 +169,7 @@ calls_in P x w _ outside a h = subst (LeavesIn P) (sym h) tt
 
 -- a register's word is no block
 word_not_aimed : (c x width value : ℕ) (b : Bool) (word : Argument) (rest : List Argument)
-    → cond b ((v : ℕ) × (v < 2 ^ x) × (v % 2 ^ width ≡ value) × (word ≡ Value x v)) (word ≡ Value width value)
+    → cond b ((v : ℕ) × (v < 2 ^ x) × (v % 2 ^ width ≡ value % 2 ^ width) × (word ≡ Value x v)) (word ≡ Value width value)
     → is_aimed c (word ∷ rest) ≡ true → is_aimed c rest ≡ true
 word_not_aimed c x width value true word rest h aimed = subst (λ u. is_aimed c (u ∷ rest) ≡ true) h.3 aimed
 word_not_aimed c x width value false word rest h aimed = subst (λ u. is_aimed c (u ∷ rest) ≡ true) h aimed

@@ -131,10 +131,10 @@ read_worded x (Value m v) b h = by (as_word x m v h.0 h.1)
   where
     by : AsWord x m v h.0 → ReadsAs x (Value m v) b
     by (Whole e same) =
-        subst (λ c. cond c ((word : ℕ) × (word < 2 ^ x) × (word % 2 ^ m ≡ v) × (b ≡ Value x word)) (b ≡ Value m v)) (sym (subst (λ k. nat_lt k x ≡ false) (sym e) (not_below_itself x)))
+        subst (λ c. cond c ((word : ℕ) × (word < 2 ^ x) × (word % 2 ^ m ≡ v % 2 ^ m) × (b ≡ Value x word)) (b ≡ Value m v)) (sym (subst (λ k. nat_lt k x ≡ false) (sym e) (not_below_itself x)))
         (h.3 ∙ ap₂ Value (sym e) same)
     by (Low less small low) =
-        subst (λ c. cond c ((word : ℕ) × (word < 2 ^ x) × (word % 2 ^ m ≡ v) × (b ≡ Value x word)) (b ≡ Value m v)) (sym (lt-ltb m x less)) (h.0, h.2, low, h.3)
+        subst (λ c. cond c ((word : ℕ) × (word < 2 ^ x) × (word % 2 ^ m ≡ v % 2 ^ m) × (b ≡ Value x word)) (b ≡ Value m v)) (sym (lt-ltb m x less)) (h.0, h.2, sym (mod-mod h.0 (2 ^ m)) ∙ ap (λ k. k % 2 ^ m) low, h.3)
 read_worded x (Number z) b h = h
 read_worded x _ b h = h
 
@@ -146,7 +146,7 @@ all_read_worded x (a ∷ olds) (b ∷ news) h = (b, news, read_worded x a b h.0,
 
 -- the new one reads them as they are
 word_itself : (x u : ℕ) (word : Argument) → ReadsAs x (Value x u) word → word ≡ Value x u
-word_itself x u word reads = subst (λ c. cond c ((v : ℕ) × (v < 2 ^ x) × (v % 2 ^ x ≡ u) × (word ≡ Value x v)) (word ≡ Value x u)) (not_below_itself x) reads
+word_itself x u word reads = subst (λ c. cond c ((v : ℕ) × (v < 2 ^ x) × (v % 2 ^ x ≡ u % 2 ^ x) × (word ≡ Value x v)) (word ≡ Value x u)) (not_below_itself x) reads
 
 reads_itself : (x : ℕ) (a b word : Argument) → ArgumentWorded x a b → ReadsAs x b word → word ≡ b
 reads_itself x (Value m v) b word h reads = word_itself x h.0 word (subst (λ k. ReadsAs x k word) h.3 reads) ∙ sym h.3

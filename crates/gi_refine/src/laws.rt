@@ -1,10 +1,11 @@
 //! The laws of refinement: it composes, and whole runs follow where blocks do.
 
-ghost use Rattle.std.specs.Prelude.{◌≡◌, ◌↔◌, ◌⊎◌, ◌++◌, ◌∷◌, [], ℕ, Bool, List, Option, None};
+ghost use Rattle.std.specs.Prelude.{◌≡◌, ◌↔◌, ◌⊎◌, ◌++◌, ◌∷◌, [], ℕ, Bool, List, Option, None, true};
 ghost use Rattle.gi_mir.specs.Data.{BlockData, FunctionData, InstrData};
 ghost use Rattle.gi_meaning.specs.Meaning.{meaning_of};
-ghost use Rattle.gi_meaning.specs.Runs.{MayFail, Over, Progress, Runs, Setting, setting_of, written_places};
-ghost use Rattle.gi_meaning.specs.State.{World, IsWorld, Fails, Place, State, start};
+ghost use Rattle.gi_meaning.specs.InRow.{are_in_rows};
+ghost use Rattle.gi_meaning.specs.Runs.{Allows, MayFail, Over, Progress, Runs, Setting, setting_of, written_places};
+ghost use Rattle.gi_meaning.specs.State.{World, IsWorld, Fails, Outcome, Place, State, start};
 ghost use Rattle.gi_refine.specs.Agreement.{Agree, AgreeAt, AgreeEntering, AreAlike, AreSeen, all_shown, read_places, setting};
 ghost use Rattle.gi_refine.specs.Refinement.{IsRefinement};
 ghost use Rattle.gi_refine.specs.Simulation.{AreFollowed, IsBlockFollowed, IsFollowed, RunsThrough, Stands};
@@ -23,6 +24,13 @@ pub fn refinement_is_reflexive()
 /// What refines a refinement refines: also where the function between isn't valid.
 pub fn refinement_is_transitive()
     ensures { (x : ℕ) (names : List (List ℕ)) (f g h : FunctionData) → IsRefinement x names f g → IsRefinement x names g h → IsRefinement x names f h }
+{}
+
+/// Of two functions whose instructions all stand in their rows, each run of one that refines the other is one that the other
+/// allows: to look at rows changes nothing.
+pub fn refinement_in_rows_is_allowed()
+    ensures { (x : ℕ) (names : List (List ℕ)) (f g : FunctionData) → are_in_rows x f ≡ true → are_in_rows x g ≡ true → IsRefinement x names f g
+        → (world : World) → IsWorld x world → (n : ℕ) (outcome : Outcome) → Runs x names g world n outcome → Allows x names f world n outcome }
 {}
 
 /// Two pieces of a block that follow, follow one after the other. What is hidden may vary from point to point.

@@ -5,7 +5,7 @@ use Rattle.std.proofs.lemmas.Nat.{mul-mod, mod-pow-add}
 use Rattle.std.proofs.Math.Nat.{mod-mod}
 use Rattle.gi_mir.specs.Data.{InstrData}
 use mathlib.Core.Path.{fun_ext}
-use Rattle.gi_meaning.specs.Act.{Results, LeavesFree, clobbered}
+use Rattle.gi_meaning.specs.Act.{Results, LeavesFree, clobbered, result_words}
 use Rattle.gi_meaning.specs.Generic.{parts_of}
 use Rattle.gi_meaning.specs.Meaning.{meaning_of}
 use Rattle.gi_meaning.specs.State.{World, State, outside_of, Fails, Place, Virtual, Physical, word_in, put}
@@ -63,8 +63,8 @@ record Called (state : State) (p : Progress) : Type 0 where
 
 call_comes : (w : World) (state : State) (p : Progress) → Steps new_setting w routine_call.1 state p → Called state p
 call_comes w state p step =
-    let act : (words : List ℕ) × (words ≡ parts_of (32 ∷ 32 ∷ []) (product_of state)) × LeavesFree 32 words (outside_of state) step.0 = step.1 in
-    let free : LeavesFree 32 act.0 (outside_of state) step.0 = act.2 in
+    let act : (words : List ℕ) × (words ≡ parts_of (32 ∷ 32 ∷ []) (product_of state)) × LeavesFree 32 (result_words words (10 ∷ 11 ∷ [])) (outside_of state) step.0 = step.1 in
+    let free : LeavesFree 32 (result_words act.0 (10 ∷ 11 ∷ [])) (outside_of state) step.0 = act.2 in
     let results : List ℕ = product_of state % 2 ^ 32 ∷ product_of state / 2 ^ 32 % 2 ^ 32 ∷ [] in
     let front : (mid : State) × (put_all state (map Physical clobbered) free.0 ≡ Some mid)
     × (put_all state (map Physical clobbered ++ (Physical 10 ∷ Physical 11 ∷ [])) (free.0 ++ results) ≡ put_all mid (Physical 10 ∷ Physical 11 ∷ []) results) =
@@ -73,7 +73,7 @@ call_comes w state p step =
       others = free.0;
       mid = front.0;
       clobbers = front.1;
-      made = step.2 ∙ (ap (progress_of state (map Physical clobbered ++ (Physical 10 ∷ Physical 11 ∷ []))) (free.3 ∙ ap (λ ws. Results (free.0 ++ ws) (outside_of state)) act.1) ∙ ap going_on front.2);
+      made = step.2 ∙ (ap (progress_of state (map Physical clobbered ++ (Physical 10 ∷ Physical 11 ∷ []))) (free.3 ∙ ap (λ ws. Results (free.0 ++ result_words ws (10 ∷ 11 ∷ [])) (outside_of state)) act.1) ∙ ap going_on front.2);
     }
 
 -- ══ States whose operands are known ══

@@ -32,8 +32,8 @@ halves_world = world_of 2147483647 1 0 []
 record TwoWords (a b : ℕ) (words : List Argument) : Type 0 where
   p : ℕ
   q : ℕ
-  left : p % 2 ^ 32 ≡ a
-  right : q % 2 ^ 32 ≡ b
+  left : p % 2 ^ 32 ≡ a % 2 ^ 32
+  right : q % 2 ^ 32 ≡ b % 2 ^ 32
   same : words ≡ Value 64 p ∷ Value 64 q ∷ []
 
 two_words : (a b : ℕ) (words : List Argument) → AllReadAs 64 (Value 32 a ∷ Value 32 b ∷ []) words → TwoWords a b words

@@ -7,7 +7,7 @@ use Rattle.gi_mir.specs.declared.operand.Operand.TheVariants.{ImplicitUse}
 use Rattle.gi_mir.specs.Data.{InstrData}
 use Rattle.gi_meaning.specs.Routine.{InTwoWords}
 use Rattle.gi_meaning.specs.State.{World, outside_of, start, Outcome, Returned, Place, Physical, AreWords}
-use Rattle.gi_meaning.specs.Act.{Results, clobbered, routine_given, LeavesFree}
+use Rattle.gi_meaning.specs.Act.{Results, clobbered, routine_given, result_words, LeavesFree}
 use Rattle.gi_meaning.specs.Runs.{Setting, progress_of, Progress, Over, Steps, After, Executes}
 use Rattle.gi_refine.specs.Examples.{made, counting, names, world_of, one_block}
 use Rattle.gi_refine.specs.Outcomes.{ComesTo, ReturnsAny, has_low_bits}
@@ -55,7 +55,7 @@ places = map Physical clobbered ++ Physical 10 ∷ Physical 11 ∷ []
 
 -- where it came to, with these words left free and these results
 abbrev called : ℕ → (ℕ → ℕ) → List ℕ → Progress
-called d free words = progress_of (start (dividing d)) places (Results (listed 16 free ++ words) (outside_of (start (dividing d))))
+called d free words = progress_of (start (dividing d)) places (Results (listed 16 free ++ result_words words (10 ∷ 11 ∷ [])) (outside_of (start (dividing d))))
 
 record Called (d : ℕ) (next : Progress) : Type 0 where
   free : ℕ → ℕ
@@ -67,18 +67,18 @@ record Called (d : ℕ) (next : Progress) : Type 0 where
 called_can : (d : ℕ) (registers : List Operand) (free : ℕ → ℕ) (words : List ℕ) → ((i : ℕ) → free i < 2 ^ 32) → AreQuotient d words
     → Steps (set_of 32 (divides_by_routine registers)) (dividing d) routine_call.1 (start (dividing d)) (called d free words)
 called_can d registers free words small quotient =
-    (Results (listed 16 free ++ words) (outside_of (start (dividing d))), (words, quotient, (listed 16 free, are_small 16 free small, refl, refl)), refl)
+    (Results (listed 16 free ++ result_words words (10 ∷ 11 ∷ [])) (outside_of (start (dividing d))), (words, quotient, (listed 16 free, are_small 16 free small, refl, refl)), refl)
 
 called_only : (d : ℕ) (registers : List Operand) (next : Progress) → Steps (set_of 32 (divides_by_routine registers)) (dividing d) routine_call.1 (start (dividing d)) next → Called d next
 called_only d registers next step =
     let words : List ℕ = step.1.0 in
-    let left : LeavesFree 32 words (outside_of (start (dividing d))) step.0 = step.1.2 in
+    let left : LeavesFree 32 (result_words words (10 ∷ 11 ∷ [])) (outside_of (start (dividing d))) step.0 = step.1.2 in
     record {
       free = at left.0;
       small = λ i. small_at left.0 i left.1;
       words = words;
       quotient = step.1.1;
-      same = step.2 ∙ ap (progress_of (start (dividing d)) places) (left.3 ∙ ap (λ fs. Results (fs ++ words) (outside_of (start (dividing d)))) (taken_apart 16 left.0 left.2));
+      same = step.2 ∙ ap (progress_of (start (dividing d)) places) (left.3 ∙ ap (λ fs. Results (fs ++ result_words words (10 ∷ 11 ∷ [])) (outside_of (start (dividing d)))) (taken_apart 16 left.0 left.2));
     }
 
 -- ══ What is returned ══

@@ -1,5 +1,5 @@
 -- A load by bytes is sound.
-use Rattle.std.proofs.Common.{◌≡◌, ℕ, ◌+◌, ◌*◌, ◌%◌, ◌^◌, ◌<◌, ◌==◌, true, cond, List, [], ◌∷◌, ◌++◌, Option, Some, None, inl, inr, refl, sym, ap, ap₂, ◌∙◌, subst, arith, ◌/◌}
+use Rattle.std.proofs.Common.{lit≤, ◌≡◌, ℕ, ◌+◌, ◌*◌, ◌%◌, ◌^◌, ◌<◌, ◌==◌, true, cond, List, [], ◌∷◌, ◌++◌, Option, Some, None, inl, inr, refl, sym, ap, ap₂, ◌∙◌, subst, arith, ◌/◌}
 use Rattle.std.specs.Prelude.{bit_or, IfSome}
 use Rattle.std.proofs.Math.Nat.{mod-one, mod-mod}
 use Rattle.std.proofs.lemmas.Nat.{or_of_32, or_shifted}
@@ -114,7 +114,7 @@ both_bytes x w outside a low high made is_low is_high fits makes =
     let env_3 : Environment = (x, a) ∷ (32, l) ∷ (x, 1) ∷ (x, next) ∷ [] in
     let next_byte : memory (wrapped x next) ≡ Some high = ap memory (mod-mod (a + 1) (2 ^ x)) ∙ is_high in
     let second : OneOf 8 (high + 256 * 0) outside more_3.0 =
-    from_low_bits 8 32 (high + 256 * 0) outside more_3.0 (subst (λ g. Answers g outside more_3.0) (one_byte x 32 Anything memory next (Some high) next_byte) more_3.1) in
+    from_low_bits 8 32 (high + 256 * 0) outside more_3.0 (lit≤ tt) (subst (λ g. Answers g outside more_3.0) (one_byte x 32 Anything memory next (Some high) next_byte) more_3.1) in
     put_together x w outside a low high next second.result made is_low is_high fits second.low
     (after_one second.result 32 outside more_3.0 env_3 (Makes x w outside last_operations) made second.is more_3.2)
 

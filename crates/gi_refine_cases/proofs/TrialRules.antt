@@ -2,7 +2,7 @@
 use Rattle.gi_meaning.specs.Meaning.{Generic, meaning_of}
 use Rattle.gi_mir.specs.declared.opcode.Opcode.{Opcode}
 use Rattle.gi_meaning.specs.Argument.{Argument, Value}
-use Rattle.std.proofs.Common.{◌≡◌, ℕ, ◌+◌, ◌-◌, ◌%◌, ◌^◌, ◌<◌, Bool, true, false, cond, List, [], ◌∷◌, Some, inl, refl, sym, ap, ◌∙◌, subst, arith, ◌++◌, ◌&&◌, ◌||◌, ◌*◌, ◌/◌, Option, None}
+use Rattle.std.proofs.Common.{◌≡◌, ℕ, ◌+◌, ◌-◌, ◌%◌, ◌^◌, ◌<◌, ◌≤◌, Bool, true, false, cond, List, [], ◌∷◌, Some, inl, refl, sym, ap, ◌∙◌, subst, arith, ◌++◌, ◌&&◌, ◌||◌, ◌*◌, ◌/◌, Option, None}
 use Rattle.std.proofs.lemmas.Nat.{pow_pos, mod_below, pow_below}
 use Rattle.std.specs.Prelude.{nat_le, ◌*ℤ◌}
 use Rattle.gi_llt.specs.Bits.{wrapped, signed}
@@ -26,13 +26,14 @@ pub widen_add_sound : (x : ℕ) (w : World) (flags : Flags) (n y : ℕ) → IsSo
 widen_add_sound x w flags n y = record {
   by = λ outside a a_fits b b_fits facts made makes.
       let m : ℕ = y + n in
+      let within : n ≤ m = omega arith in
       let env : Environment = (n, a) ∷ (n, b) ∷ [] in
       let rest_1 : List Operation = on_one op.GenericAnyExtend m 1 ∷ on_two op.GenericAdd no_flags m 2 3 ∷ on_one op.GenericTruncate n 4 ∷ [] in
       let rest_2 : List Operation = on_two op.GenericAdd no_flags m 2 3 ∷ on_one op.GenericTruncate n 4 ∷ [] in
-      let left : OneOf n a outside makes.0 = from_low_bits n m a outside makes.0 makes.1 in
+      let left : OneOf n a outside makes.0 = from_low_bits n m a outside makes.0 within makes.1 in
       let f : ℕ = left.result in
       let more_1 : Makes x w outside rest_1 ((n, a) ∷ (n, b) ∷ (m, f) ∷ []) made = after_one f m outside makes.0 env (Makes x w outside rest_1) made left.is makes.2 in
-      let right : OneOf n b outside more_1.0 = from_low_bits n m b outside more_1.0 more_1.1 in
+      let right : OneOf n b outside more_1.0 = from_low_bits n m b outside more_1.0 within more_1.1 in
       let g : ℕ = right.result in
       let more_2 : Makes x w outside rest_2 ((n, a) ∷ (n, b) ∷ (m, f) ∷ (m, g) ∷ []) made =
       after_one g m outside more_1.0 ((n, a) ∷ (n, b) ∷ (m, f) ∷ []) (Makes x w outside rest_2) made right.is more_1.2 in

@@ -31,7 +31,7 @@ use Rattle.gi_refine.specs.RuleUse.{width_in}
 use Rattle.gi_refine.specs.Values.{Acts, ActsFrom, Defines, Environment, Holds, Operation, StandAt, arguments_at}
 use Rattle.gi_refine.proofs.ValuesStepped.{BothRead, both_read}
 use Rattle.gi_valid.specs.Facts.{AreHeld, HoldsDefinition, is_computing}
-use Rattle.gi_valid.specs.Typing.{results_in}
+use Rattle.gi_meaning.specs.InRow.{results_in}
 use Rattle.gi_lifting.specs.OnValues.{Names, Types, asked, number_in, position, results_of, sources_of, taken_for, width_at}
 use Rattle.gi_lifting.specs.Placed.{is_named, types_in}
 use Rattle.gi_lifting.proofs.Exchanged.{acts-turned}

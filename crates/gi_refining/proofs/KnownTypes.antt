@@ -37,7 +37,8 @@ use Rattle.gi_pattern.specs.declared.rule.Slot.TheVariants as slot
 use Rattle.gi_pattern.specs.declared.rule.Test.{Test}
 use Rattle.gi_pattern.specs.declared.rule.Test.TheVariants as test
 use Rattle.gi_refine.specs.RuleUse.{width_in}
-use Rattle.gi_valid.specs.Typing.{Typed, first_unmet, is_met, known, may_relate, meets, places_of_letter, places_with, results_in, sources_in, unmet}
+use Rattle.gi_meaning.specs.InRow.{results_in, sources_in}
+use Rattle.gi_valid.specs.Typing.{Typed, first_unmet, is_met, known, may_relate, meets, places_of_letter, places_with, unmet}
 use Rattle.gi_valid.specs.Valid.{IsValid}
 use Rattle.gi_valid.proofs.Suited.{suited}
 use Rattle.gi_lifting.specs.OnValues.{results_of, sources_of, width_at}

@@ -15,7 +15,7 @@ use Rattle.gi_meaning.specs.State.{IsWorld, State, Virtual, World, outside_of, p
 use Rattle.gi_refine.specs.Reached.{Arrives, GoesTo, IsReached, Passes}
 use Rattle.gi_valid.specs.Available.{Extent, at_end, at_once, behind, one_by_one}
 use Rattle.gi_valid.specs.Facts.{AreHeld, HoldsDefinition, is_computing}
-use Rattle.gi_valid.specs.Typing.{results_in}
+use Rattle.gi_meaning.specs.InRow.{results_in}
 use Rattle.gi_valid.proofs.Answering.{act_fine, branch_ends, is_leaving, leaving_is}
 use Rattle.gi_valid.proofs.Defining.{IsOrderly}
 use Rattle.gi_valid.proofs.Held.{computed_places, virtual_widths}

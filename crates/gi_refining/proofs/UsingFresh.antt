@@ -14,7 +14,7 @@ use Rattle.gi_pattern.specs.declared.binding.Binding.{Binding}
 use Rattle.gi_pattern.specs.declared.rule.MakeSlot.{MakeSlot}
 use Rattle.gi_pattern.specs.declared.rule.MakeSlot.TheVariants as make
 use Rattle.gi_lifting.specs.Placed.{constant_registers, defined_registers, registers_made}
-use Rattle.gi_valid.specs.Typing.{results_in}
+use Rattle.gi_meaning.specs.InRow.{results_in}
 use Rattle.gi_valid.proofs.Single.{often}
 use Rattle.gi_soundness.proofs.Made.{count, has_def}
 

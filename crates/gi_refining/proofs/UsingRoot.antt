@@ -33,7 +33,8 @@ use Rattle.gi_lifting.specs.OnValues.{inputs_of, results_of, width_at}
 use Rattle.gi_lifting.specs.Placed.{types_in}
 use Rattle.gi_lifting.specs.Uses.{IsAt, front_of, on_values, placing_of, registers_at, rule_with}
 use Rattle.gi_lifting.proofs.Fits.{root-fits}
-use Rattle.gi_valid.specs.Typing.{Phase, results_in}
+use Rattle.gi_meaning.specs.InRow.{results_in}
+use Rattle.gi_valid.specs.Typing.{Phase}
 use Rattle.gi_valid.specs.Valid.{IsValid}
 use Rattle.gi_valid.proofs.Single.{often, results_once}
 use Rattle.gi_soundness.specs.Applying.{rewriting_of}

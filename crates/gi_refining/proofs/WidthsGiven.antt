@@ -11,11 +11,11 @@ use Rattle.gi_mir.specs.declared.operand.Flags.{Flags}
 use Rattle.gi_mir.specs.declared.operand.Pred.{Pred}
 use Rattle.gi_mir.specs.declared.operand.Pred.TheVariants.{Sgt, Slt, Ugt, Ult}
 use Rattle.gi_meaning.specs.Argument.{Argument, Value, Test}
-use Rattle.gi_meaning.specs.Given.{Given, Exactly, LowBits, Undefined, IsGiven, one, free, unless_broken}
+use Rattle.gi_meaning.specs.Given.{Given, Exactly, LowBits, Undefined, IsGiven, one, free, unless_broken, in_low_bits}
 use Rattle.gi_meaning.specs.Generic.{better, binary, binary_with_bit, bit_of, byte_swap_of, comparison, difference_of, holds, leading_zeros, merge, merged, ones, reversed_bytes, ternary, ternary_with_bit, trailing_zeros, unary}
 use Rattle.gi_meaning.specs.Meaning.{Meaning, Generic, meaning_of}
 use Rattle.gi_meaning.proofs.Numbers.{unsigned_below}
-use Rattle.gi_refine.proofs.FittedSteps.{AreArgumentsFit, AreFit, MeaningFits, one_fits}
+use Rattle.gi_refine.proofs.FittedSteps.{AreArgumentsFit, AreFit, MeaningFits, in_place_fits, one_fits}
 use Rattle.gi_refining.specs.Widths.{fits_by_widths, have_bits, holds_all, none_wider, total}
 
 -- the widths of the values among arguments
@@ -176,7 +176,7 @@ pub widths_fit : (flags : Flags) (o : Opcode) (ns : List ℕ) (arguments : List 
 widths_fit flags op.GenericFreeze = unary_fits _ (λ m n a within fits. one_fits n a (raised m n a within fits))
 widths_fit flags op.GenericFrameIndex = unary_fits _ (λ m n a within fits. one_fits n a (raised m n a within fits))
 widths_fit flags op.GenericZeroExtend =
-    unary_fits _ (λ m n a within fits. either_fits (flags.nneg && _) (n ∷ []) (LowBits m n a) (one a) (low_bits_fit m n a) (one_fits n a (raised m n a within fits)))
+    unary_fits _ (λ m n a within fits. either_fits (flags.nneg && _) (n ∷ []) (in_low_bits m n a) (one a) (in_place_fits m n a (nat_lt m n) (m == n) refl fits) (one_fits n a (raised m n a within fits)))
 widths_fit flags op.GenericAnd = binary_fits _ (λ n a b first second. one_fits n (bit_and a b) (omega (arith, first, and_le_l a b)))
 widths_fit flags op.GenericOr = binary_fits _ (λ n a b first second. unless_fits _ n (bit_or a b) (or_lt n a b first second))
 widths_fit flags op.GenericXor = binary_fits _ (λ n a b first second. one_fits n (bit_xor a b) (xor_lt n a b first second))

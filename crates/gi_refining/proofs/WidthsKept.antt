@@ -1,5 +1,5 @@
 -- Values fit their registers wherever runs come, in a function that passes the test of widths.
-use Rattle.std.proofs.Common.{◌≡◌, ◌⊎◌, ℕ, ◌*◌, ◌/◌, ◌^◌, ◌<◌, ◌≤◌, ◌==◌, Bool, true, false, cond, not, ◌&&◌, ◌||◌, nat_le, List, [], ◌∷◌, ◌++◌, map, Option, Some, None, option_map, inl, inr, ⊎_elim, refl, sym, ap, ◌∙◌, subst, arith, lit<, leb-true, ltb-true, eqb-true, le-leb}
+use Rattle.std.proofs.Common.{◌≡◌, ◌⊎◌, ℕ, ◌*◌, ◌/◌, ◌^◌, ◌<◌, ◌≤◌, ◌==◌, Bool, true, false, cond, not, ◌&&◌, ◌||◌, nat_lt, nat_le, List, [], ◌∷◌, ◌++◌, map, Option, Some, None, option_map, inl, inr, ⊎_elim, refl, sym, ap, ◌∙◌, subst, arith, lit<, leb-true, ltb-true, eqb-true, le-leb}
 use Rattle.std.specs.Prelude.{IfSome}
 use Rattle.std.proofs.lemmas.Bool.{and_parts, and_from, or_cases, not-true}
 use Rattle.std.specs.List.{list_all}
@@ -17,7 +17,7 @@ use Rattle.gi_mir.specs.declared.operand.Operand.TheVariants as operand
 use Rattle.gi_meaning.specs.Act.{Act, Answer, Asks, Breaks, GenericStores, Leaves, MachineStores, Results, Returns, Stores, StoresThere, alignment, clobbered, extended, from_loaded, generic_load, is_result_register, load}
 use Rattle.gi_meaning.specs.Argument.{Argument, Bits, Number, Symbol, Value}
 use Rattle.gi_meaning.specs.Generic.{constant, symbol_address}
-use Rattle.gi_meaning.specs.Given.{Given, LowBits, Undefined, one}
+use Rattle.gi_meaning.specs.Given.{Given, Undefined, one}
 use Rattle.gi_meaning.specs.Machine.{is_immediate}
 use Rattle.gi_meaning.specs.Meaning.{Meaning, Copying, Generic, Loading, Storing, MachineLoading, MachineStoring, Machine, Jumping, Branching, MachineBranching, Calling, Returning, Nothing, Joining, Extension, Anything, Zeros, Signs, is_joining, meaning_of}
 use Rattle.gi_meaning.specs.Memory.{Memory, is_aligned, loaded}
@@ -28,7 +28,7 @@ use Rattle.gi_refine.specs.Fitting.{IsFit, always_fits, is_fitting_constant, phi
 use Rattle.gi_refine.specs.Invariant.{AllKeep, BlockKeeps, GoesOnWith}
 use Rattle.gi_refine.specs.Worded.{has_virtual, may_have_words}
 use Rattle.gi_refine.proofs.Basics.{value_holds, word_holds}
-use Rattle.gi_refine.proofs.FittedSteps.{AnswerFits, AreArgumentsFit, AreFit, AreThereFit, MeaningFits, act_fits, answers_fit, arguments_fit, has_no_words, one_fits, opcode_fits}
+use Rattle.gi_refine.proofs.FittedSteps.{AnswerFits, AreArgumentsFit, AreFit, AreThereFit, MeaningFits, act_fits, answers_fit, arguments_fit, has_no_words, in_place_fits, one_fits, opcode_fits}
 use Rattle.gi_refine.proofs.Invariants.{invariant_holds}
 use Rattle.gi_refine.proofs.SizedAnswers.{AtMost, IsAnswerSized, act_sized, loaded_small}
 use Rattle.gi_refine.proofs.SizedOperations.{AreSmall}
@@ -41,7 +41,7 @@ use Rattle.gi_soundness.proofs.Rule.{one_passes}
 use Rattle.gi_soundness.proofs.Typed.{in_list}
 use Rattle.gi_refining.specs.Known.{FitsAnywhere}
 use Rattle.gi_refining.specs.Widths.{has_words, is_fitting_address, is_fitting_load, is_fitting_result, fits_by_widths, keeps_values, values_keep, widths_read, widths_written}
-use Rattle.gi_refining.proofs.WidthsGiven.{FitsGiven, GivenFits, always_given, low_bits_fit, nothing_given, widths_fit, widths_given}
+use Rattle.gi_refining.proofs.WidthsGiven.{FitsGiven, GivenFits, always_given, nothing_given, widths_fit, widths_given}
 
 -- ══ Arguments ══
 
@@ -193,7 +193,7 @@ either_fits false ns g h first second = second
 
 extended_fits : (extension : Extension) (x : ℕ) (mem : MemOp) (n v : ℕ) → is_fitting_load x extension (Some mem) (n ∷ []) ≡ true → v < 2 ^ width_of x mem.ty → GivenFits (n ∷ []) (extended extension (width_of x mem.ty) n v)
 extended_fits Anything x mem n v passes small =
-    either_fits (width_of x mem.ty == n) (n ∷ []) (one v) (LowBits (width_of x mem.ty) n v) (λ same. one_fits n v (subst (λ k. v < 2 ^ k) (eqb-true (width_of x mem.ty) n same) small)) (low_bits_fit (width_of x mem.ty) n v)
+    in_place_fits (width_of x mem.ty) n v (nat_lt (width_of x mem.ty) n) (width_of x mem.ty == n) refl small
 extended_fits Zeros x mem n v passes small =
     let room : 2 ^ width_of x mem.ty ≤ 2 ^ n = pow-le-pow_right (lit< tt) (leb-true (width_of x mem.ty) n passes) in one_fits n v (omega (arith, room, small))
 extended_fits Signs x mem n v passes small = one_fits n _ (unsigned_below n _)

@@ -42,7 +42,8 @@ use Rattle.gi_meaning.specs.State.{Place, Virtual}
 use Rattle.gi_refine.specs.Fitting.{always_fits, is_fitting_constant, phi_fits, uses_have}
 use Rattle.gi_refine.specs.RuleUse.{width_in}
 use Rattle.gi_refine.specs.Worded.{has_virtual}
-use Rattle.gi_valid.specs.Typing.{Typed, holds_more, is_roomy, known, may_relate, meets, places_of_letter, results_in, roomless, sources_in, type_in, unmet}
+use Rattle.gi_meaning.specs.InRow.{holds_more, results_in, sources_in}
+use Rattle.gi_valid.specs.Typing.{Typed, is_roomy, known, may_relate, meets, places_of_letter, roomless, type_in, unmet}
 use Rattle.gi_valid.specs.Valid.{IsValid}
 use Rattle.gi_valid.proofs.Suited.{IsSuited, suited}
 use Rattle.gi_soundness.proofs.Rule.{one_passes}

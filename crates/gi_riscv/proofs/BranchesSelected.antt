@@ -18,7 +18,7 @@ use Rattle.gi_riscv.specs.SelectedBranches.{branch_of, HaveSameAnswers, IsSelect
 
 -- a register of a word's width may be read as its word
 as_itself : (x a : ℕ) → IsWordOf x x a (Value x a)
-as_itself x a = subst (λ b. cond b ((u : ℕ) × (u < 2 ^ x) × (u % 2 ^ x ≡ a) × (Value x a ≡ Value x u)) (Value x a ≡ Value x a)) (sym (not_below_itself x)) refl
+as_itself x a = subst (λ b. cond b ((u : ℕ) × (u < 2 ^ x) × (u % 2 ^ x ≡ a % 2 ^ x) × (Value x a ≡ Value x u)) (Value x a ≡ Value x a)) (sym (not_below_itself x)) refl
 
 abbrev leaves_where : Bool → (block : ℕ) → Outside → Answer
 leaves_where taken block outside = cond taken (Leaves block) (Results [] outside)

@@ -10,7 +10,7 @@ use Rattle.gi_mir.specs.declared.opcode.Opcode.{Opcode}
 use Rattle.gi_mir.specs.declared.opcode.Opcode.TheVariants as op
 use Rattle.gi_mir.specs.declared.operand.Flags.{Flags}
 use Rattle.gi_meaning.specs.Argument.{Value, Number}
-use Rattle.gi_meaning.specs.Given.{free, Given, LowBits, one, in_low_bits}
+use Rattle.gi_meaning.specs.Given.{free, Given, LowBits, Undefined, one, in_low_bits}
 use Rattle.gi_meaning.specs.Generic.{unary, zero_extension, extension_in_register}
 use Rattle.gi_meaning.specs.Machine.{add_immediate, by_amount, on_immediate, on_low_half, on_rv64, left_word, right_word, sum_word}
 use Rattle.gi_meaning.specs.Meaning.{Generic, meaning_of}
@@ -46,7 +46,7 @@ zero_extend_sound w flags = record {
       let is : made ≡ Some (env ++ (64, t) ∷ (64, r) ∷ []) =
       number_step 64 w outside (meaning_of no_flags op.ShiftRightLogicalImmediate) (by_amount (λ x. x) right_word) (λ u. right_word 64 u 32) t (pos 32) (env ++ (64, t) ∷ []) (Makes 64 w outside []) made more.0 refl (λ width word. refl) more.1 more.2 in
       may_make 64 w outside (32 ∷ []) [] op.GenericZeroExtend flags (At 0 ∷ []) (with_number op.ShiftLeftLogicalImmediate 64 0 (pos 32) ∷ second ∷ []) 1 2 64 r env (env ++ (64, t) ∷ (64, r) ∷ [])
-      (unary (zero_extension flags)) (Value 32 a ∷ []) made refl refl refl (may_extend _ a r a_fits (low_half_left step.left ∙ step.left_reads.1)) is;
+      (unary (zero_extension flags)) (Value 32 a ∷ []) made refl refl refl (may_extend _ a r a_fits (low_half_left step.left ∙ step.left_reads.1 ∙ mod-eq_of_lt a_fits)) is;
 }
 
 low_sum : (u : ℕ) → wrapped 32 (wrapped 32 u + wrapped 32 0) ≡ wrapped 32 u
@@ -64,7 +64,7 @@ sign_extend_sound w flags = record {
       on_word_and_number 64 w outside (on_rv64 (on_immediate (on_low_half sum_word))) (λ u. on_low_half sum_word 64 u 0) 32 a 64 (pos 0) env (Makes 64 w outside []) made makes.0 (λ width word. refl) makes.1 makes.2 in
       let r : ℕ = on_low_half sum_word 64 step.left 0 in
       may_make 64 w outside (32 ∷ []) [] op.GenericSignExtend flags (At 0 ∷ []) (with_number op.AddImmediateWord 64 0 (pos 0) ∷ []) 1 1 64 r env (env ++ (64, r) ∷ [])
-      (unary (λ m n a. one (sign_extended m n a))) (Value 32 a ∷ []) made refl refl refl (ap (λ v. v ∷ []) (extended_sum step.left ∙ ap (sign_extended 32 64) step.left_reads.1)) step.more;
+      (unary (λ m n a. one (sign_extended m n a))) (Value 32 a ∷ []) made refl refl refl (ap (λ v. v ∷ []) (extended_sum step.left ∙ ap (sign_extended 32 64) (step.left_reads.1 ∙ mod-eq_of_lt a_fits))) step.more;
 }
 
 pub sign_extend_in_register_sound : (w : World) (flags : Flags) → IsSound 64 w (sign_extend_in_register flags)
@@ -100,21 +100,17 @@ copied_low : (m n a : ℕ) → n ≤ m → a < 2 ^ m → one (wrapped n a) ≡ c
 copied_low m n a within fits =
     low_at (nat_lt m n) (m == n) (LowBits m n a) a (wrapped n a) (le-ltb m n within) (λ same. sym (mod-eq_of_lt (subst (λ k. a < 2 ^ k) (eqb-true m n same) fits)))
 
-any_at : (s t : Bool) (g h k : Given) → (t ≡ true → s ≡ false) → (t ≡ false → s ≡ true) → cond t g h ≡ cond s h (cond t g k)
-any_at true true g h k same other = absurd (true≢false (same refl))
-any_at true false g h k same other = refl
-any_at false true g h k same other = refl
-any_at false false g h k same other = absurd (false≢true (other refl))
+any_at : (s t : Bool) (g h k : Given) → (t ≡ false → s ≡ true) → cond s h (cond t g Undefined) ≡ cond s h (cond t g k)
+any_at true t g h k other = refl
+any_at false true g h k other = refl
+any_at false false g h k other = absurd (false≢true (other refl))
 
 not_equal_below : (m n : ℕ) → m ≤ n → (m == n) ≡ false → nat_lt m n ≡ true
 not_equal_below m n within other = grind (arith, nat_tests, within, other)
 
-equal_not_below : (m n : ℕ) → (m == n) ≡ true → nat_lt m n ≡ false
-equal_not_below m n same = grind (arith, nat_tests, same)
-
 -- a copy to more bits, or as many, leaves the bits above free
 copied_free : (m n a : ℕ) → m ≤ n → in_low_bits m n a ≡ copied m n a
-copied_free m n a within = any_at (nat_lt m n) (m == n) (one a) (LowBits m n a) (one (wrapped n a)) (equal_not_below m n) (not_equal_below m n within)
+copied_free m n a within = any_at (nat_lt m n) (m == n) (one a) (LowBits m n a) (one (wrapped n a)) (not_equal_below m n within)
 
 -- and to as many it is the value
 copied_whole : (n a : ℕ) → a < 2 ^ n → one a ≡ copied n n a

@@ -2,7 +2,7 @@
 use Rattle.std.proofs.Common.{◌≡◌, ℕ, ◌-◌, ◌%◌, ◌^◌, ◌<◌, ◌≤◌, ◌==◌, Bool, true, false, cond, not, nat_lt, List, [], ◌∷◌, ◌++◌, Option, Some, None, refl, sym, ap, ◌∙◌, subst, arith, pos, ◌-ℤ◌}
 use Rattle.std.specs.Prelude.{bit_and, bit_xor}
 use Rattle.std.specs.Int.Bits.{xor_self, xor_assoc, xor_zero_l, xor_zero_r, and_zero_r}
-use Rattle.std.proofs.lemmas.Nat.{pow_pos, and_mask, and_mod, xor_mod, xor_lt, xor_comm}
+use Rattle.std.proofs.lemmas.Nat.{pow_pos, and_le_l, and_mask, and_mod, xor_mod, xor_lt, xor_comm}
 use Rattle.std.proofs.Math.Nat.{mod-eq_of_lt}
 use Rattle.gi_llt.specs.Bits.{wrapped, unsigned}
 use Rattle.gi_mir.specs.Data.{no_flags}
@@ -21,7 +21,7 @@ use Rattle.gi_refine.specs.ValueRules.{on_two}
 use Rattle.gi_riscv.specs.SelectionRules.{with_zero, choose}
 use Rattle.gi_riscv.proofs.ComparisonsSelected.{is_above}
 use Rattle.gi_riscv.proofs.LowBits.{KeepsLow, low_is, low_reads, unsigned_low}
-use Rattle.gi_riscv.proofs.MachineSteps.{may_make, OnTwo, on_two_words, whole_read, IsReadAs}
+use Rattle.gi_riscv.proofs.MachineSteps.{may_make, OnTwo, on_two_words, read_as, whole_is, IsReadAs}
 use Rattle.gi_riscv.proofs.WordSteps.{word_step}
 
 -- ══ Bits ══
@@ -56,21 +56,21 @@ chosen_otherwise false false a b is = cc
 
 -- bit by bit on two registers of one width
 bit_step : (x : ℕ) (w : World) (outside : Outside) (meaning : Meaning) (f : ℕ → ℕ → ℕ) (n a b : ℕ) (env : Environment) (rest : Environment → Option Environment → Type 0) (made : Option Environment) (answer : Answer)
-    → meaning ≡ Machine (on_words (λ x a b. f a b)) → KeepsLow f → Act x w meaning None (n ∷ []) (Value n a ∷ Value n b ∷ []) outside answer → Then (answered env (n ∷ []) answer) rest made → rest (env ++ (n, f a b) ∷ []) made
-bit_step x w outside meaning f n a b env rest made answer means keeps act more =
+    → meaning ≡ Machine (on_words (λ x a b. f a b)) → KeepsLow f → a < 2 ^ n → b < 2 ^ n → Act x w meaning None (n ∷ []) (Value n a ∷ Value n b ∷ []) outside answer → Then (answered env (n ∷ []) answer) rest made → rest (env ++ (n, f a b) ∷ []) made
+bit_step x w outside meaning f n a b env rest made answer means keeps a_fits b_fits act more =
     let step : OnTwo x (λ x a b. f a b) n a n b n env rest made =
     on_two_words x w outside (λ x a b. f a b) n a n b n env rest made answer (subst (λ m. Act x w m None (n ∷ []) (Value n a ∷ Value n b ∷ []) outside answer) means act) more in
-    subst (λ r. rest (env ++ (n, r) ∷ []) made) (low_is x n a step.left b step.right f keeps step.left_reads step.right_reads) step.more
+    subst (λ r. rest (env ++ (n, r) ∷ []) made) (low_is x n a step.left b step.right f keeps (read_as x n a step.left a_fits step.left_reads) (read_as x n b step.right b_fits step.right_reads)) step.more
 
 -- a register, and the low bits of a word
 low_step : (x : ℕ) (w : World) (outside : Outside) (meaning : Meaning) (f : ℕ → ℕ → ℕ) (n a m : ℕ) (env : Environment) (rest : Environment → Option Environment → Type 0) (made : Option Environment) (answer : Answer)
-    → meaning ≡ Machine (on_words (λ x a b. f a b)) → KeepsLow f → n ≤ x → m < 2 ^ x → Act x w meaning None (n ∷ []) (Value n a ∷ Value x m ∷ []) outside answer → Then (answered env (n ∷ []) answer) rest made
+    → meaning ≡ Machine (on_words (λ x a b. f a b)) → KeepsLow f → a < 2 ^ n → n ≤ x → m < 2 ^ x → Act x w meaning None (n ∷ []) (Value n a ∷ Value x m ∷ []) outside answer → Then (answered env (n ∷ []) answer) rest made
     → rest (env ++ (n, f a (wrapped n m)) ∷ []) made
-low_step x w outside meaning f n a m env rest made answer means keeps within fits act more =
+low_step x w outside meaning f n a m env rest made answer means keeps a_fits within fits act more =
     let step : OnTwo x (λ x a b. f a b) n a x m n env rest made =
     on_two_words x w outside (λ x a b. f a b) n a x m n env rest made answer (subst (λ m'. Act x w m' None (n ∷ []) (Value n a ∷ Value x m ∷ []) outside answer) means act) more in
-    let word : IsReadAs x n (wrapped n m) step.right = subst (IsReadAs x n (wrapped n m)) (sym (whole_read x m step.right step.right_reads)) (low_reads x n m within fits) in
-    subst (λ r. rest (env ++ (n, r) ∷ []) made) (low_is x n a step.left (wrapped n m) step.right f keeps step.left_reads word) step.more
+    let word : IsReadAs x n (wrapped n m) step.right = subst (IsReadAs x n (wrapped n m)) (sym (whole_is x m step.right step.right_reads)) (low_reads x n m within fits) in
+    subst (λ r. rest (env ++ (n, r) ∷ []) made) (low_is x n a step.left (wrapped n m) step.right f keeps (read_as x n a step.left a_fits step.left_reads) word) step.more
 
 -- ══ The rule ══
 
@@ -99,13 +99,14 @@ choose_sound x w n flags within = record {
       let makes3 : Makes x w outside (third ∷ fourth ∷ fifth ∷ []) env3 made = masked x w outside c n a n b (third ∷ fourth ∷ fifth ∷ []) made makes in
       let p : ℕ = bit_xor a b in
       let makes4 : Makes x w outside (fourth ∷ fifth ∷ []) (env3 ++ (n, p) ∷ []) made =
-      bit_step x w outside (meaning_of no_flags op.Xor) bit_xor n a b env3 (Makes x w outside (fourth ∷ fifth ∷ [])) made makes3.0 refl xor_mod makes3.1 makes3.2 in
+      bit_step x w outside (meaning_of no_flags op.Xor) bit_xor n a b env3 (Makes x w outside (fourth ∷ fifth ∷ [])) made makes3.0 refl xor_mod a_fits b_fits makes3.1 makes3.2 in
+      let p_fits : p < 2 ^ n = xor_lt n a b a_fits b_fits in
       let y : ℕ = bit_and p (wrapped n m) in
       let makes5 : Makes x w outside (fifth ∷ []) (env3 ++ (n, p) ∷ (n, y) ∷ []) made =
-      low_step x w outside (meaning_of no_flags op.And) bit_and n p m (env3 ++ (n, p) ∷ []) (Makes x w outside (fifth ∷ [])) made makes4.0 refl and_mod within (unsigned_below x (pos 0 -ℤ pos (bit_of holds))) makes4.1 makes4.2 in
+      low_step x w outside (meaning_of no_flags op.And) bit_and n p m (env3 ++ (n, p) ∷ []) (Makes x w outside (fifth ∷ [])) made makes4.0 refl and_mod p_fits within (unsigned_below x (pos 0 -ℤ pos (bit_of holds))) makes4.1 makes4.2 in
       let r : ℕ = bit_xor b y in
       let is : made ≡ Some (env3 ++ (n, p) ∷ (n, y) ∷ (n, r) ∷ []) =
-      bit_step x w outside (meaning_of no_flags op.Xor) bit_xor n b y (env3 ++ (n, p) ∷ (n, y) ∷ []) (Makes x w outside []) made makes5.0 refl xor_mod makes5.1 makes5.2 in
+      bit_step x w outside (meaning_of no_flags op.Xor) bit_xor n b y (env3 ++ (n, p) ∷ (n, y) ∷ []) (Makes x w outside []) made makes5.0 refl xor_mod b_fits (omega (arith, and_le_l p (wrapped n m), p_fits)) makes5.1 makes5.2 in
       let right : r ≡ cond (c == 0) b a =
       ap (λ k. bit_xor b (bit_and p k)) (unsigned_low x n (pos 0 -ℤ pos (bit_of holds)) within) ∙ (chosen n a b holds a_fits b_fits ∙ chosen_otherwise (c == 0) holds a b (is_above c)) in
       may_make x w outside (x ∷ n ∷ n ∷ []) [] op.GenericSelect flags (At 0 ∷ At 1 ∷ At 2 ∷ [])

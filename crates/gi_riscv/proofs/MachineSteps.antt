@@ -1,5 +1,6 @@
 -- Steps of the proofs that instructions stand for a generic operation.
 use Rattle.std.proofs.Common.{◌≡◌, ℕ, ◌%◌, ◌^◌, ◌<◌, Bool, true, false, cond, List, [], ◌∷◌, ◌++◌, Option, Some, None, slice_get, refl, sym, ap₂, ◌∙◌, subst, inl, inr, nat_lt, ℤ}
+use Rattle.std.proofs.Math.Nat.{mod-eq_of_lt}
 use Rattle.gi_mir.specs.declared.opcode.Opcode.{Opcode}
 use Rattle.gi_mir.specs.declared.operand.Flags.{Flags}
 use Rattle.gi_meaning.specs.Argument.{Argument, Value, Number}
@@ -92,15 +93,26 @@ same_made x w outside inputs facts op flags slots new k n env given made act (Gi
 abbrev pub IsReadAs : (x n a u : ℕ) → Type 0
 IsReadAs x n a u = cond (nat_lt n x) ((u < 2 ^ x) × (u % 2 ^ n ≡ a)) (u ≡ a)
 
+-- the same where the register may hold a number that isn't of its bits: the word has the number's low bits
+abbrev pub HasLowBits : (x n a u : ℕ) → Type 0
+HasLowBits x n a u = cond (nat_lt n x) ((u < 2 ^ x) × (u % 2 ^ n ≡ a % 2 ^ n)) (u ≡ a)
+
+read_as_at : (t : Bool) (x n a u : ℕ) → a < 2 ^ n → cond t ((u < 2 ^ x) × (u % 2 ^ n ≡ a % 2 ^ n)) (u ≡ a) → cond t ((u < 2 ^ x) × (u % 2 ^ n ≡ a)) (u ≡ a)
+read_as_at true x n a u fits h = (h.0, h.1 ∙ mod-eq_of_lt fits)
+read_as_at false x n a u fits h = h
+
+pub read_as : (x n a u : ℕ) → a < 2 ^ n → HasLowBits x n a u → IsReadAs x n a u
+read_as x n a u fits h = read_as_at (nat_lt n x) x n a u fits h
+
 pub record Read (x n a : ℕ) (argument : Argument) : Type 0 where
   pub width : ℕ
   pub word : ℕ
   pub is : argument ≡ Value width word
-  pub reads : IsReadAs x n a word
+  pub reads : HasLowBits x n a word
 
 read_at : (x n a : ℕ) (argument : Argument) (b : Bool)
-    → cond b ((word : ℕ) × (word < 2 ^ x) × (word % 2 ^ n ≡ a) × (argument ≡ Value x word)) (argument ≡ Value n a)
-    → (width : ℕ) × (word : ℕ) × (argument ≡ Value width word) × cond b ((word < 2 ^ x) × (word % 2 ^ n ≡ a)) (word ≡ a)
+    → cond b ((word : ℕ) × (word < 2 ^ x) × (word % 2 ^ n ≡ a % 2 ^ n) × (argument ≡ Value x word)) (argument ≡ Value n a)
+    → (width : ℕ) × (word : ℕ) × (argument ≡ Value width word) × cond b ((word < 2 ^ x) × (word % 2 ^ n ≡ a % 2 ^ n)) (word ≡ a)
 read_at x n a argument true h = (x, h.0, h.3, (h.1, h.2))
 read_at x n a argument false h = (n, a, h, refl)
 
@@ -112,14 +124,17 @@ read x n a argument h =
 pub whole_read : (x a u : ℕ) → IsReadAs x x a u → u ≡ a
 whole_read x a u h = subst (λ b. cond b ((u < 2 ^ x) × (u % 2 ^ x ≡ a)) (u ≡ a)) (not_below_itself x) h
 
+pub whole_is : (x a u : ℕ) → HasLowBits x x a u → u ≡ a
+whole_is x a u h = subst (λ b. cond b ((u < 2 ^ x) × (u % 2 ^ x ≡ a % 2 ^ x)) (u ≡ a)) (not_below_itself x) h
+
 -- ══ One instruction ══
 
 -- what a machine instruction did with two registers
 pub record OnTwo (x : ℕ) (f : ℕ → ℕ → ℕ → ℕ) (l a m b n : ℕ) (env : Environment) (rest : Environment → Option Environment → Type 0) (made : Option Environment) : Type 0 where
   pub left : ℕ
   pub right : ℕ
-  pub left_reads : IsReadAs x l a left
-  pub right_reads : IsReadAs x m b right
+  pub left_reads : HasLowBits x l a left
+  pub right_reads : HasLowBits x m b right
   pub more : rest (env ++ (n, fitted x n (f x left right)) ∷ []) made
 
 pub on_two_words : (x : ℕ) (w : World) (outside : Outside) (f : ℕ → ℕ → ℕ → ℕ) (l a m b n : ℕ) (env : Environment) (rest : Environment → Option Environment → Type 0) (made : Option Environment) (answer : Answer)
@@ -141,7 +156,7 @@ on_two_words x w outside f l a m b n env rest made answer act more =
 -- with a register and a number
 pub record OnNumber (x : ℕ) (f : ℕ → ℕ) (l a n : ℕ) (env : Environment) (rest : Environment → Option Environment → Type 0) (made : Option Environment) : Type 0 where
   pub left : ℕ
-  pub left_reads : IsReadAs x l a left
+  pub left_reads : HasLowBits x l a left
   pub more : rest (env ++ (n, fitted x n (f left)) ∷ []) made
 
 pub on_word_and_number : (x : ℕ) (w : World) (outside : Outside) (gives : ℕ → List Argument → Given) (f : ℕ → ℕ) (l a n : ℕ) (i : ℤ) (env : Environment) (rest : Environment → Option Environment → Type 0) (made : Option Environment) (answer : Answer)

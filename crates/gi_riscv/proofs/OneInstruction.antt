@@ -18,7 +18,7 @@ use Rattle.gi_refine.proofs.Basics.{whole_fitted}
 use Rattle.gi_refine.proofs.RuleSteps.{constant_known, entry_value}
 use Rattle.gi_riscv.proofs.LowBits.{extended_low}
 use Rattle.gi_riscv.specs.SelectionRules.{on_registers, by_number, by_first_number, with_number}
-use Rattle.gi_riscv.proofs.MachineSteps.{MayGive, may_make, IsReadAs, whole_read, OnTwo, on_two_words, OnNumber, on_word_and_number}
+use Rattle.gi_riscv.proofs.MachineSteps.{MayGive, may_make, IsReadAs, read_as, whole_read, OnTwo, on_two_words, OnNumber, on_word_and_number}
 
 -- ══ One instruction for one operation ══
 
@@ -37,7 +37,7 @@ registers_sound x w old flags n new gives f means acted law = record {
       on_two_words x w outside f n a n b n env (Makes x w outside []) made makes.0 (acted makes.0 outside (Value n a ∷ Value n b ∷ []) makes.1) makes.2 in
       let r : ℕ = fitted x n (f x step.left step.right) in
       may_make x w outside (n ∷ n ∷ []) [] old flags (At 0 ∷ At 1 ∷ []) (on_two new no_flags n 0 1 ∷ []) 2 2 n r env ((n, a) ∷ (n, b) ∷ (n, r) ∷ [])
-      (binary gives) (Value n a ∷ Value n b ∷ []) made means refl refl (law a b step.left step.right a_fits b_fits step.left_reads step.right_reads) step.more;
+      (binary gives) (Value n a ∷ Value n b ∷ []) made means refl refl (law a b step.left step.right a_fits b_fits (read_as x n a step.left a_fits step.left_reads) (read_as x n b step.right b_fits step.right_reads)) step.more;
 }
 
 -- the same for a number that stands for a constant
@@ -57,7 +57,7 @@ number_sound x w old flags n value new i gives words f means means' is law = rec
       on_word_and_number x w outside words f n a n i env (Makes x w outside []) made makes.0 is act makes.2 in
       let r : ℕ = fitted x n (f step.left) in
       may_make x w outside (n ∷ n ∷ []) (Defines (constant n value) (1 ∷ []) ∷ []) old flags (At 0 ∷ At 1 ∷ []) (with_number new n 0 i ∷ []) 2 2 n r env ((n, a) ∷ (n, b) ∷ (n, r) ∷ []) (binary gives)
-      (Value n a ∷ Value n b ∷ []) made means refl refl (subst (λ c. MayGive (gives n a c) r) (sym b_is) (law a step.left a_fits step.left_reads)) step.more;
+      (Value n a ∷ Value n b ∷ []) made means refl refl (subst (λ c. MayGive (gives n a c) r) (sym b_is) (law a step.left a_fits (read_as x n a step.left a_fits step.left_reads))) step.more;
 }
 
 pub first_number_sound : (x : ℕ) (w : World) (old : Opcode) (flags : Flags) (n value : ℕ) (new : Opcode) (i : ℤ) (gives : ℕ → ℕ → ℕ → Given) (words : ℕ → List Argument → Given) (f : ℕ → ℕ)
@@ -73,7 +73,7 @@ first_number_sound x w old flags n value new i gives words f means means' is law
       on_word_and_number x w outside words f n b n i env (Makes x w outside []) made makes.0 is act makes.2 in
       let r : ℕ = fitted x n (f step.left) in
       may_make x w outside (n ∷ n ∷ []) (Defines (constant n value) (0 ∷ []) ∷ []) old flags (At 0 ∷ At 1 ∷ []) (with_number new n 1 i ∷ []) 2 2 n r env ((n, a) ∷ (n, b) ∷ (n, r) ∷ []) (binary gives)
-      (Value n a ∷ Value n b ∷ []) made means refl refl (subst (λ c. MayGive (gives n c b) r) (sym a_is) (law b step.left b_fits step.left_reads)) step.more;
+      (Value n a ∷ Value n b ∷ []) made means refl refl (subst (λ c. MayGive (gives n c b) r) (sym a_is) (law b step.left b_fits (read_as x n b step.left b_fits step.left_reads))) step.more;
 }
 
 -- ══ From numbers to words ══

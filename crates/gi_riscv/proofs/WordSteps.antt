@@ -9,7 +9,7 @@ use Rattle.gi_meaning.specs.State.{World, Outside}
 use Rattle.gi_meaning.specs.Act.{Answer, Act}
 use Rattle.gi_refine.specs.Values.{Environment, Then, answered}
 use Rattle.gi_refine.proofs.Basics.{whole_fitted}
-use Rattle.gi_riscv.proofs.MachineSteps.{OnTwo, on_two_words, OnNumber, on_word_and_number, whole_read}
+use Rattle.gi_riscv.proofs.MachineSteps.{OnTwo, on_two_words, OnNumber, on_word_and_number, whole_is}
 use Rattle.gi_riscv.proofs.OneInstruction.{if_true}
 
 -- on two words
@@ -19,7 +19,7 @@ word_step x w outside meaning f a b env rest made answer means act more =
     let step : OnTwo x f x a x b x env rest made =
     on_two_words x w outside f x a x b x env rest made answer (subst (λ m. Act x w m None (x ∷ []) (Value x a ∷ Value x b ∷ []) outside answer) means act) more in
     subst (λ r. rest (env ++ (x, r) ∷ []) made)
-    (whole_fitted x (f x step.left step.right) ∙ ap₂ (f x) (whole_read x a step.left step.left_reads) (whole_read x b step.right step.right_reads)) step.more
+    (whole_fitted x (f x step.left step.right) ∙ ap₂ (f x) (whole_is x a step.left step.left_reads) (whole_is x b step.right step.right_reads)) step.more
 
 -- on a word and a number
 pub number_step : (x : ℕ) (w : World) (outside : Outside) (meaning : Meaning) (gives : ℕ → List Argument → Given) (f : ℕ → ℕ) (a : ℕ) (i : ℤ) (env : Environment) (rest : Environment → Option Environment → Type 0) (made : Option Environment) (answer : Answer)
@@ -28,7 +28,7 @@ pub number_step : (x : ℕ) (w : World) (outside : Outside) (meaning : Meaning) 
 number_step x w outside meaning gives f a i env rest made answer means is act more =
     let step : OnNumber x f x a x env rest made =
     on_word_and_number x w outside gives f x a x i env rest made answer is (subst (λ m. Act x w m None (x ∷ []) (Value x a ∷ Number i ∷ []) outside answer) means act) more in
-    subst (λ r. rest (env ++ (x, r) ∷ []) made) (whole_fitted x (f step.left) ∙ ap f (whole_read x a step.left step.left_reads)) step.more
+    subst (λ r. rest (env ++ (x, r) ∷ []) made) (whole_fitted x (f step.left) ∙ ap f (whole_is x a step.left step.left_reads)) step.more
 
 pub immediate_step : (x : ℕ) (w : World) (outside : Outside) (meaning : Meaning) (f : ℕ → ℕ → ℕ → ℕ) (a : ℕ) (i : ℤ) (env : Environment) (rest : Environment → Option Environment → Type 0) (made : Option Environment) (answer : Answer)
     → meaning ≡ Machine (on_immediate f) → is_immediate i ≡ true

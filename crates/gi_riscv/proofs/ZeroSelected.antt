@@ -50,8 +50,8 @@ joined_covers x (Some p) (Some q) (Some r) None c d = absurd d
 joined_covers x (Some p) (Some q) (Some r) (Some s) c d =
     λ words h. let parts = split x p r words h in subst (AllReadAs x (q ++ s)) (sym parts.4) (join x q s parts.0 parts.1 (c parts.0 parts.2) (d parts.1 parts.3))
 
-zero_word_at : (t : Bool) (x n : ℕ) → nat_lt n x ≡ t → n ≤ x → cond t ((word : ℕ) × (word < 2 ^ x) × (word % 2 ^ n ≡ 0) × (Value x 0 ≡ Value x word)) (Value x 0 ≡ Value n 0)
-zero_word_at true x n is within = (0, pow_pos x, mod-eq_of_lt (pow_pos n), refl)
+zero_word_at : (t : Bool) (x n : ℕ) → nat_lt n x ≡ t → n ≤ x → cond t ((word : ℕ) × (word < 2 ^ x) × (word % 2 ^ n ≡ 0 % 2 ^ n) × (Value x 0 ≡ Value x word)) (Value x 0 ≡ Value n 0)
+zero_word_at true x n is within = (0, pow_pos x, refl, refl)
 zero_word_at false x n is within = let e : x ≡ n = omega (arith, ltb-false n x is, within) in ap (λ k. Value k 0) e
 
 -- a register that holds zero may be read as the word zero

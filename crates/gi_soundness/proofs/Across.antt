@@ -15,7 +15,8 @@ use Rattle.gi_pattern.specs.InPlace.{operand_renamed, entry_renamed}
 use Rattle.gi_valid.specs.Available.{is_physical_at_start, is_physical_there}
 use Rattle.gi_valid.specs.Definitions.{is_physical_def_of, is_physical_use_of, defines_physical, reads_physical}
 use Rattle.gi_valid.specs.Faults.{sites, told, is_division, is_product, is_wider, is_used_first, goes_across, physical_across}
-use Rattle.gi_valid.specs.Typing.{Phase, type_in, results_in}
+use Rattle.gi_meaning.specs.InRow.{results_in}
+use Rattle.gi_valid.specs.Typing.{Phase, type_in}
 use Rattle.gi_valid.specs.declared.invalid.Invalid.TheVariants.{PhysicalAcross}
 use Rattle.gi_valid.proofs.Sited.{site_of}
 use Rattle.gi_soundness.specs.Conditions.{is_plain_operand, is_plain, ArePlain, KeepsTypes, MakesNoCall}

@@ -9,7 +9,7 @@ use Rattle.gi_mir.specs.declared.operand.Operand.TheVariants as operand
 use Rattle.gi_pattern.specs.InPlace.{operand_renamed, entry_renamed}
 use Rattle.gi_valid.specs.Definitions.{is_physical_def_of, is_physical_use_of, defines_physical, reads_physical}
 use Rattle.gi_valid.specs.Faults.{blocks_in}
-use Rattle.gi_valid.specs.Typing.{results_in}
+use Rattle.gi_meaning.specs.InRow.{results_in}
 use Rattle.gi_soundness.specs.Rewriting.{Rewriting, standing_for, rewritten, block_rewritten, IsRewritten}
 
 all_rewritten : (w : Rewriting) (blocks : List BlockData) → all_instrs (map (block_rewritten w) blocks) ≡ rewritten w (all_instrs blocks)

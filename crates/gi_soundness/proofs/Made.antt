@@ -14,7 +14,8 @@ use Rattle.gi_pattern.specs.declared.binding.Binding.{Binding}
 use Rattle.gi_pattern.specs.declared.rule.MakeSlot.{MakeSlot}
 use Rattle.gi_pattern.specs.declared.rule.MakeSlot.TheVariants as make
 use Rattle.gi_valid.specs.Faults.{definitions, is_division, is_product, is_wider, may_call, times}
-use Rattle.gi_valid.specs.Typing.{Phase, results_in}
+use Rattle.gi_meaning.specs.InRow.{results_in}
+use Rattle.gi_valid.specs.Typing.{Phase}
 use Rattle.gi_valid.proofs.Single.{often}
 use Rattle.gi_soundness.specs.Conditions.{is_plain_operand, is_plain}
 use Rattle.gi_soundness.specs.Rules.{all_places_made, computes, is_in, is_pure_make, is_pure_operand, places_made}

@@ -29,7 +29,8 @@ use Rattle.gi_pattern.specs.declared.binding.Binding.{Binding}
 use Rattle.gi_pattern.specs.declared.rule.MakeSlot.{MakeSlot}
 use Rattle.gi_pattern.specs.declared.rule.MakeSlot.TheVariants as make
 use Rattle.gi_valid.specs.Definitions.{is_copy}
-use Rattle.gi_valid.specs.Typing.{Phase, Typed, Selecting, Untyped, has_room, is_constant_op, is_roomy, joins_any, mismatch, roomless, type_in, unless_roomy, unmet, value_in}
+use Rattle.gi_meaning.specs.InRow.{has_room}
+use Rattle.gi_valid.specs.Typing.{Phase, Typed, Selecting, Untyped, is_constant_op, is_roomy, joins_any, mismatch, roomless, type_in, unless_roomy, unmet, value_in}
 use Rattle.gi_valid.specs.Valid.{IsValid}
 use Rattle.gi_valid.proofs.Suited.{no_mismatch}
 use Rattle.gi_soundness.specs.Applying.{rewriting_of}

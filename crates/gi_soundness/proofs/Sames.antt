@@ -34,7 +34,8 @@ use Rattle.gi_pattern.specs.declared.rule.Slot.TheVariants.{Def, Use}
 use Rattle.gi_pattern.specs.declared.rule.TypeExpr.TheVariants.{Of}
 use Rattle.gi_pattern.proofs.Standing.{instr-live}
 use Rattle.gi_valid.specs.Definitions.{is_copy}
-use Rattle.gi_valid.specs.Typing.{Phase, Typed, Selecting, Untyped, joins_any, mismatch, type_in, unmet, first_unmet, is_as_wide, is_met, meets, known, places_of_letter, results_in, sources_in, may_relate}
+use Rattle.gi_meaning.specs.InRow.{results_in, sources_in}
+use Rattle.gi_valid.specs.Typing.{Phase, Typed, Selecting, Untyped, joins_any, mismatch, type_in, unmet, first_unmet, is_as_wide, is_met, meets, known, places_of_letter, may_relate}
 use Rattle.gi_valid.specs.Valid.{IsValid}
 use Rattle.gi_valid.proofs.Suited.{no_mismatch, suited}
 use Rattle.gi_soundness.specs.Applying.{rewriting_of}

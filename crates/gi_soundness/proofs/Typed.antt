@@ -19,7 +19,8 @@ use Rattle.gi_mir.specs.declared.operand.Operand.TheVariants as operand
 use Rattle.gi_pattern.specs.InPlace.{operand_renamed, entry_renamed}
 use Rattle.gi_valid.specs.Definitions.{is_copy, is_pure, definition, uses_purely, IsComputedOver, IsComputedFrom}
 use Rattle.gi_valid.specs.Faults.{sites, told, definitions, times, type_mismatch}
-use Rattle.gi_valid.specs.Typing.{Phase, Typed, Selecting, Untyped, type_in, meets, results_in, sources_in, is_met, first_unmet, joins_any, unmet, is_as_wide, unsized, value_in, is_roomy, unless_roomy, roomless, unsuited, mismatch}
+use Rattle.gi_meaning.specs.InRow.{results_in, sources_in}
+use Rattle.gi_valid.specs.Typing.{Phase, Typed, Selecting, Untyped, type_in, meets, is_met, first_unmet, joins_any, unmet, is_as_wide, unsized, value_in, is_roomy, unless_roomy, roomless, unsuited, mismatch}
 use Rattle.gi_valid.specs.declared.invalid.Invalid.TheVariants.{TypeMismatch}
 use Rattle.gi_valid.proofs.Single.{IsIn, one_definition}
 use Rattle.gi_valid.proofs.Sited.{site_of}

@@ -13,7 +13,7 @@ use Rattle.gi_meaning.specs.Memory.{loaded, is_aligned}
 use Rattle.gi_meaning.specs.Routine.{has_routine}
 use Rattle.gi_meaning.specs.State.{Event, World, IsWorld, Outside, AreBytes, AreEvents}
 use Rattle.gi_meaning.specs.Meaning.{Meaning, Copying, Generic, Machine, Loading, Storing, MachineLoading, MachineStoring, Jumping, Branching, MachineBranching, Calling, Returning, Nothing, Joining, meaning_of, is_joining}
-use Rattle.gi_meaning.specs.Act.{Answer, Results, Leaves, Breaks, Answers, AnswersWords, copy, generic_load, machine_load, StoresThere, Stores, GenericStores, MachineStores, jump, branch, machine_branch, CallsGlobal, Calls, Act, are_routine_registers, result_registers, passed, words_of, alignment}
+use Rattle.gi_meaning.specs.Act.{Answer, Results, Leaves, Breaks, Answers, AnswersWords, copy, generic_load, machine_load, StoresThere, Stores, GenericStores, MachineStores, jump, branch, machine_branch, CallsGlobal, Calls, Act, has_operands, result_registers, passed, words_of, alignment}
 use Rattle.gi_refine.proofs.SizedAnswers.{stored_bytes}
 use Rattle.gi_refine.proofs.Targets.{or_breaks}
 use Rattle.gi_valid.specs.Facts.{is_computing}
@@ -106,7 +106,7 @@ calls_fine : (x : ℕ) (w : World) → IsWorld x w → (arguments : List Argumen
 calls_fine x w is_world (Symbol Call callee address ∷ rest) outside a h =
     global_fine x w is_world callee (words_of (passed rest)) (length (result_registers rest)) outside a h
 calls_fine x w is_world (Called Call routine ∷ rest) outside a h =
-    or_breaks (IsFine Calling outside) tt (are_routine_registers (passed rest) (result_registers rest) && has_routine x routine) _ a
+    or_breaks (IsFine Calling outside) tt (has_operands (passed rest) && has_routine x routine) _ a
     (λ answered. subst (IsFine Calling outside) (sym answered.2.3) (λ bytes. bytes)) h
 calls_fine x w is_world (Symbol Plain callee address ∷ rest) outside a h = subst (IsFine Calling outside) (sym h) tt
 calls_fine x w is_world (Symbol Hi callee address ∷ rest) outside a h = subst (IsFine Calling outside) (sym h) tt

@@ -22,7 +22,7 @@ use Rattle.gi_meaning.specs.Runs.{Setting, places_of, written_places, width_of_p
 use Rattle.gi_refine.specs.Constants.{writes}
 use Rattle.gi_refine.proofs.SizedAnswers.{loaded_small}
 use Rattle.gi_valid.specs.Facts.{is_computing, AreHeld}
-use Rattle.gi_valid.specs.Typing.{results_in}
+use Rattle.gi_meaning.specs.InRow.{results_in}
 use Rattle.gi_valid.proofs.Single.{often}
 use Rattle.gi_valid.proofs.Stepping.{put_all_keeps, written_not}
 

@@ -20,7 +20,7 @@ use Rattle.gi_refine.proofs.Targets.{step_target}
 use Rattle.gi_valid.specs.Available.{Extent, is_origin, defines_origin, at_once, IsExtent, IsAvailable}
 use Rattle.gi_valid.specs.Definitions.{defines_any_physical, is_erasable, is_load, copies_physical, is_pure, definition, uses_purely}
 use Rattle.gi_valid.specs.Facts.{is_computing, is_fixed, is_steady, HoldsDefinition, HoldsBelow}
-use Rattle.gi_valid.specs.Typing.{results_in}
+use Rattle.gi_meaning.specs.InRow.{results_in}
 use Rattle.gi_valid.proofs.Answering.{is_leaving, act_fine, leaving_is, branch_ends, is_valued, computing_valued}
 use Rattle.gi_valid.proofs.Defining.{in_either, in_function, IsDefinition, definition_is, IsOrderly, no_phi_defines, no_end_defines}
 use Rattle.gi_valid.proofs.Held.{computed_places, virtual_widths, put_held, held_on, acts_anywhere, joined_keeps, put_all_memory, joined_memory, put_one, defined_written, IsBelow, zeros_below}

@@ -7,7 +7,7 @@ use Rattle.gi_mir.specs.Edit.{all_instrs, is_def_of, defines}
 use Rattle.gi_mir.specs.declared.operand.Operand.{Operand}
 use Rattle.gi_mir.specs.declared.operand.Operand.TheVariants as operand
 use Rattle.gi_valid.specs.Faults.{fault_at, definitions, times, seconds}
-use Rattle.gi_valid.specs.Typing.{results_in}
+use Rattle.gi_meaning.specs.InRow.{results_in}
 use Rattle.gi_valid.specs.declared.invalid.Invalid.TheVariants.{DoubleDefinition}
 
 -- an element of a list

@@ -11,7 +11,7 @@ use Rattle.gi_meaning.specs.Runs.{is_among}
 use Rattle.gi_valid.specs.Available.{successors_of, IsReachedBlock, at_end, IsExtent}
 use Rattle.gi_valid.specs.Definitions.{is_pure, definition, uses_purely, IsComputedOver, IsComputedFrom}
 use Rattle.gi_valid.specs.Examples.{extents_of}
-use Rattle.gi_valid.specs.Typing.{results_in, sources_in}
+use Rattle.gi_meaning.specs.InRow.{results_in, sources_in}
 use Rattle.gi_valid.specs.Valid.{IsGreatest}
 
 -- ══ What is computed from what ══

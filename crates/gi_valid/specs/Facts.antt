@@ -10,7 +10,7 @@ use Rattle.gi_meaning.specs.Meaning.{Meaning, Copying, Generic, Machine, meaning
 use Rattle.gi_meaning.specs.Runs.{Setting, arguments_of}
 use Rattle.gi_meaning.specs.State.{World, State, Outside}
 use Rattle.gi_valid.specs.Definitions.{is_pure}
-use Rattle.gi_valid.specs.Typing.{results_in}
+use Rattle.gi_meaning.specs.InRow.{results_in}
 
 -- ══ Which definitions ══
 

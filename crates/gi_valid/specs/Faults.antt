@@ -17,7 +17,8 @@ use Rattle.gi_valid.specs.declared.invalid.Invalid.{Invalid}
 use Rattle.gi_valid.specs.declared.invalid.Invalid.TheVariants.{DoubleDefinition, NotAvailable, TypeMismatch, UnknownBlock, PhiEntries, PhysicalAcross, Terminator}
 use Rattle.gi_valid.specs.Available.{successors_of, predecessors, Extent, behind, at_end, is_physical_there}
 use Rattle.gi_valid.specs.Definitions.{defines_physical, reads_physical}
-use Rattle.gi_valid.specs.Typing.{Phase, type_in, mismatch, results_in}
+use Rattle.gi_meaning.specs.InRow.{results_in}
+use Rattle.gi_valid.specs.Typing.{Phase, type_in, mismatch}
 
 -- a fault on a line
 abbrev pub fault_at : (line : ℕ) → Invalid → Fault

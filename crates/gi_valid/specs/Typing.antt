@@ -5,7 +5,6 @@ use Rattle.std.specs.List.{list_all, list_any}
 use Rattle.std.specs.Option.{option_or}
 use Rattle.gi_llt.specs.Llt.{width_of}
 use Rattle.gi_llt.specs.declared.Llt.{Llt}
-use Rattle.gi_llt.specs.declared.Llt.TheVariants.{Scalar, Pointer}
 use Rattle.gi_mir.specs.Accepted.{letters, is_letter, class_of, are_one, is_sum}
 use Rattle.gi_mir.specs.Data.{InstrData, FunctionData}
 use Rattle.gi_mir.specs.Registers.{kind_of, type_of_kind}
@@ -14,7 +13,6 @@ use Rattle.gi_mir.specs.Types.{scalar_bits}
 use Rattle.gi_mir.specs.Typings.{TypingData}
 use Rattle.gi_mir.specs.Formed.{is_use}
 use Rattle.gi_mir.specs.declared.entry.InMemory.{InMemory}
-use Rattle.gi_mir.specs.declared.entry.InMemory.TheVariants as memory
 use Rattle.gi_mir.specs.declared.opcode.Opcode.{Opcode}
 use Rattle.gi_mir.specs.declared.opcode.Opcode.TheVariants as op
 use Rattle.gi_mir.specs.declared.operand.MemOp.{MemOp}
@@ -26,6 +24,7 @@ use Rattle.gi_mir.specs.declared.typing.Letter.{Letter}
 use Rattle.gi_mir.specs.declared.typing.Letter.TheVariants as letter
 use Rattle.gi_mir.specs.declared.typing.Relation.{Relation}
 use Rattle.gi_mir.specs.declared.typing.Relation.TheVariants as relation
+use Rattle.gi_meaning.specs.InRow.{results_in, sources_in, has_room}
 use Rattle.gi_valid.specs.Definitions.{is_copy}
 
 -- ══ Phases ══
@@ -94,17 +93,6 @@ meets x typing results sources =
 
 -- ══ An instruction ══
 
--- the virtual registers that are defined, and those that are read
-abbrev pub results_in : List Operand → List ℕ
-results_in [] = []
-results_in (operand.Def r kind ∷ os) = r.0 ∷ results_in os
-results_in (_ ∷ os) = results_in os
-
-abbrev pub sources_in : List Operand → List ℕ
-sources_in [] = []
-sources_in (operand.Use r ∷ os) = r.0 ∷ sources_in os
-sources_in (_ ∷ os) = sources_in os
-
 -- with the types of these registers, and of so many later ones every type, the row can be met
 abbrev pub is_met : (x : ℕ) → (type_of : ℕ → Option Llt) → TypingData → (results : ℕ) → (registers : List ℕ) → (later : ℕ) → Bool
 is_met x type_of typing results registers later =
@@ -144,24 +132,6 @@ unsized x type_of (operand.Def r kind ∷ operand.Constant bits value ∷ []) = 
 unsized x type_of _ = None
 
 -- ══ A value in memory ══
-
--- `%d:A = G_LOAD %p(p0) :: (load (M))`, and so a store: M is at most A, and a pointer is loaded and stored as a pointer
-abbrev pub holds : (value in_memory : Llt) → Bool
-holds (Scalar n) (Scalar m) = nat_le m n
-holds Pointer Pointer = true
-holds _ _ = false
-
--- `%d:A = G_ZEXTLOAD %p(p0) :: (load (M))`: M is narrower than A
-abbrev pub holds_more : (value in_memory : Llt) → Bool
-holds_more (Scalar n) (Scalar m) = nat_lt m n
-holds_more _ _ = false
-
--- nothing is asked of an instruction of the machine
-abbrev pub has_room : InMemory → (value in_memory : Llt) → Bool
-has_room memory.Value value in_memory = holds value in_memory
-has_room memory.Extended value in_memory = holds_more value in_memory
-has_room memory.Nothing value in_memory = true
-has_room (memory.Bits bits) value in_memory = true
 
 -- a type has room, where it is known
 abbrev pub is_roomy : InMemory → (value : Option Llt) → (in_memory : Llt) → Bool

@@ -5,7 +5,7 @@ ghost use Rattle.gi_mir.specs.Data.{reg_of};
 ghost use Rattle.gi_valid.specs.declared.invalid.Invalid.TheVariants as Invalid;
 ghost use Rattle.gi_mir.specs.Edit.{all_instrs};
 ghost use Rattle.gi_valid.specs.Faults as faults;
-ghost use Rattle.gi_valid.specs.Typing.{results_in};
+ghost use Rattle.gi_meaning.specs.InRow.{results_in};
 ghost use Rattle.gi_verify.specs.Counted.{AreCounted, counted, is_once, once_more};
 
 use gi_llt::Memory;

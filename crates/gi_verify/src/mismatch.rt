@@ -7,6 +7,7 @@ ghost use Rattle.gi_mir.specs.Data.{reg_of};
 ghost use Rattle.gi_valid.specs.declared.invalid.Invalid.TheVariants as Invalid;
 ghost use Rattle.std.specs.Option.{option_map_or};
 ghost use Rattle.gi_valid.specs.Faults as faults;
+ghost use Rattle.gi_meaning.specs.InRow as in_row;
 ghost use Rattle.gi_valid.specs.Typing as typings;
 
 use crate::registers::{count_results, first_unmet, registers_of, results_in, type_in, types_of};
@@ -218,7 +219,7 @@ fn is_wide_product(
     instr: &Instr,
 ) -> Result<bool, Memory>
     requires { (target.xlen ≡ 32) ⊎ (target.xlen ≡ 64) }
-    ensures { IfOk result (λ t. t ≡ (faults.is_product (instr.now).op && faults.is_wider target.xlen (typings.phase_of stage) function.now (typings.results_in (instr.now).operands))) }
+    ensures { IfOk result (λ t. t ≡ (faults.is_product (instr.now).op && faults.is_wider target.xlen (typings.phase_of stage) function.now (in_row.results_in (instr.now).operands))) }
 {
     if is_product(instr.op) {
         let registers = results_in(alloc, instr.operands.as_slice())?;

@@ -3,6 +3,7 @@
 ghost use Rattle.std.specs.Prelude.{◌≡◌, ◌++◌, ◌∷◌, [], ◌≤◌, ◌-◌, ℕ, Some, None, Option, OnOk, IfOk, length, map, take, drop, replicate};
 ghost use Rattle.gi_llt.specs.declared.Llt.{Llt};
 ghost use Rattle.gi_mir.specs.Registers.{type_of_kind};
+ghost use Rattle.gi_meaning.specs.InRow as in_row;
 ghost use Rattle.gi_valid.specs.Typing as typings;
 
 use crate::typing::{meets, push};
@@ -46,7 +47,7 @@ fn push_register(registers: &mut Vec<u32>, r: u32) -> Result<(), Memory>
 
 /// Puts the register that an operand defines at the end of a list.
 fn push_result(registers: &mut Vec<u32>, operand: Operand) -> Result<(), Memory>
-    ensures { OnOk result (registers.new.items ≡ registers.old.items ++ typings.results_in (operand ∷ [])) }
+    ensures { OnOk result (registers.new.items ≡ registers.old.items ++ in_row.results_in (operand ∷ [])) }
 {
     match operand {
         Operand::Def(r, _) => push_register(registers, r.0),
@@ -56,7 +57,7 @@ fn push_result(registers: &mut Vec<u32>, operand: Operand) -> Result<(), Memory>
 
 /// Puts the register that an operand reads at the end of a list.
 fn push_source(registers: &mut Vec<u32>, operand: Operand) -> Result<(), Memory>
-    ensures { OnOk result (registers.new.items ≡ registers.old.items ++ typings.sources_in (operand ∷ [])) }
+    ensures { OnOk result (registers.new.items ≡ registers.old.items ++ in_row.sources_in (operand ∷ [])) }
 {
     match operand {
         Operand::Use(r) => push_register(registers, r.0),
@@ -66,7 +67,7 @@ fn push_source(registers: &mut Vec<u32>, operand: Operand) -> Result<(), Memory>
 
 /// The virtual registers that are defined.
 pub(crate) fn results_in(alloc: Global, operands: &[Operand]) -> Result<Vec<u32>, Memory>
-    ensures { IfOk result (λ registers. registers.items ≡ typings.results_in operands.now) }
+    ensures { IfOk result (λ registers. registers.items ≡ in_row.results_in operands.now) }
 {
     let mut registers = Vec::new(alloc);
     for operand in operands {
@@ -77,7 +78,7 @@ pub(crate) fn results_in(alloc: Global, operands: &[Operand]) -> Result<Vec<u32>
 
 /// Puts the virtual registers that are read at the end of a list.
 fn push_sources(registers: &mut Vec<u32>, operands: &[Operand]) -> Result<(), Memory>
-    ensures { OnOk result (registers.new.items ≡ registers.old.items ++ typings.sources_in operands.now) }
+    ensures { OnOk result (registers.new.items ≡ registers.old.items ++ in_row.sources_in operands.now) }
 {
     for operand in operands {
         push_source(registers, *operand)?;
@@ -145,7 +146,7 @@ fn is_met(
 
 /// The registers of an instruction, those that it defines first.
 pub(crate) fn registers_of(alloc: Global, operands: &[Operand]) -> Result<Vec<u32>, Memory>
-    ensures { IfOk result (λ registers. registers.items ≡ typings.results_in operands.now ++ typings.sources_in operands.now) }
+    ensures { IfOk result (λ registers. registers.items ≡ in_row.results_in operands.now ++ in_row.sources_in operands.now) }
 {
     let mut registers = results_in(alloc, operands)?;
     push_sources(&mut registers, operands)?;
@@ -154,7 +155,7 @@ pub(crate) fn registers_of(alloc: Global, operands: &[Operand]) -> Result<Vec<u3
 
 /// How many registers are defined.
 pub(crate) fn count_results(operands: &[Operand]) -> usize
-    ensures count { result ≡ length (typings.results_in operands.now) }
+    ensures count { result ≡ length (in_row.results_in operands.now) }
     ensures within { result ≤ length operands.now }
 {
     let mut count = 0;

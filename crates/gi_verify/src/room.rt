@@ -2,6 +2,7 @@
 
 ghost use Rattle.std.specs.Prelude.{◌≡◌, Some};
 ghost use Rattle.gi_mir.specs.Row.{memory_of};
+ghost use Rattle.gi_meaning.specs.InRow as in_row;
 ghost use Rattle.gi_valid.specs.Typing as typings;
 
 use crate::registers::type_in;
@@ -14,7 +15,7 @@ use gi_mir::stage::Stage;
 
 /// Whether a value may be in memory as the other type: at most as wide, and a pointer as a pointer.
 fn holds(value: Llt, in_memory: Llt) -> bool
-    ensures { result ≡ typings.holds value in_memory }
+    ensures { result ≡ in_row.holds value in_memory }
 {
     match (value, in_memory) {
         (Llt::Scalar(value), Llt::Scalar(in_memory)) => in_memory <= value,
@@ -25,7 +26,7 @@ fn holds(value: Llt, in_memory: Llt) -> bool
 
 /// Whether a number is wider than the other type.
 fn holds_more(value: Llt, in_memory: Llt) -> bool
-    ensures { result ≡ typings.holds_more value in_memory }
+    ensures { result ≡ in_row.holds_more value in_memory }
 {
     match (value, in_memory) {
         (Llt::Scalar(value), Llt::Scalar(in_memory)) => in_memory < value,
@@ -35,7 +36,7 @@ fn holds_more(value: Llt, in_memory: Llt) -> bool
 
 /// Whether a type has room for the other one, by an opcode's row.
 fn has_room(memory: InMemory, value: Llt, in_memory: Llt) -> bool
-    ensures { result ≡ typings.has_room memory value in_memory }
+    ensures { result ≡ in_row.has_room memory value in_memory }
 {
     match memory {
         InMemory::Value => holds(value, in_memory),

@@ -1,5 +1,5 @@
 use Rattle.std.proofs.Common.{◌≡◌, ◌++◌, drop}
-use Rattle.gi_valid.specs.Typing.{sources_in}
+use Rattle.gi_meaning.specs.InRow.{sources_in}
 use Rattle.gi_verify.proofs.registers.push_sources.Given as goal
 
 abbrev pub invariant-loop-operand : goal.invariant-loop-operand

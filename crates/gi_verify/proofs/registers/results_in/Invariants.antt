@@ -1,5 +1,5 @@
 use Rattle.std.proofs.Common.{◌≡◌, ◌++◌, drop}
-use Rattle.gi_valid.specs.Typing.{results_in}
+use Rattle.gi_meaning.specs.InRow.{results_in}
 use Rattle.gi_verify.proofs.registers.results_in.Given as goal
 
 abbrev pub invariant-loop-operand : goal.invariant-loop-operand
