@@ -4,6 +4,7 @@ pub mod Few
 pub mod Folding
 pub mod Immediates
 pub mod Merging
+pub mod NeverStuck
 pub mod Numbers
 pub mod Order
 pub mod Quotients
