@@ -4,6 +4,7 @@ pub mod Existing
 pub mod Greatest
 pub mod Held
 pub mod Holding
+pub mod Pure
 pub mod Settling
 pub mod Single
 pub mod Sited

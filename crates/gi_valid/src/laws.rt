@@ -6,23 +6,24 @@ ghost use Rattle.gi_mir.specs.Data.{BlockData, FunctionData, InstrData};
 ghost use Rattle.gi_mir.specs.Edit.{uses};
 ghost use Rattle.gi_mir.specs.declared.opcode.Opcode.TheVariants.{GenericZeroExtendLoad};
 ghost use Rattle.gi_mir.specs.declared.operand.MemOp.{MemOp};
+ghost use Rattle.gi_meaning.specs.InRow.{are_in_rows};
 ghost use Rattle.gi_meaning.specs.Runs.{after_phis, phis_of, setting_of};
 ghost use Rattle.gi_meaning.specs.State.{IsWorld, State, World};
 ghost use Rattle.gi_refine.specs.Reached.{IsReached};
 ghost use Rattle.gi_valid.specs.Available.{IsAvailable};
-ghost use Rattle.gi_valid.specs.Definitions.{definition};
-ghost use Rattle.gi_valid.specs.Facts.{HoldsBelow, HoldsDefinition, is_steady};
+ghost use Rattle.gi_valid.specs.Definitions.{definition, is_pure};
+ghost use Rattle.gi_valid.specs.Facts.{HoldsBelow, HoldsDefinition};
 ghost use Rattle.gi_valid.specs.declared.invalid.Fault.{Fault};
 ghost use Rattle.gi_valid.specs.Typing.{Phase};
 ghost use Rattle.gi_valid.specs.Valid.{IsInvalid, IsValid};
 
-/// In every run of a valid function, at every moment: an available register with a pure definition holds what that
-/// definition may give of the present values of its operands, and one that a zero-extending load of so many bits
-/// defines holds a value of so many bits. The moment is behind the phis of a block and some of its other instructions.
+/// In every run of a valid function whose instructions stand in their rows, at every moment: each available register with a
+/// pure definition holds what that definition may give of the present values of its operands, and one that a zero-extending
+/// load of so many bits defines holds a value of so many bits. The moment is behind the phis of a block and some of its other instructions.
 pub fn definitions_hold()
-    ensures computed { (x : ℕ) (phase : Phase) (names : List (List ℕ)) (f : FunctionData) (w : World) → IsWorld x w → IsValid x phase f
+    ensures computed { (x : ℕ) (phase : Phase) (names : List (List ℕ)) (f : FunctionData) (w : World) → IsWorld x w → IsValid x phase f → are_in_rows x f ≡ true
         → (b : ℕ) (block : BlockData) (before back : List (ℕ × InstrData)) → slice_get f.blocks b ≡ Some block → after_phis block.instrs ≡ before ++ back
-        → (r : ℕ) (d : ℕ × InstrData) → IsAvailable f b (phis_of block.instrs ++ before) r → definition f r ≡ Some d → is_steady d.1 ≡ true
+        → (r : ℕ) (d : ℕ × InstrData) → IsAvailable f b (phis_of block.instrs ++ before) r → definition f r ≡ Some d → is_pure d.1 ≡ true
         → (state : State) → IsReached (setting_of x names f) w f.blocks b before state → HoldsDefinition (setting_of x names f) w d.1 state }
     ensures extended { (x : ℕ) (phase : Phase) (names : List (List ℕ)) (f : FunctionData) (w : World) → IsWorld x w → IsValid x phase f
         → (b : ℕ) (block : BlockData) (before back : List (ℕ × InstrData)) → slice_get f.blocks b ≡ Some block → after_phis block.instrs ≡ before ++ back
