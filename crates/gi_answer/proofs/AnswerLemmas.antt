@@ -42,12 +42,16 @@ checked_target : (start : Pass) (m : ModuleData) (r : Result Machine (List ℕ))
 checked_target start m (Ok found) machine h = ap Ok (keyed_same found machine (wrong_in start m) h)
 checked_target start m (Err message) machine h = cc
 
+pub its_told : (options : OptionsData) (read : List ℕ) (start : Pass) (machine : Machine) (source : ModuleData) → IsChecked options read start machine source → target_of options.target read source ≡ Ok machine
+its_told options read start machine source passes =
+    checked_target start source (target_of options.target read source) machine
+    (sized_target source (checked start source (target_of options.target read source)) machine passes.right)
+
 pub its_target : (options : OptionsData) (read : List ℕ) (start : Pass) (machine : Machine) (source : ModuleData) → IsChecked options read start machine source → IsTarget options.target read machine
 its_target options read start machine source passes = record {
   source = source;
   reads = passes.reads;
-  told = checked_target start source (target_of options.target read source) machine
-      (sized_target source (checked start source (target_of options.target read source)) machine passes.right);
+  told = its_told options read start machine source passes;
 }
 
 -- selection is built on RV32

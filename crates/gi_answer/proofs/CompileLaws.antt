@@ -134,12 +134,12 @@ no_blocks [] h = refl
 no_blocks (b ∷ bs) h = absurd h
 
 -- what is selected of a function without a block is that function but for ids and the key
-record SelectedEmpty (f g : FunctionData) : Type 0 where
-  blocks : g.blocks ≡ []
-  name : g.name ≡ f.name
-  stack : g.stack ≡ f.stack
+pub record SelectedEmpty (f g : FunctionData) : Type 0 where
+  pub blocks : g.blocks ≡ []
+  pub name : g.name ≡ f.name
+  pub stack : g.stack ≡ f.stack
 
-selected_empty : (f g : FunctionData) → f.blocks ≡ [] → IsSelected f g → SelectedEmpty f g
+pub selected_empty : (f g : FunctionData) → f.blocks ≡ [] → IsSelected f g → SelectedEmpty f g
 selected_empty f g none made =
     let same : IsSameFunction (selected_form f) g =
     subst (λ m. IsSameFunction (selected_form m) g) (one_normal_form selection_rows f made.normal f made.is_normal (normal_without_blocks f none)) made.same in
@@ -185,7 +185,7 @@ selected_printable : (names : List (List ℕ)) (f : FunctionData) → IsSelectab
 selected_printable names f (inl none) g fine made = empty_printable names f g none fine made
 selected_printable names f (inr h) g fine made = block_printable names f g h fine made
 
-selected_name : (f : FunctionData) → IsSelectable f → (g : FunctionData) → IsSelected f g → g.name ≡ f.name
+pub selected_name : (f : FunctionData) → IsSelectable f → (g : FunctionData) → IsSelected f g → g.name ≡ f.name
 selected_name f (inl none) g made = (selected_empty f g none made).name
 selected_name f (inr h) g made = (selected_block f h g made).name
 

@@ -6,6 +6,7 @@ pub mod CompileLaws
 pub mod MachineSums
 pub mod MessageLemmas
 pub mod NormalForms
+pub mod OneOutput
 pub mod OneText
 pub mod PrintedLaws
 pub mod SameRuns

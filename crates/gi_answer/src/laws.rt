@@ -12,11 +12,17 @@ ghost use Rattle.gi_spelling.specs.There.{NamesBlocksThatAreThere};
 ghost use Rattle.gi_refine.specs.Refinement.{IsRefinement};
 ghost use Rattle.gi_valid.specs.Typing.{Phase};
 ghost use Rattle.gi_valid.specs.Valid.{IsValid};
+ghost use Rattle.gi_answer.specs.Answers.{IsOutput};
 ghost use Rattle.gi_answer.specs.NormalForm.{IsNormalForm};
 ghost use Rattle.gi_answer.specs.Rows.{selection_rows};
 ghost use Rattle.gi_answer.specs.Selectable.{IsSelectable};
 ghost use Rattle.gi_answer.specs.Selection.{IsSelected, IsSelectedModule};
 ghost use Rattle.gi_answer.specs.Unselected.{is_blank, unselected_in_function};
+
+/// For words and an input there is one text: the written bytes are a function of them.
+pub fn output_is_one()
+    ensures { (words : List (List ℕ)) (read a b : List ℕ) → IsOutput words read a → IsOutput words read b → a ≡ b }
+{}
 
 /// What is selected from a module is printed in one way, whatever the ids are.
 pub fn selected_text_is_one()

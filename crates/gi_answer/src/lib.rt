@@ -18,7 +18,7 @@ mod validity;
 pub use answering::answer;
 pub use example::example_is_compiled;
 pub use laws::{
-    normal_form_is_there, printed_text_is_read_back, selected_function_refines,
+    normal_form_is_there, output_is_one, printed_text_is_read_back, selected_function_refines,
     selected_text_is_one, valid_function_is_selectable,
 };
 pub use messages::Refused;
