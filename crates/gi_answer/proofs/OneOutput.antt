@@ -1,6 +1,6 @@
 -- For words and an input there is one text: names may be numbered in several ways when it is read, and this shows nowhere.
 use Rattle.std.proofs.Common.{◌≡◌, ℕ, zero, suc, Bool, true, false, ◌&&◌, List, [], ◌∷◌, map, Option, Some, None, option_map, inl, inr, refl, sym, ap, ap₂, ◌∙◌, subst}
-use Rattle.std.specs.Prelude.{Result, Ok, Err}
+use Rattle.std.specs.Prelude.{Result, Ok}
 use Rattle.std.specs.List.{AllZip, list_all}
 use Rattle.std.proofs.lemmas.Bool.{and_parts, false≢true}
 use Rattle.gi_mir.specs.Data.{InstrData, BlockData, FunctionData, ModuleData}
@@ -11,25 +11,24 @@ use Rattle.gi_mir.specs.declared.operand.Operand.{Operand}
 use Rattle.gi_mir.specs.declared.operand.Operand.TheVariants as operand
 use Rattle.gi_mir.specs.declared.operand.StackObject.{StackObject}
 use Rattle.gi_mir.specs.declared.opcode.Opcode.{Opcode}
-use Rattle.gi_observe.specs.declared.pass.Pass.{Pass}
-use Rattle.gi_spelling.specs.Documents.{Document, function_of, read_document, entries_of}
+use Rattle.gi_spelling.specs.Documents.{function_of, read_document, entries_of}
 use Rattle.gi_spelling.specs.Lines.{Section, parts_of_text}
-use Rattle.gi_spelling.specs.Named.{IsNamedOperand, IsNamedInstr, IsNamedEntry, IsNamedBlock, IsNamedFunction}
+use Rattle.gi_spelling.specs.Named.{IsNamedOperand, IsNamedEntry, IsNamedBlock, IsNamedFunction}
 use Rattle.gi_spelling.specs.Printed.{name_at, printed}
-use Rattle.gi_spelling.specs.Read.{IsReadAs, IsReadFunction, IsReadModule}
+use Rattle.gi_spelling.specs.Read.{IsReadFunction, IsReadModule}
 use Rattle.gi_spelling.specs.Same as alike
 use Rattle.gi_spelling.proofs.NumberedSame.{numbered_same}
 use Rattle.gi_spelling.proofs.OneModule.{spelled_one}
 use Rattle.gi_spelling.proofs.ReadSpells.{read_spelled}
 use Rattle.gi_spelling.proofs.SamePrints.{printed_alike}
-use Rattle.gi_answer.specs.Answers.{IsAnswer, IsChecked, IsOutput, IsSelectedText, IsTextOf}
-use Rattle.gi_answer.specs.Checks.{target_of, told_target}
+use Rattle.gi_answer.specs.Answers.{IsAnswer, IsOutput, IsTextOf}
+use Rattle.gi_answer.specs.Checks.{target_of}
 use Rattle.gi_answer.specs.NormalForm.{first_fit, rewritten, rewritten_at, next_at, last_generic, instr_at, next, Comes}
 use Rattle.gi_answer.specs.Rows.{Site, selection_rows}
 use Rattle.gi_answer.specs.Selectable.{IsSelectable, AllSelectable}
-use Rattle.gi_answer.specs.Selection.{classed_operand, classed_instr, IsSameInstr, IsSelected, IsSelectedModule}
+use Rattle.gi_answer.specs.Selection.{classed_operand, IsSameInstr, IsSelected, IsSelectedModule}
 use Rattle.gi_answer.specs.Shapes.{ShapedInstr, CopyIn, MakeConstant, AddUp, CopyOut, Return, shaped_instr, IsShapedInstr}
-use Rattle.gi_answer.specs.Unrun.{selects, unbuilt}
+use Rattle.gi_answer.specs.Unrun.{selects}
 use Rattle.gi_options.specs.Options.{OptionsData, options_of}
 use Rattle.gi_options.specs.declared.machine.Machine.{Machine}
 use Rattle.gi_answer.proofs.AnswerLemmas.{its_told, its_selectable}

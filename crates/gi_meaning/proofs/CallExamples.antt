@@ -1,5 +1,5 @@
 -- Where a routine of the runtime takes its operands and gives its result.
-use Rattle.std.proofs.Common.{◌≡◌, ℕ, true, false, List, [], ◌∷◌, refl}
+use Rattle.std.proofs.Common.{◌≡◌, true, false, List, [], ◌∷◌, refl}
 use Rattle.gi_meaning.specs.Argument.{Argument, Implicit, Defined}
 use Rattle.gi_meaning.specs.Act.{has_operands, passed, result_registers, result_words, routine_given}
 use Rattle.gi_meaning.specs.Given.{one}

@@ -1,6 +1,6 @@
 -- No run is stuck: from each state an instruction, a block and so a run comes to something. Whether an event answers a call
 -- can't be decided, since it compares memories; so it is shown that there can't be nothing.
-use Rattle.std.proofs.Common.{◌≡◌, ℕ, zero, suc, ◌+◌, ◌-◌, ◌*◌, ◌/◌, ◌%◌, ◌^◌, ◌<◌, ◌≤◌, Bool, true, false, cond, not, ◌&&◌, ◌||◌, ◌==◌, nat_lt, nat_le, List, [], ◌∷◌, ◌++◌, map, length, Option, Some, None, slice_get, inl, inr, refl, sym, ap, subst, arith, lit<, ltb-true, pos}
+use Rattle.std.proofs.Common.{◌≡◌, ℕ, zero, suc, ◌+◌, ◌-◌, ◌*◌, ◌/◌, ◌%◌, ◌^◌, ◌<◌, ◌≤◌, Bool, true, false, cond, ◌&&◌, ◌||◌, ◌==◌, nat_lt, nat_le, List, [], ◌∷◌, ◌++◌, map, length, Option, Some, None, slice_get, inl, inr, refl, arith, lit<, ltb-true, pos}
 use Rattle.std.proofs.lemmas.Nat.{pow_pos}
 use Rattle.std.proofs.Math.Nat.{mod-lt, mod-mod, pow-le-pow_right}
 use Rattle.gi_llt.specs.Llt.{width_of}
@@ -18,9 +18,9 @@ use Rattle.gi_meaning.specs.Machine.{is_immediate, is_amount, on_words, on_immed
 use Rattle.gi_meaning.specs.Memory.{Memory, loaded, stored, is_aligned}
 use Rattle.gi_meaning.specs.Meaning.{Meaning, Copying, Generic, Machine, Loading, Storing, MachineLoading, MachineStoring, Jumping, Branching, MachineBranching, Calling, Returning, Nothing, Joining, Extension, Anything, Zeros, Signs, meaning_of}
 use Rattle.gi_meaning.specs.Routine.{InTwoWords, has_routine}
-use Rattle.gi_meaning.specs.State.{Event, World, State, Outside, outside_of, AreWords, Outcome, Going, Fails}
-use Rattle.gi_meaning.specs.Act.{Answer, Results, Returns, Asks, Breaks, Answers, AnswersWords, all_fitted, ReadsAs, AllReadAs, copied, copy, alignment, extended, from_loaded, load, generic_load, StoresThere, Stores, GenericStores, machine_load, MachineStores, jump, branch, machine_branch, clobbered, passed, result_registers, words_of, LeavesFree, CallsGlobal, Fits, has_operands, routine_given, result_words, CallsRoutine, Calls, returned, Act}
-use Rattle.gi_meaning.specs.Runs.{Setting, arguments_of, written_places, width_of_place, Progress, On, Left, Over, progress_of, StepsFrom, Steps, After, Executes, phis_of, after_phis, joined, is_among, Follows, RunsAfterPhis, RunsBlock, Enters}
+use Rattle.gi_meaning.specs.State.{World, State, Outside, outside_of, AreWords, Outcome, Going, Fails}
+use Rattle.gi_meaning.specs.Act.{Answer, Results, Returns, Asks, Breaks, Answers, AnswersWords, all_fitted, ReadsAs, AllReadAs, copied, copy, alignment, extended, from_loaded, load, generic_load, StoresThere, Stores, GenericStores, machine_load, MachineStores, jump, branch, machine_branch, clobbered, passed, result_registers, words_of, LeavesFree, CallsGlobal, has_operands, routine_given, result_words, CallsRoutine, Calls, returned, Act}
+use Rattle.gi_meaning.specs.Runs.{Setting, arguments_of, written_places, width_of_place, Progress, On, Left, Over, progress_of, StepsFrom, After, Executes, phis_of, after_phis, joined, is_among, Follows, RunsAfterPhis, RunsBlock, Enters}
 
 -- it can't be that nothing passes
 abbrev pub NotNone : (A : Type 0) → (A → Type 0) → Type 0

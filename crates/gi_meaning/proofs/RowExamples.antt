@@ -1,14 +1,13 @@
 -- Instructions that stand in their rows, and some that don't.
-use Rattle.std.proofs.Common.{◌≡◌, ℕ, zero, suc, true, false, List, [], ◌∷◌, Option, Some, None, pos, refl}
+use Rattle.std.proofs.Common.{◌≡◌, ℕ, zero, suc, true, false, List, [], ◌∷◌, Some, None, pos, refl}
 use Rattle.gi_llt.specs.declared.Llt.{Llt}
 use Rattle.gi_llt.specs.declared.Llt.TheVariants.{Scalar, Pointer}
 use Rattle.gi_mir.specs.Data.{InstrData, no_flags, reg_of}
 use Rattle.gi_mir.specs.declared.opcode.Opcode.{Opcode}
 use Rattle.gi_mir.specs.declared.opcode.Opcode.TheVariants as op
 use Rattle.gi_mir.specs.declared.operand.Kind.TheVariants.{Class}
-use Rattle.gi_mir.specs.declared.operand.MemOp.{MemOp}
 use Rattle.gi_mir.specs.declared.operand.Operand.{Operand}
-use Rattle.gi_mir.specs.declared.operand.Operand.TheVariants.{Def, Use, Phys, PhysDef, Int, Constant, ImplicitUse}
+use Rattle.gi_mir.specs.declared.operand.Operand.TheVariants.{Def, Use, Phys, Int, Constant, ImplicitUse}
 use Rattle.gi_meaning.specs.InRow.{is_in_row}
 
 -- the registers 0, 1 and 2 have these types

@@ -1,11 +1,11 @@
 -- Functions whose instructions all stand in their rows: to look at rows changes nothing, and so a refinement is one of runs
 -- that look at them.
-use Rattle.std.proofs.Common.{◌≡◌, ℕ, Bool, true, cond, ◌&&◌, List, [], ◌∷◌, map, inl, inr, ⊎_elim, refl, sym, ap, ap₂, ◌∙◌, subst, None}
+use Rattle.std.proofs.Common.{◌≡◌, ℕ, Bool, true, cond, List, [], ◌∷◌, map, inl, inr, ⊎_elim, refl, sym, ap, ap₂, subst, None}
 use Rattle.std.specs.List.{list_all}
 use Rattle.std.proofs.lemmas.Bool.{and_parts}
 use Rattle.gi_llt.specs.declared.Llt.{Llt}
 use Rattle.gi_mir.specs.Data.{InstrData, BlockData, FunctionData}
-use Rattle.gi_meaning.specs.InRow.{type_in, is_in_row, nowhere, checked_instr, checked_pair, checked_block, checked_blocks, are_in_rows}
+use Rattle.gi_meaning.specs.InRow.{type_in, is_in_row, nowhere, checked_pair, checked_block, checked_blocks, are_in_rows}
 use Rattle.gi_meaning.specs.Runs.{setting_of, Enters, Runs, RunsUnchecked, Allows}
 use Rattle.gi_meaning.specs.State.{World, IsWorld, Outcome, Fails, start}
 use Rattle.gi_refine.specs.Refinement.{IsRefinement}
