@@ -171,7 +171,7 @@ entry_of GenericTruncate = generic (codes "G_TRUNC") unary_typed_rows truncation
 entry_of GenericAnyExtend = generic (codes "G_ANYEXT") unary_typed_rows extension
 entry_of GenericZeroExtend = generic (codes "G_ZEXT") unary_typed_rows extension
 entry_of GenericSignExtend = generic (codes "G_SEXT") unary_typed_rows extension
-entry_of GenericSignExtendInRegister = generic (codes "G_SEXT_INREG") in_register_rows (one_alike class.Wide)
+entry_of GenericSignExtendInRegister = generic (codes "G_SEXT_INREG") in_register_rows (one_alike class.Scalar)
 entry_of GenericMergeValues = generic (codes "G_MERGE_VALUES") merge_rows merge
 entry_of GenericUnmergeValues = generic (codes "G_UNMERGE_VALUES") unmerge_rows unmerge
 -- generic: arithmetic, logic and shifts

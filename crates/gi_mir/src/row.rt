@@ -8,7 +8,7 @@ ghost use Rattle.gi_mir.specs.declared.opcode.Opcode.{Opcode};
 use crate::entry::InMemory::{Bits, Extended, Nothing, Value};
 use crate::entry::{Entry, InMemory, Role, Standing};
 use crate::opcode::Opcode;
-use crate::typing::Class::{Any, Register, Rotatable, Scalar, Swappable, Wide};
+use crate::typing::Class::{Any, Register, Rotatable, Scalar, Swappable};
 use crate::typing::Signature::{
     CarryOut, CarryThrough, Comparison, Extension, FromPointer, Joining, Merge, NoSources, NoTypes,
     OneAlike, OneCondition, OnePointer, PointerSum, Selection, Store, ThreeAlike, ToPointer,
@@ -393,7 +393,7 @@ static ENTRIES: [Entry; 124] = [
     generic!("G_ANYEXT", UNARY_TYPED, Extension),
     generic!("G_ZEXT", UNARY_TYPED, Extension),
     generic!("G_SEXT", UNARY_TYPED, Extension),
-    generic!("G_SEXT_INREG", IN_REGISTER, OneAlike(Wide)),
+    generic!("G_SEXT_INREG", IN_REGISTER, OneAlike(Scalar)),
     generic!("G_MERGE_VALUES", MERGE, Merge),
     generic!("G_UNMERGE_VALUES", UNMERGE, Unmerge),
     // generic: arithmetic, logic and shifts
