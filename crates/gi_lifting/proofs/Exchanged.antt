@@ -1,5 +1,6 @@
 -- An operation that commutes, with its two operands the other way round.
 use Rattle.std.proofs.Common.{◌≡◌, inl, inr, ℕ, true, List, [], ◌∷◌, Option, Some, None, slice_get, option_map, refl, sym, subst, ap}
+use Rattle.gi_mir.specs.Row.{is_commutative_op}
 use Rattle.std.proofs.lemmas.Nat.{and_comm, or_comm, xor_comm}
 use Rattle.std.proofs.Math.IntN.{+ℤ_comm, *ℤ_comm}
 use Rattle.std.proofs.Math.Nat.{add_comm, mul_comm}
@@ -16,7 +17,6 @@ use Rattle.gi_meaning.specs.Given.{Given, one}
 use Rattle.gi_meaning.specs.Meaning.{Generic, Meaning, meaning_of}
 use Rattle.gi_meaning.specs.State.{Outside, World}
 use Rattle.gi_meaning.specs.Runs.{joined_lists}
-use Rattle.gi_pattern.specs.Fitting.{is_commutative}
 use Rattle.gi_refine.specs.Values.{Acts, ActsFrom, arguments_at, AllHold, At, Correspond, Environment, ForAllOf, IsCertain, IsSound, Makes, MayMake, Operation, Rule, Slot}
 
 -- ---- the meanings commute
@@ -38,7 +38,7 @@ product-same flags n a b = rw (mul_comm a b, *ℤ_comm (signed n a) (signed n b)
 disjunction-same : (flags : Flags) → Symmetric (generic.disjunction flags)
 disjunction-same flags n a b = rw (and_comm a b, or_comm a b) refl
 
-commutes : (flags : Flags) (o : Opcode) → is_commutative o ≡ true → IsSymmetric (meaning_of flags o)
+commutes : (flags : Flags) (o : Opcode) → is_commutative_op o ≡ true → IsSymmetric (meaning_of flags o)
 commutes flags op.GenericAdd h = record { f = generic.sum flags; is = refl; same = sum-same flags }
 commutes flags op.GenericMultiply h = record { f = generic.product flags; is = refl; same = product-same flags }
 commutes flags op.GenericAnd h = record { f = λ n a b. one (bit_and a b); is = refl; same = λ n a b. ap one (and_comm a b) }
@@ -60,7 +60,7 @@ act-same x w m symmetric mem widths l a k b outside answer act =
 
 -- ---- and so do the operations
 
-pub acts-turned : (x : ℕ) (w : World) (o : Operation) (i j : ℕ) → is_commutative o.op ≡ true → o.slots ≡ At i ∷ At j ∷ [] → (outside : Outside) (env : Environment) (answer : Answer)
+pub acts-turned : (x : ℕ) (w : World) (o : Operation) (i j : ℕ) → is_commutative_op o.op ≡ true → o.slots ≡ At i ∷ At j ∷ [] → (outside : Outside) (env : Environment) (answer : Answer)
     → Acts x w o outside env answer → Acts x w (record o { slots = At j ∷ At i ∷ [] }) outside env answer
 acts-turned x w o i j commutative slots outside env answer acts =
     by (slice_get env i) (slice_get env j) (subst (λ (ss : List Slot). ActsFrom x w o outside (arguments_at env ss) answer) slots acts)
@@ -73,7 +73,7 @@ acts-turned x w o i j commutative slots outside env answer acts =
     by (Some u) None h = h
     by (Some u) (Some v) h = act-same x w (meaning_of o.flags o.op) (commutes o.flags o.op commutative) o.mem o.widths u.0 u.1 v.0 v.1 outside answer h
 
-makes-turned : (x : ℕ) (w : World) (o : Operation) (i j : ℕ) → is_commutative o.op ≡ true → o.slots ≡ At i ∷ At j ∷ [] → (outside : Outside) (env : Environment) (made : Option Environment)
+makes-turned : (x : ℕ) (w : World) (o : Operation) (i j : ℕ) → is_commutative_op o.op ≡ true → o.slots ≡ At i ∷ At j ∷ [] → (outside : Outside) (env : Environment) (made : Option Environment)
     → Makes x w outside (o ∷ []) env made → Makes x w outside (record o { slots = At j ∷ At i ∷ [] } ∷ []) env made
 makes-turned x w o i j commutative slots outside env made (answer, acts, then) = (answer, acts-turned x w o i j commutative slots outside env answer acts, then)
 
@@ -81,7 +81,7 @@ for-all : (ns : List ℕ) (P Q : Environment → Type 0) → ((env : Environment
 for-all [] P Q then h = then [] h
 for-all (n ∷ ns) P Q then h = λ value fits. for-all ns (λ env. P ((n, value) ∷ env)) (λ env. Q ((n, value) ∷ env)) (λ env. then ((n, value) ∷ env)) (h value fits)
 
-pub sound-turned : (x : ℕ) (w : World) (rule : Rule) (o : Operation) (i j : ℕ) → rule.old ≡ o ∷ [] → is_commutative o.op ≡ true → o.slots ≡ At i ∷ At j ∷ []
+pub sound-turned : (x : ℕ) (w : World) (rule : Rule) (o : Operation) (i j : ℕ) → rule.old ≡ o ∷ [] → is_commutative_op o.op ≡ true → o.slots ≡ At i ∷ At j ∷ []
     → IsSound x w rule → IsSound x w (record rule { old = record o { slots = At j ∷ At i ∷ [] } ∷ [] })
 sound-turned x w rule o i j old commutative slots sound = record {
   by = λ outside. for-all rule.inputs
@@ -98,7 +98,7 @@ sound-turned x w rule o i j old commutative slots sound = record {
     turn outside env (Some new) (inl (made, makes, correspond)) = inl (made, again outside env (Some made) makes, correspond)
     turn outside env (Some new) (inr makes) = inr (again outside env None makes)
 
-pub certain-turned : (x : ℕ) (w : World) (rule : Rule) (o : Operation) (i j : ℕ) → rule.old ≡ o ∷ [] → is_commutative o.op ≡ true → o.slots ≡ At i ∷ At j ∷ []
+pub certain-turned : (x : ℕ) (w : World) (rule : Rule) (o : Operation) (i j : ℕ) → rule.old ≡ o ∷ [] → is_commutative_op o.op ≡ true → o.slots ≡ At i ∷ At j ∷ []
     → IsCertain x w rule → IsCertain x w (record rule { old = record o { slots = At j ∷ At i ∷ [] } ∷ [] })
 certain-turned x w rule o i j old commutative slots certain = record {
   by = λ outside. for-all rule.inputs

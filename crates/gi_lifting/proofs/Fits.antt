@@ -1,5 +1,6 @@
 -- What a binding says of the root.
 use Rattle.std.proofs.Common.{◌≡◌, ◌≢◌, ◌⊎◌, inl, inr, ℕ, zero, suc, Bool, true, false, cond, ◌&&◌, ◌==◌, List, [], ◌∷◌, Option, Some, None, set, refl, sym, subst, ap, ◌∙◌, eqb-true}
+use Rattle.gi_mir.specs.Row.{is_commutative_op}
 use Rattle.std.specs.Prelude.{slice_get}
 use Rattle.std.proofs.lemmas.Bool.{cases_eq}
 use Rattle.std.specs.Option.{option_and_then, option_or}
@@ -13,7 +14,7 @@ use Rattle.gi_mir.specs.declared.operand.Reg.{Reg}
 use Rattle.gi_mir.specs.Data.{InstrData, FunctionData}
 use Rattle.gi_pattern.specs.Binding.{constant_value, kept_if, pred_bound, register_at, register_bound, slot_bound, slots_bound, value_bound, with_pred, with_register, with_value, whole_value}
 use Rattle.gi_pattern.specs.Data.{MatchData}
-use Rattle.gi_pattern.specs.Fitting.{all_pass, bound_as_written, bound_exchanged, definition_at, exchanged, found, is_commutative, same_op}
+use Rattle.gi_pattern.specs.Fitting.{all_pass, bound_as_written, bound_exchanged, definition_at, exchanged, found, same_op}
 use Rattle.gi_pattern.specs.declared.binding.Binding.{Binding}
 use Rattle.gi_pattern.specs.declared.binding.BoundValue.{BoundValue}
 use Rattle.gi_pattern.specs.declared.rule.Slot.{Slot}
@@ -161,17 +162,17 @@ found-extends f tests (m ∷ ms) (Some i) b c h = by (either _ _ c h) (λ d g. f
         Extends-twice b d c (slots-bind m.slots i.operands b d slots).0 (more d then)
     by (inr g) more =
         let (d, bound, then) = and-then (λ d. found f tests ms (definition_at f d ms) d) (bound_exchanged m i b) c g in
-        let (same, slots) = where-true (same_op i.op m.op && is_commutative m.op) (slots_bound m.slots (exchanged i.operands) b) d bound in
+        let (same, slots) = where-true (same_op i.op m.op && is_commutative_op m.op) (slots_bound m.slots (exchanged i.operands) b) d bound in
         Extends-twice b d c (slots-bind m.slots (exchanged i.operands) b d slots).0 (more d then)
 
 -- what a binding says of the instruction at which the rule fits: its operands are bound as they are written, or the other
 -- way round
 pub root-fits : (f : FunctionData) (tests : List Test) (m : MatchData) (ms : List MatchData) (i : InstrData) (b c : Binding) → found f tests (m ∷ ms) (Some i) b ≡ Some c
-    → (i.op ≡ m.op) × (AreBoundTo c m.slots i.operands ⊎ ((is_commutative m.op ≡ true) × AreBoundTo c m.slots (exchanged i.operands)))
+    → (i.op ≡ m.op) × (AreBoundTo c m.slots i.operands ⊎ ((is_commutative_op m.op ≡ true) × AreBoundTo c m.slots (exchanged i.operands)))
 root-fits f tests m ms i b c h = by (either _ _ c h)
   where
     by : (option_and_then (λ d. found f tests ms (definition_at f d ms) d) (bound_as_written m i b) ≡ Some c) ⊎ (option_and_then (λ d. found f tests ms (definition_at f d ms) d) (bound_exchanged m i b) ≡ Some c)
-        → (i.op ≡ m.op) × (AreBoundTo c m.slots i.operands ⊎ ((is_commutative m.op ≡ true) × AreBoundTo c m.slots (exchanged i.operands)))
+        → (i.op ≡ m.op) × (AreBoundTo c m.slots i.operands ⊎ ((is_commutative_op m.op ≡ true) × AreBoundTo c m.slots (exchanged i.operands)))
     by (inl g) =
         let (d, bound, then) = and-then (λ d. found f tests ms (definition_at f d ms) d) (bound_as_written m i b) c g in
         let (same, slots) = where-true (same_op i.op m.op) (slots_bound m.slots i.operands b) d bound in
@@ -179,6 +180,6 @@ root-fits f tests m ms i b c h = by (either _ _ c h)
         (one-op i.op m.op same, inl (all-stay m.slots i.operands d c more (slots-bind m.slots i.operands b d slots).1))
     by (inr g) =
         let (d, bound, then) = and-then (λ d. found f tests ms (definition_at f d ms) d) (bound_exchanged m i b) c g in
-        let (same, slots) = where-true (same_op i.op m.op && is_commutative m.op) (slots_bound m.slots (exchanged i.operands) b) d bound in
+        let (same, slots) = where-true (same_op i.op m.op && is_commutative_op m.op) (slots_bound m.slots (exchanged i.operands) b) d bound in
         let more = found-extends f tests ms (definition_at f d ms) d c then in
-        (one-op i.op m.op (first_of (same_op i.op m.op) (is_commutative m.op) same), inr (rest_of (same_op i.op m.op) (is_commutative m.op) same, all-stay m.slots (exchanged i.operands) d c more (slots-bind m.slots (exchanged i.operands) b d slots).1))
+        (one-op i.op m.op (first_of (same_op i.op m.op) (is_commutative_op m.op) same), inr (rest_of (same_op i.op m.op) (is_commutative_op m.op) same, all-stay m.slots (exchanged i.operands) d c more (slots-bind m.slots (exchanged i.operands) b d slots).1))

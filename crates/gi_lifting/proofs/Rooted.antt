@@ -1,5 +1,6 @@
 -- A rule used at a root, its operands bound as they are written or the other way round.
 use Rattle.std.proofs.Common.{◌≡◌, inl, inr, ⊎_elim, ℕ, suc, ◌==◌, ◌||◌, Bool, true, false, List, [], ◌∷◌, ◌++◌, Option, Some, None, flat_map, map, refl, sym, subst, ap, ◌∙◌}
+use Rattle.gi_mir.specs.Row.{is_commutative_op}
 use Rattle.gi_mir.specs.Data.{InstrData, FunctionData}
 use Rattle.gi_mir.specs.Edit.{home_of, instr_of}
 use Rattle.gi_mir.specs.declared.operand.Flags.{Flags}
@@ -8,7 +9,7 @@ use Rattle.gi_mir.specs.declared.operand.Operand.TheVariants as operand
 use Rattle.gi_meaning.specs.Runs.{Executes, On, after_phis, setting_of, Setting}
 use Rattle.gi_meaning.specs.State.{IsWorld, Place, State, Virtual, Physical, World}
 use Rattle.gi_pattern.specs.Data.{MakeData, MatchData}
-use Rattle.gi_pattern.specs.Fitting.{binding_at, exchanged, found, is_commutative}
+use Rattle.gi_pattern.specs.Fitting.{binding_at, exchanged, found}
 use Rattle.gi_pattern.specs.Making.{register_or}
 use Rattle.gi_pattern.specs.declared.binding.Binding.{Binding}
 use Rattle.gi_pattern.specs.Binding.{empty_binding}
@@ -229,7 +230,7 @@ both : (c : Bool) → c ≡ false → c ≡ true → ⊥
 both c g h = cc
 
 pub fitting-written : (f : FunctionData) (name : ℕ) (root : MatchData) (definitions : List MatchData) (tests : List Test) (replaces : List (ℕ × ℕ)) (makes : List MakeData) (b : Binding) (id : ℕ)
-    → is_commutative root.op ≡ false
+    → is_commutative_op root.op ≡ false
     → binding_at f (rule_with name root definitions tests replaces makes) id ≡ Some b
     → (instr : InstrData) × (instr_of f id ≡ Some instr) × (instr.op ≡ root.op) × IsBound b root instr
 fitting-written f name root definitions tests replaces makes b id apart fits = by (instr_of f id) refl fits
@@ -238,4 +239,4 @@ fitting-written f name root definitions tests replaces makes b id apart fits = b
     by None e h = cc
     by (Some i) e h =
         let (op, bound) = root-fits f tests root definitions i empty_binding b h in
-        (i, e, op, ⊎_elim (λ written. inl written) (λ other. absurd (both (is_commutative root.op) apart other.0)) bound)
+        (i, e, op, ⊎_elim (λ written. inl written) (λ other. absurd (both (is_commutative_op root.op) apart other.0)) bound)

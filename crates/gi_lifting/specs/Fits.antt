@@ -1,12 +1,13 @@
 -- What a binding says of the instruction at which a rule fits.
 use Rattle.std.specs.Prelude.{◌≡◌, ◌⊎◌, ℕ, ◌&&◌, Bool, true, false, List, [], ◌∷◌, Some}
+use Rattle.gi_mir.specs.Row.{is_commutative_op}
 use Rattle.gi_mir.specs.declared.operand.Operand.{Operand}
 use Rattle.gi_mir.specs.declared.operand.Operand.TheVariants as operand
 use Rattle.gi_mir.specs.declared.operand.Reg.{Reg}
 use Rattle.gi_mir.specs.Data.{InstrData}
 use Rattle.gi_pattern.specs.Binding.{register_at}
 use Rattle.gi_pattern.specs.Data.{MatchData}
-use Rattle.gi_pattern.specs.Fitting.{exchanged, is_commutative}
+use Rattle.gi_pattern.specs.Fitting.{exchanged}
 use Rattle.gi_lifting.specs.OnValues.{Names}
 use Rattle.gi_lifting.specs.Placed.{is_named}
 use Rattle.gi_pattern.specs.declared.binding.Binding.{Binding}
@@ -52,7 +53,7 @@ pub record IsTurned (b : Binding) (m : MatchData) (i : InstrData) : Type 0 where
   pub left : ℕ
   pub right : ℕ
   pub slots : m.slots ≡ slot.Def result ∷ slot.Use left ∷ slot.Use right ∷ []
-  pub commutes : is_commutative m.op ≡ true
+  pub commutes : is_commutative_op m.op ≡ true
   pub bound : AreBoundTo b m.slots (exchanged i.operands)
 
 -- the operands are bound as they are written, or the other way round

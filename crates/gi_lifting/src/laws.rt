@@ -19,7 +19,7 @@ ghost use Rattle.gi_lifting.specs.Examples.{zero_plus, zero_plus_bound, less_fiv
 ghost use Rattle.gi_meaning.specs.Runs.{after_phis, setting_of};
 ghost use Rattle.gi_pattern.specs.Applying.{applied};
 ghost use Rattle.gi_pattern.specs.Data.{MakeData, MatchData};
-ghost use Rattle.gi_pattern.specs.Fitting.{binding_at, exchanged, found, is_commutative};
+ghost use Rattle.gi_pattern.specs.Fitting.{binding_at, exchanged, found};
 ghost use Rattle.gi_pattern.specs.declared.rule.Slot.TheVariants as slot;
 ghost use Rattle.gi_pattern.specs.declared.rule.Test.{Test};
 ghost use Rattle.gi_lifting.specs.Fits.{AreBoundTo, IsBound};
@@ -32,6 +32,7 @@ ghost use Rattle.gi_lifting.specs.OnValues.{Names, all_made};
 ghost use Rattle.gi_lifting.specs.Placed.{AllWide, AreNamed, all_placed, registers_made, types_in};
 ghost use Rattle.gi_pattern.specs.Examples.{difference_of_same, difference_with_constant, product_by_power, remainder_by_power, sum_with_zero, truncated_extension, unmerged_pair};
 ghost use Rattle.gi_lifting.specs.Sound.{IsCertainRule, IsSoundRule, Suits};
+ghost use Rattle.gi_mir.specs.Row.{is_commutative_op};
 
 /// Each of these rules is sound: in every world, for all types that its instructions accept, for all numbers with which it
 /// fits, and with all flags.
@@ -67,7 +68,7 @@ pub fn made_instructions_show()
 pub fn root_is_bound()
     ensures { (f : FunctionData) (tests : List Test) (m : MatchData) (ms : List MatchData) (i : InstrData) (b c : Binding)
         → found f tests (m ∷ ms) (Some i) b ≡ Some c
-        → (i.op ≡ m.op) × (AreBoundTo c m.slots i.operands ⊎ ((is_commutative m.op ≡ true) × AreBoundTo c m.slots (exchanged i.operands))) }
+        → (i.op ≡ m.op) × (AreBoundTo c m.slots i.operands ⊎ ((is_commutative_op m.op ≡ true) × AreBoundTo c m.slots (exchanged i.operands))) }
 {}
 
 /// Where a rule fits, its root is bound in one of the ways in which a use asks for it: if it has one result and two operands,
@@ -78,7 +79,7 @@ pub fn fitting_root_is_bound()
         → binding_at f (rule_with name root definitions tests replaces makes) id ≡ Some b
         → (instr : InstrData) × (instr_of f id ≡ Some instr) × (instr.op ≡ root.op) × IsBound b root instr }
     ensures as_written { (f : FunctionData) (name : ℕ) (root : MatchData) (definitions : List MatchData) (tests : List Test) (replaces : List (ℕ × ℕ)) (makes : List MakeData) (b : Binding) (id : ℕ)
-        → is_commutative root.op ≡ false
+        → is_commutative_op root.op ≡ false
         → binding_at f (rule_with name root definitions tests replaces makes) id ≡ Some b
         → (instr : InstrData) × (instr_of f id ≡ Some instr) × (instr.op ≡ root.op) × IsBound b root instr }
 {}

@@ -1,9 +1,12 @@
 -- The table of what each opcode means.
 -- (Generic Opcodes; Machine IR's target-independent opcodes; RISC-V unprivileged ISA, RV32I, RV64I and M.)
-use Rattle.std.specs.Prelude.{ℕ, ◌+◌, List, Bool, false, not, ◌==◌, nat_lt, nat_le, int_lt, int_le, bit_and, bit_xor, if◌then◌else◌, nat_abs, pos}
+use Rattle.std.specs.Prelude.{ℕ, ◌+◌, ◌/◌, List, Bool, true, false, not, ◌==◌, nat_lt, nat_le, int_lt, int_le, bit_and, bit_xor, if◌then◌else◌, nat_abs, pos}
 use Rattle.gi_llt.specs.Bits.{wrapped, signed, unsigned, sign_extended, unsigned_high_product, signed_high_product}
 use Rattle.gi_mir.specs.declared.opcode.Opcode.{Opcode}
 use Rattle.gi_mir.specs.declared.opcode.Opcode.TheVariants as op
+use Rattle.gi_mir.specs.Row.{is_wide_op, memory_of}
+use Rattle.gi_mir.specs.declared.entry.InMemory.{InMemory}
+use Rattle.gi_mir.specs.declared.entry.InMemory.TheVariants as memory
 use Rattle.gi_mir.specs.declared.operand.Flags.{Flags}
 use Rattle.gi_mir.specs.declared.operand.Pred.TheVariants.{Sgt, Slt, Ugt, Ult}
 use Rattle.gi_meaning.specs.Given.{Given, one, free, in_low_bits}
@@ -46,6 +49,25 @@ always x = not false
 
 abbrev pub only_64 : ℕ → Bool
 only_64 x = x == 64
+
+-- the register widths that have an opcode
+abbrev pub exists_on : Bool → ℕ → Bool
+exists_on true = only_64
+exists_on false = always
+
+abbrev pub bytes_in : InMemory → ℕ
+bytes_in (memory.Bits bits) = bits / 8
+bytes_in _ = 0
+
+-- an instruction of the machine, a load and a store, by what the table of opcodes says of them
+abbrev pub instruction : Opcode → (gives : ℕ → List Argument → Given) → Meaning
+instruction o gives = Machine (if is_wide_op o then machine.on_rv64 gives else gives)
+
+abbrev pub loading_instruction : Opcode → Extension → Meaning
+loading_instruction o extension = MachineLoading (exists_on (is_wide_op o)) (bytes_in (memory_of o)) extension
+
+abbrev pub storing_instruction : Opcode → Meaning
+storing_instruction o = MachineStoring (exists_on (is_wide_op o)) (bytes_in (memory_of o))
 
 abbrev pub meaning_of : Flags → Opcode → Meaning
 -- in every stage
@@ -151,32 +173,32 @@ meaning_of flags op.ShiftRightLogicalImmediate = Machine (machine.by_amount (λ 
 meaning_of flags op.ShiftRightArithmeticImmediate = Machine (machine.by_amount (λ x. x) machine.arithmetic_right_word)
 meaning_of flags op.LoadUpperImmediate = Machine machine.load_upper
 -- RV64, on the low 32 bits
-meaning_of flags op.AddWord = Machine (machine.on_rv64 (machine.on_words (machine.on_low_half machine.sum_word)))
-meaning_of flags op.SubtractWord = Machine (machine.on_rv64 (machine.on_words (machine.on_low_half generic.difference_of)))
-meaning_of flags op.MultiplyWord = Machine (machine.on_rv64 (machine.on_words (machine.on_low_half machine.product_word)))
-meaning_of flags op.ShiftLeftLogicalWord = Machine (machine.on_rv64 (machine.on_words (machine.on_low_half machine.left_word)))
-meaning_of flags op.ShiftRightLogicalWord = Machine (machine.on_rv64 (machine.on_words (machine.on_low_half machine.right_word)))
-meaning_of flags op.ShiftRightArithmeticWord = Machine (machine.on_rv64 (machine.on_words (machine.on_low_half machine.arithmetic_right_word)))
-meaning_of flags op.DivideWord = Machine (machine.on_rv64 (machine.on_words (machine.on_low_half machine.quotient_word)))
-meaning_of flags op.DivideUnsignedWord = Machine (machine.on_rv64 (machine.on_words (machine.on_low_half machine.quotient_unsigned_word)))
-meaning_of flags op.RemainderWord = Machine (machine.on_rv64 (machine.on_words (machine.on_low_half machine.remainder_word)))
-meaning_of flags op.RemainderUnsignedWord = Machine (machine.on_rv64 (machine.on_words (machine.on_low_half machine.remainder_unsigned_word)))
-meaning_of flags op.AddImmediateWord = Machine (machine.on_rv64 (machine.on_immediate (machine.on_low_half machine.sum_word)))
-meaning_of flags op.ShiftLeftLogicalImmediateWord = Machine (machine.on_rv64 (machine.by_amount (λ x. 32) (machine.on_low_half machine.left_word)))
-meaning_of flags op.ShiftRightLogicalImmediateWord = Machine (machine.on_rv64 (machine.by_amount (λ x. 32) (machine.on_low_half machine.right_word)))
-meaning_of flags op.ShiftRightArithmeticImmediateWord = Machine (machine.on_rv64 (machine.by_amount (λ x. 32) (machine.on_low_half machine.arithmetic_right_word)))
+meaning_of flags op.AddWord = instruction op.AddWord (machine.on_words (machine.on_low_half machine.sum_word))
+meaning_of flags op.SubtractWord = instruction op.SubtractWord (machine.on_words (machine.on_low_half generic.difference_of))
+meaning_of flags op.MultiplyWord = instruction op.MultiplyWord (machine.on_words (machine.on_low_half machine.product_word))
+meaning_of flags op.ShiftLeftLogicalWord = instruction op.ShiftLeftLogicalWord (machine.on_words (machine.on_low_half machine.left_word))
+meaning_of flags op.ShiftRightLogicalWord = instruction op.ShiftRightLogicalWord (machine.on_words (machine.on_low_half machine.right_word))
+meaning_of flags op.ShiftRightArithmeticWord = instruction op.ShiftRightArithmeticWord (machine.on_words (machine.on_low_half machine.arithmetic_right_word))
+meaning_of flags op.DivideWord = instruction op.DivideWord (machine.on_words (machine.on_low_half machine.quotient_word))
+meaning_of flags op.DivideUnsignedWord = instruction op.DivideUnsignedWord (machine.on_words (machine.on_low_half machine.quotient_unsigned_word))
+meaning_of flags op.RemainderWord = instruction op.RemainderWord (machine.on_words (machine.on_low_half machine.remainder_word))
+meaning_of flags op.RemainderUnsignedWord = instruction op.RemainderUnsignedWord (machine.on_words (machine.on_low_half machine.remainder_unsigned_word))
+meaning_of flags op.AddImmediateWord = instruction op.AddImmediateWord (machine.on_immediate (machine.on_low_half machine.sum_word))
+meaning_of flags op.ShiftLeftLogicalImmediateWord = instruction op.ShiftLeftLogicalImmediateWord (machine.by_amount (λ x. 32) (machine.on_low_half machine.left_word))
+meaning_of flags op.ShiftRightLogicalImmediateWord = instruction op.ShiftRightLogicalImmediateWord (machine.by_amount (λ x. 32) (machine.on_low_half machine.right_word))
+meaning_of flags op.ShiftRightArithmeticImmediateWord = instruction op.ShiftRightArithmeticImmediateWord (machine.by_amount (λ x. 32) (machine.on_low_half machine.arithmetic_right_word))
 -- RISC-V, memory
-meaning_of flags op.LoadByte = MachineLoading always 1 Signs
-meaning_of flags op.LoadHalf = MachineLoading always 2 Signs
-meaning_of flags op.LoadWord = MachineLoading always 4 Signs
-meaning_of flags op.LoadByteUnsigned = MachineLoading always 1 Zeros
-meaning_of flags op.LoadHalfUnsigned = MachineLoading always 2 Zeros
-meaning_of flags op.LoadWordUnsigned = MachineLoading only_64 4 Zeros
-meaning_of flags op.LoadDouble = MachineLoading only_64 8 Signs
-meaning_of flags op.StoreByte = MachineStoring always 1
-meaning_of flags op.StoreHalf = MachineStoring always 2
-meaning_of flags op.StoreWord = MachineStoring always 4
-meaning_of flags op.StoreDouble = MachineStoring only_64 8
+meaning_of flags op.LoadByte = loading_instruction op.LoadByte Signs
+meaning_of flags op.LoadHalf = loading_instruction op.LoadHalf Signs
+meaning_of flags op.LoadWord = loading_instruction op.LoadWord Signs
+meaning_of flags op.LoadByteUnsigned = loading_instruction op.LoadByteUnsigned Zeros
+meaning_of flags op.LoadHalfUnsigned = loading_instruction op.LoadHalfUnsigned Zeros
+meaning_of flags op.LoadWordUnsigned = loading_instruction op.LoadWordUnsigned Zeros
+meaning_of flags op.LoadDouble = loading_instruction op.LoadDouble Signs
+meaning_of flags op.StoreByte = storing_instruction op.StoreByte
+meaning_of flags op.StoreHalf = storing_instruction op.StoreHalf
+meaning_of flags op.StoreWord = storing_instruction op.StoreWord
+meaning_of flags op.StoreDouble = storing_instruction op.StoreDouble
 -- RISC-V, branches
 meaning_of flags op.BranchEqual = MachineBranching (λ x a b. a == b)
 meaning_of flags op.BranchNotEqual = MachineBranching (λ x a b. not (a == b))

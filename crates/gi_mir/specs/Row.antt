@@ -14,7 +14,10 @@ use Rattle.gi_mir.specs.declared.entry.Role.{Role}
 use Rattle.gi_mir.specs.declared.entry.Role.TheVariants as role
 use Rattle.gi_mir.specs.declared.entry.Standing.{Standing}
 use Rattle.gi_mir.specs.declared.typing.Class.TheVariants as class
-use Rattle.gi_mir.specs.Entries.{EntryData, generic, shared, selected, machine, loading, storing, acting, wide}
+use Rattle.gi_mir.specs.declared.entry.RoutineCall.{RoutineCall}
+use Rattle.gi_mir.specs.declared.entry.RoutineCall.TheVariants as routine_call
+use Rattle.gi_mir.specs.Entries.{EntryData, Room, generic, shared, selected, machine, loading, storing, acting, wide, commutative, calling}
+use Rattle.gi_mir.specs.Entries as room
 use Rattle.gi_mir.specs.Typings.{TypingData, no_types, no_sources, one_alike, two_alike, three_alike, one_pointer, from_pointer, to_pointer, truncation, extension, pointer_sum, comparison, selection, carry_out, carry_through, merge, unmerge, joining, store, one_condition}
 
 -- ══ Rows ══
@@ -152,73 +155,73 @@ copy_rows =
 abbrev pub entry_of : Opcode → EntryData
 -- in every stage, and two of them after selection
 entry_of Copy = shared (codes "COPY") copy_rows (one_alike class.Any)
-entry_of Phi = acting role.Phi (selected (codes "PHI") phi_rows joining)
-entry_of ImplicitDef = selected (codes "IMPLICIT_DEF") defined_rows (no_sources class.Any)
+entry_of Phi = acting role.Phi (selected (codes "PHI") phi_rows joining room.Unsaid)
+entry_of ImplicitDef = selected (codes "IMPLICIT_DEF") defined_rows (no_sources class.Any) room.Always
 entry_of PseudoCall = acting role.Call (shared (codes "PseudoCALL") call_rows no_types)
 entry_of PseudoReturn = acting role.Return (shared (codes "PseudoRET") returned_rows no_types)
 entry_of AdjustCallStackDown = shared (codes "ADJCALLSTACKDOWN") adjusted_rows no_types
 entry_of AdjustCallStackUp = shared (codes "ADJCALLSTACKUP") adjusted_rows no_types
 -- generic: constants, addresses and casts
-entry_of GenericImplicitDef = generic (codes "G_IMPLICIT_DEF") defined_rows (no_sources class.Any)
-entry_of GenericConstant = generic (codes "G_CONSTANT") constant_rows (no_sources class.Any)
-entry_of GenericFreeze = generic (codes "G_FREEZE") unary_rows (one_alike class.Any)
-entry_of GenericFrameIndex = generic (codes "G_FRAME_INDEX") frame_index_rows one_pointer
-entry_of GenericGlobalValue = generic (codes "G_GLOBAL_VALUE") global_value_rows one_pointer
-entry_of GenericPointerAdd = generic (codes "G_PTR_ADD") shift_rows pointer_sum
-entry_of GenericPointerToInteger = generic (codes "G_PTRTOINT") unary_typed_rows (from_pointer class.Scalar)
-entry_of GenericIntegerToPointer = generic (codes "G_INTTOPTR") unary_typed_rows (to_pointer class.Scalar)
-entry_of GenericTruncate = generic (codes "G_TRUNC") unary_typed_rows truncation
-entry_of GenericAnyExtend = generic (codes "G_ANYEXT") unary_typed_rows extension
-entry_of GenericZeroExtend = generic (codes "G_ZEXT") unary_typed_rows extension
-entry_of GenericSignExtend = generic (codes "G_SEXT") unary_typed_rows extension
-entry_of GenericSignExtendInRegister = generic (codes "G_SEXT_INREG") in_register_rows (one_alike class.Scalar)
-entry_of GenericMergeValues = generic (codes "G_MERGE_VALUES") merge_rows merge
-entry_of GenericUnmergeValues = generic (codes "G_UNMERGE_VALUES") unmerge_rows unmerge
+entry_of GenericImplicitDef = generic (codes "G_IMPLICIT_DEF") defined_rows (no_sources class.Any) room.Always
+entry_of GenericConstant = generic (codes "G_CONSTANT") constant_rows (no_sources class.Any) room.Unsaid
+entry_of GenericFreeze = generic (codes "G_FREEZE") unary_rows (one_alike class.Any) room.NoneWider
+entry_of GenericFrameIndex = generic (codes "G_FRAME_INDEX") frame_index_rows one_pointer room.NoneWider
+entry_of GenericGlobalValue = generic (codes "G_GLOBAL_VALUE") global_value_rows one_pointer room.Unsaid
+entry_of GenericPointerAdd = generic (codes "G_PTR_ADD") shift_rows pointer_sum room.Always
+entry_of GenericPointerToInteger = generic (codes "G_PTRTOINT") unary_typed_rows (from_pointer class.Scalar) room.Always
+entry_of GenericIntegerToPointer = generic (codes "G_INTTOPTR") unary_typed_rows (to_pointer class.Scalar) room.Always
+entry_of GenericTruncate = generic (codes "G_TRUNC") unary_typed_rows truncation room.Always
+entry_of GenericAnyExtend = generic (codes "G_ANYEXT") unary_typed_rows extension room.Always
+entry_of GenericZeroExtend = generic (codes "G_ZEXT") unary_typed_rows extension room.NoneWider
+entry_of GenericSignExtend = generic (codes "G_SEXT") unary_typed_rows extension room.Always
+entry_of GenericSignExtendInRegister = generic (codes "G_SEXT_INREG") in_register_rows (one_alike class.Scalar) room.Always
+entry_of GenericMergeValues = generic (codes "G_MERGE_VALUES") merge_rows merge room.AllTogether
+entry_of GenericUnmergeValues = generic (codes "G_UNMERGE_VALUES") unmerge_rows unmerge room.Always
 -- generic: arithmetic, logic and shifts
-entry_of GenericAdd = generic (codes "G_ADD") binary_rows (two_alike class.Scalar)
-entry_of GenericSubtract = generic (codes "G_SUB") binary_rows (two_alike class.Scalar)
-entry_of GenericMultiply = generic (codes "G_MUL") binary_rows (two_alike class.Scalar)
-entry_of GenericAnd = generic (codes "G_AND") binary_rows (two_alike class.Scalar)
-entry_of GenericOr = generic (codes "G_OR") binary_rows (two_alike class.Scalar)
-entry_of GenericXor = generic (codes "G_XOR") binary_rows (two_alike class.Scalar)
-entry_of GenericUnsignedDivide = generic (codes "G_UDIV") binary_rows (two_alike class.Scalar)
-entry_of GenericSignedDivide = generic (codes "G_SDIV") binary_rows (two_alike class.Scalar)
-entry_of GenericUnsignedRemainder = generic (codes "G_UREM") binary_rows (two_alike class.Scalar)
-entry_of GenericSignedRemainder = generic (codes "G_SREM") binary_rows (two_alike class.Scalar)
-entry_of GenericShiftLeft = generic (codes "G_SHL") shift_rows (two_alike class.Scalar)
-entry_of GenericLogicalShiftRight = generic (codes "G_LSHR") shift_rows (two_alike class.Scalar)
-entry_of GenericArithmeticShiftRight = generic (codes "G_ASHR") shift_rows (two_alike class.Scalar)
-entry_of GenericUnsignedAddOverflow = generic (codes "G_UADDO") overflow_rows carry_out
-entry_of GenericUnsignedSubtractOverflow = generic (codes "G_USUBO") overflow_rows carry_out
-entry_of GenericUnsignedAddCarry = generic (codes "G_UADDE") carry_rows carry_through
-entry_of GenericUnsignedSubtractBorrow = generic (codes "G_USUBE") carry_rows carry_through
-entry_of GenericUnsignedMultiplyHigh = generic (codes "G_UMULH") binary_rows (two_alike class.Register)
-entry_of GenericSignedMultiplyHigh = generic (codes "G_SMULH") binary_rows (two_alike class.Register)
-entry_of GenericCompare = generic (codes "G_ICMP") compare_rows comparison
-entry_of GenericSelect = generic (codes "G_SELECT") select_rows selection
-entry_of GenericSignedMinimum = generic (codes "G_SMIN") binary_rows (two_alike class.Scalar)
-entry_of GenericSignedMaximum = generic (codes "G_SMAX") binary_rows (two_alike class.Scalar)
-entry_of GenericUnsignedMinimum = generic (codes "G_UMIN") binary_rows (two_alike class.Scalar)
-entry_of GenericUnsignedMaximum = generic (codes "G_UMAX") binary_rows (two_alike class.Scalar)
-entry_of GenericAbsolute = generic (codes "G_ABS") unary_rows (one_alike class.Scalar)
-entry_of GenericCountLeadingZeros = generic (codes "G_CTLZ") unary_typed_rows (one_alike class.Scalar)
-entry_of GenericCountTrailingZeros = generic (codes "G_CTTZ") unary_typed_rows (one_alike class.Scalar)
-entry_of GenericPopulationCount = generic (codes "G_CTPOP") unary_typed_rows (one_alike class.Scalar)
-entry_of GenericCountLeadingZerosNotOfZero = generic (codes "G_CTLZ_ZERO_UNDEF") unary_typed_rows (one_alike class.Scalar)
-entry_of GenericCountTrailingZerosNotOfZero = generic (codes "G_CTTZ_ZERO_UNDEF") unary_typed_rows (one_alike class.Scalar)
-entry_of GenericByteSwap = generic (codes "G_BSWAP") unary_rows (one_alike class.Swappable)
-entry_of GenericFunnelShiftLeft = generic (codes "G_FSHL") funnel_rows (three_alike class.Rotatable)
-entry_of GenericFunnelShiftRight = generic (codes "G_FSHR") funnel_rows (three_alike class.Rotatable)
-entry_of GenericRotateLeft = generic (codes "G_ROTL") shift_rows (two_alike class.Rotatable)
-entry_of GenericRotateRight = generic (codes "G_ROTR") shift_rows (two_alike class.Rotatable)
+entry_of GenericAdd = commutative (generic (codes "G_ADD") binary_rows (two_alike class.Scalar) room.Always)
+entry_of GenericSubtract = generic (codes "G_SUB") binary_rows (two_alike class.Scalar) room.Always
+entry_of GenericMultiply = commutative (calling routine_call.WhereWider (generic (codes "G_MUL") binary_rows (two_alike class.Scalar) room.Always))
+entry_of GenericAnd = commutative (generic (codes "G_AND") binary_rows (two_alike class.Scalar) room.NoneWider)
+entry_of GenericOr = commutative (generic (codes "G_OR") binary_rows (two_alike class.Scalar) room.NoneWider)
+entry_of GenericXor = commutative (generic (codes "G_XOR") binary_rows (two_alike class.Scalar) room.NoneWider)
+entry_of GenericUnsignedDivide = calling routine_call.Always (generic (codes "G_UDIV") binary_rows (two_alike class.Scalar) room.NoneWider)
+entry_of GenericSignedDivide = calling routine_call.Always (generic (codes "G_SDIV") binary_rows (two_alike class.Scalar) room.Always)
+entry_of GenericUnsignedRemainder = calling routine_call.Always (generic (codes "G_UREM") binary_rows (two_alike class.Scalar) room.NoneWider)
+entry_of GenericSignedRemainder = calling routine_call.Always (generic (codes "G_SREM") binary_rows (two_alike class.Scalar) room.Always)
+entry_of GenericShiftLeft = generic (codes "G_SHL") shift_rows (two_alike class.Scalar) room.Always
+entry_of GenericLogicalShiftRight = generic (codes "G_LSHR") shift_rows (two_alike class.Scalar) room.NoneWider
+entry_of GenericArithmeticShiftRight = generic (codes "G_ASHR") shift_rows (two_alike class.Scalar) room.Always
+entry_of GenericUnsignedAddOverflow = generic (codes "G_UADDO") overflow_rows carry_out room.OneBit
+entry_of GenericUnsignedSubtractOverflow = generic (codes "G_USUBO") overflow_rows carry_out room.OneBit
+entry_of GenericUnsignedAddCarry = generic (codes "G_UADDE") carry_rows carry_through room.OneBit
+entry_of GenericUnsignedSubtractBorrow = generic (codes "G_USUBE") carry_rows carry_through room.OneBit
+entry_of GenericUnsignedMultiplyHigh = generic (codes "G_UMULH") binary_rows (two_alike class.Register) room.Always
+entry_of GenericSignedMultiplyHigh = generic (codes "G_SMULH") binary_rows (two_alike class.Register) room.Always
+entry_of GenericCompare = generic (codes "G_ICMP") compare_rows comparison room.OneBit
+entry_of GenericSelect = generic (codes "G_SELECT") select_rows selection room.NoneWiderThanCondition
+entry_of GenericSignedMinimum = generic (codes "G_SMIN") binary_rows (two_alike class.Scalar) room.NoneWider
+entry_of GenericSignedMaximum = generic (codes "G_SMAX") binary_rows (two_alike class.Scalar) room.NoneWider
+entry_of GenericUnsignedMinimum = generic (codes "G_UMIN") binary_rows (two_alike class.Scalar) room.NoneWider
+entry_of GenericUnsignedMaximum = generic (codes "G_UMAX") binary_rows (two_alike class.Scalar) room.NoneWider
+entry_of GenericAbsolute = generic (codes "G_ABS") unary_rows (one_alike class.Scalar) room.Always
+entry_of GenericCountLeadingZeros = generic (codes "G_CTLZ") unary_typed_rows (one_alike class.Scalar) room.NoneWider
+entry_of GenericCountTrailingZeros = generic (codes "G_CTTZ") unary_typed_rows (one_alike class.Scalar) room.NoneWider
+entry_of GenericPopulationCount = generic (codes "G_CTPOP") unary_typed_rows (one_alike class.Scalar) room.NoneWider
+entry_of GenericCountLeadingZerosNotOfZero = generic (codes "G_CTLZ_ZERO_UNDEF") unary_typed_rows (one_alike class.Scalar) room.NoneWider
+entry_of GenericCountTrailingZerosNotOfZero = generic (codes "G_CTTZ_ZERO_UNDEF") unary_typed_rows (one_alike class.Scalar) room.NoneWider
+entry_of GenericByteSwap = generic (codes "G_BSWAP") unary_rows (one_alike class.Swappable) room.NoneWider
+entry_of GenericFunnelShiftLeft = generic (codes "G_FSHL") funnel_rows (three_alike class.Rotatable) room.Always
+entry_of GenericFunnelShiftRight = generic (codes "G_FSHR") funnel_rows (three_alike class.Rotatable) room.Always
+entry_of GenericRotateLeft = generic (codes "G_ROTL") shift_rows (two_alike class.Rotatable) room.Always
+entry_of GenericRotateRight = generic (codes "G_ROTR") shift_rows (two_alike class.Rotatable) room.Always
 -- generic: memory, phis and branches
-entry_of GenericLoad = loading memory.Value (generic (codes "G_LOAD") unary_typed_rows (from_pointer class.Any))
-entry_of GenericZeroExtendLoad = loading memory.Extended (generic (codes "G_ZEXTLOAD") unary_typed_rows (from_pointer class.Scalar))
-entry_of GenericSignExtendLoad = loading memory.Extended (generic (codes "G_SEXTLOAD") unary_typed_rows (from_pointer class.Scalar))
-entry_of GenericStore = storing memory.Value (generic (codes "G_STORE") store_rows store)
-entry_of GenericPhi = acting role.Phi (generic (codes "G_PHI") phi_rows joining)
-entry_of GenericBranch = acting role.Jump (generic (codes "G_BR") branch_rows no_types)
-entry_of GenericBranchConditional = acting role.Branch (generic (codes "G_BRCOND") branch_conditional_rows one_condition)
+entry_of GenericLoad = loading memory.Value (generic (codes "G_LOAD") unary_typed_rows (from_pointer class.Any) room.Unsaid)
+entry_of GenericZeroExtendLoad = loading memory.Extended (generic (codes "G_ZEXTLOAD") unary_typed_rows (from_pointer class.Scalar) room.Unsaid)
+entry_of GenericSignExtendLoad = loading memory.Extended (generic (codes "G_SEXTLOAD") unary_typed_rows (from_pointer class.Scalar) room.Unsaid)
+entry_of GenericStore = storing memory.Value (generic (codes "G_STORE") store_rows store room.Unsaid)
+entry_of GenericPhi = acting role.Phi (generic (codes "G_PHI") phi_rows joining room.Unsaid)
+entry_of GenericBranch = acting role.Jump (generic (codes "G_BR") branch_rows no_types room.Unsaid)
+entry_of GenericBranchConditional = acting role.Branch (generic (codes "G_BRCOND") branch_conditional_rows one_condition room.Unsaid)
 -- target: two registers
 entry_of Add = machine (codes "ADD") registers_rows
 entry_of Subtract = machine (codes "SUB") registers_rows
@@ -313,6 +316,18 @@ typing_of op = (entry_of op).typing
 -- the instructions that a machine of 64 bits alone has
 abbrev pub is_wide_op : Opcode → Bool
 is_wide_op op = (entry_of op).is_wide
+
+-- the opcodes whose two operands may be exchanged
+abbrev pub is_commutative_op : Opcode → Bool
+is_commutative_op op = (entry_of op).is_commutative
+
+-- whether an opcode may become a call of a routine of the runtime
+abbrev pub routine_call_of : Opcode → RoutineCall
+routine_call_of op = (entry_of op).routine_call
+
+-- by which widths the results of an opcode have room in their registers
+abbrev pub room_of : Opcode → Room
+room_of op = (entry_of op).room
 
 -- the generic opcodes are those whose word begins with `G_`
 abbrev pub is_generic_op : Opcode → Bool

@@ -37,6 +37,15 @@ pub enum Standing {
     Both,
 }
 
+/// Whether an opcode may become a call of a routine of the runtime.
+#[derive(Clone, Copy, Debug, PartialEq, Eq)]
+pub enum RoutineCall {
+    Never,
+    /// Where its result is wider than a register.
+    WhereWider,
+    Always,
+}
+
 /// What is known of an opcode.
 #[derive(Drop)]
 pub struct Entry {
@@ -50,4 +59,7 @@ pub struct Entry {
     pub is_wide: bool,
     /// None in an instruction of the machine, of whose registers nothing is demanded.
     pub signature: Option<Signature>,
+    /// Whether its two operands may be exchanged.
+    pub is_commutative: bool,
+    pub routine_call: RoutineCall,
 }

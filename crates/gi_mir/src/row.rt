@@ -2,11 +2,11 @@
 
 ghost use Rattle.std.specs.Prelude.{◌≡◌, ◌≢◌, map, option_map, IfSome, IfNone};
 ghost use Rattle.gi_mir.specs.Typings.{typing_by};
-ghost use Rattle.gi_mir.specs.Row.{word_of, rows_of, access_of, memory_of, role_of, standing_of, typing_of, is_generic_op, is_terminator_op, is_unconditional_op, is_branch_op, is_call_op, is_phi_op, is_wide_op, opcode_of};
+ghost use Rattle.gi_mir.specs.Row.{word_of, rows_of, access_of, memory_of, role_of, standing_of, typing_of, is_commutative_op, routine_call_of, is_generic_op, is_terminator_op, is_unconditional_op, is_branch_op, is_call_op, is_phi_op, is_wide_op, opcode_of};
 ghost use Rattle.gi_mir.specs.declared.opcode.Opcode.{Opcode};
 
 use crate::entry::InMemory::{Bits, Extended, Nothing, Value};
-use crate::entry::{Entry, InMemory, Role, Standing};
+use crate::entry::{Entry, InMemory, Role, RoutineCall, Standing};
 use crate::opcode::Opcode;
 use crate::typing::Class::{Any, Register, Rotatable, Scalar, Swappable};
 use crate::typing::Signature::{
@@ -280,9 +280,10 @@ static OPCODES: [Opcode; 124] = [
 ];
 
 /// An entry of the table: where an opcode stands, whether a machine of 64 bits alone has it, its word, the rows of its
-/// operands, and the types of its registers; then what it does with memory and the types that a value has there, or its role.
+/// operands, and the types of its registers; then what it does with memory and the types that a value has there, or its role,
+/// or whether its operands may be exchanged and it may become a call of a routine.
 macro_rules! entry {
-    ($standing:ident, $wide:literal, $word:literal, $rows:ident, $signature:expr, $access:ident, $memory:expr, $role:ident) => {
+    ($standing:ident, $wide:literal, $word:literal, $rows:ident, $signature:expr, $access:ident, $memory:expr, $role:ident, $commutative:literal, $call:ident) => {
         Entry {
             word: $word,
             rows: $rows,
@@ -292,16 +293,18 @@ macro_rules! entry {
             standing: Standing::$standing,
             is_wide: $wide,
             signature: $signature,
+            is_commutative: $commutative,
+            routine_call: RoutineCall::$call,
         }
     };
     ($standing:ident, $wide:literal, $word:literal, $rows:ident, $signature:expr) => {
-        entry!($standing, $wide, $word, $rows, $signature, Neither, Nothing, Plain)
+        entry!($standing, $wide, $word, $rows, $signature, Neither, Nothing, Plain, false, Never)
     };
     ($standing:ident, $wide:literal, $word:literal, $rows:ident, $signature:expr, $access:ident, $memory:expr) => {
-        entry!($standing, $wide, $word, $rows, $signature, $access, $memory, Plain)
+        entry!($standing, $wide, $word, $rows, $signature, $access, $memory, Plain, false, Never)
     };
     ($standing:ident, $wide:literal, $word:literal, $rows:ident, $signature:expr, $role:ident) => {
-        entry!($standing, $wide, $word, $rows, $signature, Neither, Nothing, $role)
+        entry!($standing, $wide, $word, $rows, $signature, Neither, Nothing, $role, false, Never)
     };
 }
 
@@ -315,6 +318,23 @@ macro_rules! generic {
     };
     ($word:literal, $rows:ident, $signature:expr, $access:ident, $memory:expr) => {
         entry!(Generic, false, $word, $rows, Some($signature), $access, $memory)
+    };
+}
+
+/// The same, where its two operands may be exchanged.
+macro_rules! commutative {
+    ($word:literal, $rows:ident, $signature:expr) => {
+        commutative!($word, $rows, $signature, Never)
+    };
+    ($word:literal, $rows:ident, $signature:expr, $call:ident) => {
+        entry!(Generic, false, $word, $rows, Some($signature), Neither, Nothing, Plain, true, $call)
+    };
+}
+
+/// An opcode that stands before selection and may become a call of a routine of the runtime.
+macro_rules! dividing {
+    ($word:literal, $rows:ident, $signature:expr) => {
+        entry!(Generic, false, $word, $rows, Some($signature), Neither, Nothing, Plain, false, Always)
     };
 }
 
@@ -397,16 +417,16 @@ static ENTRIES: [Entry; 124] = [
     generic!("G_MERGE_VALUES", MERGE, Merge),
     generic!("G_UNMERGE_VALUES", UNMERGE, Unmerge),
     // generic: arithmetic, logic and shifts
-    generic!("G_ADD", BINARY, TwoAlike(Scalar)),
+    commutative!("G_ADD", BINARY, TwoAlike(Scalar)),
     generic!("G_SUB", BINARY, TwoAlike(Scalar)),
-    generic!("G_MUL", BINARY, TwoAlike(Scalar)),
-    generic!("G_AND", BINARY, TwoAlike(Scalar)),
-    generic!("G_OR", BINARY, TwoAlike(Scalar)),
-    generic!("G_XOR", BINARY, TwoAlike(Scalar)),
-    generic!("G_UDIV", BINARY, TwoAlike(Scalar)),
-    generic!("G_SDIV", BINARY, TwoAlike(Scalar)),
-    generic!("G_UREM", BINARY, TwoAlike(Scalar)),
-    generic!("G_SREM", BINARY, TwoAlike(Scalar)),
+    commutative!("G_MUL", BINARY, TwoAlike(Scalar), WhereWider),
+    commutative!("G_AND", BINARY, TwoAlike(Scalar)),
+    commutative!("G_OR", BINARY, TwoAlike(Scalar)),
+    commutative!("G_XOR", BINARY, TwoAlike(Scalar)),
+    dividing!("G_UDIV", BINARY, TwoAlike(Scalar)),
+    dividing!("G_SDIV", BINARY, TwoAlike(Scalar)),
+    dividing!("G_UREM", BINARY, TwoAlike(Scalar)),
+    dividing!("G_SREM", BINARY, TwoAlike(Scalar)),
     generic!("G_SHL", SHIFT, TwoAlike(Scalar)),
     generic!("G_LSHR", SHIFT, TwoAlike(Scalar)),
     generic!("G_ASHR", SHIFT, TwoAlike(Scalar)),
@@ -529,6 +549,8 @@ impl Opcode {
         ensures standing { result.now.standing ≡ standing_of self }
         ensures is_wide { result.now.is_wide ≡ is_wide_op self }
         ensures typing { option_map typing_by result.now.signature ≡ typing_of self }
+        ensures is_commutative { result.now.is_commutative ≡ is_commutative_op self }
+        ensures routine_call { result.now.routine_call ≡ routine_call_of self }
     {
         &ENTRIES[self as usize]
     }
@@ -606,6 +628,20 @@ impl Opcode {
         ensures { result ≡ is_wide_op self }
     {
         self.entry().is_wide
+    }
+
+    /// Whether the two operands of this opcode may be exchanged.
+    pub fn is_commutative(self) -> bool
+        ensures { result ≡ is_commutative_op self }
+    {
+        self.entry().is_commutative
+    }
+
+    /// Whether this opcode may become a call of a routine of the runtime.
+    pub fn routine_call(self) -> RoutineCall
+        ensures { result ≡ routine_call_of self }
+    {
+        self.entry().routine_call
     }
 
     /// Whether this opcode's word begins with `G_`.

@@ -1,5 +1,6 @@
 -- Where a rule fits, and with which binding.
 use Rattle.std.specs.Prelude.{ℕ, ℤ, pos, negsuc, Bool, true, false, ◌&&◌, List, [], ◌∷◌, Option, Some, None, ◌==◌, if◌then◌else◌, int_le}
+use Rattle.gi_mir.specs.Row.{is_commutative_op}
 use Rattle.std.specs.Int.{is_power_of_two}
 use Rattle.std.specs.List.{list_all}
 use Rattle.std.specs.Option.{option_and_then, option_map_or, option_or}
@@ -7,7 +8,6 @@ use Rattle.std.specs.Ordering.{int_eq}
 use Rattle.gi_llt.specs.declared.Llt.{Llt}
 use Rattle.gi_mir.specs.contracts.opcode.OpcodePartialEq.TheImpl as op_eq
 use Rattle.gi_mir.specs.declared.opcode.Opcode.{Opcode}
-use Rattle.gi_mir.specs.declared.opcode.Opcode.TheVariants as op
 use Rattle.gi_mir.specs.declared.operand.Operand.{Operand}
 use Rattle.gi_mir.specs.declared.operand.Reg.{Reg}
 use Rattle.gi_mir.specs.Data.{InstrData, FunctionData}
@@ -62,15 +62,6 @@ all_pass f b tests = list_all (passes f b) tests
 abbrev pub same_op : Opcode → Opcode → Bool
 same_op = (op_eq.ghosts).eq
 
--- the opcodes whose operands fit in either order
-abbrev pub is_commutative : Opcode → Bool
-is_commutative op.GenericAdd = true
-is_commutative op.GenericMultiply = true
-is_commutative op.GenericAnd = true
-is_commutative op.GenericOr = true
-is_commutative op.GenericXor = true
-is_commutative _ = false
-
 -- a result, and its two operands the other way round
 abbrev pub exchanged : List Operand → List Operand
 exchanged (d ∷ a ∷ b ∷ []) = d ∷ b ∷ a ∷ []
@@ -94,7 +85,7 @@ bound_as_written m i b = if same_op i.op m.op then slots_bound m.slots i.operand
 
 -- and what it binds with them the other way round, where they fit in either order
 abbrev pub bound_exchanged : MatchData → InstrData → Binding → Option Binding
-bound_exchanged m i b = if same_op i.op m.op && is_commutative m.op then slots_bound m.slots (exchanged i.operands) b else None
+bound_exchanged m i b = if same_op i.op m.op && is_commutative_op m.op then slots_bound m.slots (exchanged i.operands) b else None
 
 -- What matches bind, the first of them at the instruction here, each further one at the definition of a register that is
 -- bound before it, so that the tests pass. Operands are tried as they are written first.

@@ -7,7 +7,7 @@ ghost use Rattle.gi_mir.specs.Registers.{kind_in_operands, kind_of, type_of_kind
 ghost use Rattle.std.specs.Int.{is_power_of_two};
 ghost use Rattle.std.specs.Ordering.{int_eq};
 ghost use Rattle.gi_pattern.specs.Binding.{bits_of, empty_binding, slots_bound};
-ghost use Rattle.gi_pattern.specs.Fitting.{all_pass, binding_at, bound_as_written, bound_exchanged, definition_at, exchanged, found, is_between, is_commutative, passes, place_defined, same_registers, same_types, type_at, value_passes};
+ghost use Rattle.gi_pattern.specs.Fitting.{all_pass, binding_at, bound_as_written, bound_exchanged, definition_at, exchanged, found, is_between, passes, place_defined, same_registers, same_types, type_at, value_passes};
 
 use crate::binding::{Binding, BoundValue};
 use crate::rule::{Match, Rule, Slot, Test};
@@ -135,20 +135,6 @@ fn all_pass(function: &Function, bound: Binding, tests: &[Test]) -> bool
     tests.iter().all(|test| passes(function, bound, *test))
 }
 
-/// Whether the operands of an opcode fit in either order.
-fn is_commutative(op: Opcode) -> bool
-    ensures { result ≡ is_commutative op }
-{
-    matches!(
-        op,
-        Opcode::GenericAdd
-            | Opcode::GenericMultiply
-            | Opcode::GenericAnd
-            | Opcode::GenericOr
-            | Opcode::GenericXor
-    )
-}
-
 /// The place of the register that a match defines.
 fn place_defined(slots: &[Slot]) -> Option<u8>
     ensures { result ≡ place_defined slots.now }
@@ -185,7 +171,7 @@ fn bound_as_written(asked: &Match, instr: &Instr, bound: Binding) -> Option<Bind
 fn bound_exchanged(asked: &Match, instr: &Instr, bound: Binding) -> Option<Binding>
     ensures { result ≡ bound_exchanged asked.now instr.now bound }
 {
-    if instr.op == asked.op && is_commutative(asked.op) {
+    if instr.op == asked.op && asked.op.is_commutative() {
         with_exchanged(bound, asked.slots.as_slice(), instr.operands.as_slice())
     } else {
         None

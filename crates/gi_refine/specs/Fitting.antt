@@ -1,6 +1,9 @@
 -- Where each value fits its register: a premise of rules on values, from tests of instructions.
 use Rattle.std.specs.Prelude.{ℕ, ◌^◌, ◌<◌, Bool, true, false, ◌&&◌, ◌||◌, nat_lt, ◌==◌, List, [], ◌∷◌, IfSome}
 use Rattle.gi_mir.specs.Data.{InstrData, BlockData}
+use Rattle.gi_mir.specs.Entries.{Room}
+use Rattle.gi_mir.specs.Entries as room
+use Rattle.gi_mir.specs.Row.{room_of}
 use Rattle.gi_mir.specs.declared.opcode.Opcode.{Opcode}
 use Rattle.gi_mir.specs.declared.opcode.Opcode.TheVariants as op
 use Rattle.gi_mir.specs.declared.operand.Operand.{Operand}
@@ -17,32 +20,12 @@ pub record IsFit (s : Setting) (state : State) : Type 0 where
 -- ══ Instructions that keep it ══
 
 -- generic opcodes whose results fit, whatever the widths of their operands are
+abbrev pub is_always : Room → Bool
+is_always room.Always = true
+is_always _ = false
+
 abbrev pub always_fits : Opcode → Bool
-always_fits op.ImplicitDef = true
-always_fits op.GenericImplicitDef = true
-always_fits op.GenericTruncate = true
-always_fits op.GenericAnyExtend = true
-always_fits op.GenericSignExtend = true
-always_fits op.GenericPointerAdd = true
-always_fits op.GenericPointerToInteger = true
-always_fits op.GenericIntegerToPointer = true
-always_fits op.GenericAdd = true
-always_fits op.GenericSubtract = true
-always_fits op.GenericMultiply = true
-always_fits op.GenericShiftLeft = true
-always_fits op.GenericArithmeticShiftRight = true
-always_fits op.GenericSignedDivide = true
-always_fits op.GenericSignedRemainder = true
-always_fits op.GenericSignExtendInRegister = true
-always_fits op.GenericAbsolute = true
-always_fits op.GenericFunnelShiftLeft = true
-always_fits op.GenericFunnelShiftRight = true
-always_fits op.GenericRotateLeft = true
-always_fits op.GenericRotateRight = true
-always_fits op.GenericUnmergeValues = true
-always_fits op.GenericUnsignedMultiplyHigh = true
-always_fits op.GenericSignedMultiplyHigh = true
-always_fits _ = false
+always_fits o = is_always (room_of o)
 
 -- a constant that fits its register
 abbrev pub is_fitting_constant : (width : ℕ → ℕ) → Opcode → List Operand → Bool

@@ -1,5 +1,6 @@
 -- What a match binds of an instruction, slot by slot.
 use Rattle.std.proofs.Common.{◌≡◌, ◌⊎◌, inl, inr, ℕ, zero, suc, ◌≤◌, Bool, true, false, cond, ◌&&◌, ◌==◌, nat_le, List, [], ◌∷◌, Option, Some, None, set, slice_get, refl, sym, ap, ap₂, ◌∙◌, subst, eqb-true}
+use Rattle.gi_mir.specs.Row.{is_commutative_op}
 use Rattle.std.proofs.lemmas.Bool.{and_parts, leb-true}
 use Rattle.std.proofs.lemmas.Bool.Decides.{Decides-int_eq}
 use Rattle.std.specs.Option.{option_and_then, option_map_or, option_or}
@@ -15,7 +16,7 @@ use Rattle.gi_mir.specs.declared.operand.Pred.TheVariants.{Eq}
 use Rattle.gi_mir.specs.declared.operand.Reg.{Reg}
 use Rattle.gi_pattern.specs.Binding.{constant_value, kept_if, pred_bound, register_at, register_bound, same_pred, slot_bound, slots_bound, value_at, value_bound, whole_value, with_pred, with_value}
 use Rattle.gi_pattern.specs.Data.{MatchData}
-use Rattle.gi_pattern.specs.Fitting.{all_pass, bound_as_written, bound_exchanged, definition_at, exchanged, found, is_commutative, same_op}
+use Rattle.gi_pattern.specs.Fitting.{all_pass, bound_as_written, bound_exchanged, definition_at, exchanged, found, same_op}
 use Rattle.gi_pattern.specs.Making.{pred_made}
 use Rattle.gi_pattern.specs.declared.binding.Binding.{Binding}
 use Rattle.gi_pattern.specs.declared.binding.BoundValue.{BoundValue}
@@ -225,7 +226,7 @@ slots_bind (s ∷ ss) (o ∷ os) b c h = by (slot_bound s o b) refl h (λ d l. s
 
 -- how a match's slots stand to the operands
 abbrev pub AreInOrder : Binding → MatchData → InstrData → Type 0
-AreInOrder c m i = SlotsAre c m.slots i.operands ⊎ ((is_commutative m.op ≡ true) × SlotsAre c m.slots (exchanged i.operands))
+AreInOrder c m i = SlotsAre c m.slots i.operands ⊎ ((is_commutative_op m.op ≡ true) × SlotsAre c m.slots (exchanged i.operands))
 
 pub order_stays : (m : MatchData) (i : InstrData) (b c : Binding) → Stays b c → AreInOrder b m i → AreInOrder c m i
 order_stays m i b c more (inl are) = inl (slots_stay m.slots i.operands b c more are)
@@ -266,8 +267,8 @@ first_found f tests m ms (Some i) b c h = by (either _ _ c h)
         record { instr = i; there = refl; middle = d; fits = record { op = same_op_is i.op m.op same; operands = i.operands; order = inl refl; bound = slots }; order = inl are; stays = stays; rest = then }
     by (inr g) =
         let (d, bound, then) = and_then (λ d. found f tests ms (definition_at f d ms) d) (bound_exchanged m i b) c g in
-        let (same, slots) = where_true (same_op i.op m.op && is_commutative m.op) (slots_bound m.slots (exchanged i.operands) b) d bound in
-        let both : (same_op i.op m.op ≡ true) × (is_commutative m.op ≡ true) = and_parts (same_op i.op m.op) (is_commutative m.op) same in
+        let (same, slots) = where_true (same_op i.op m.op && is_commutative_op m.op) (slots_bound m.slots (exchanged i.operands) b) d bound in
+        let both : (same_op i.op m.op ≡ true) × (is_commutative_op m.op ≡ true) = and_parts (same_op i.op m.op) (is_commutative_op m.op) same in
         let (stays, are) = slots_bind m.slots (exchanged i.operands) b d slots in
         record { instr = i; there = refl; middle = d; fits = record { op = same_op_is i.op m.op both.0; operands = exchanged i.operands; order = inr refl; bound = slots }; order = inr (both.1, are); stays = stays; rest = then }
 

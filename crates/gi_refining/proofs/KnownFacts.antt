@@ -1,5 +1,6 @@
 -- A definition that holds between present values is a fact of the rule that found it.
 use Rattle.std.proofs.Common.{◌≡◌, ℕ, ◌<◌, ◌^◌, Bool, true, false, not, ◌&&◌, ◌||◌, ◌==◌, nat_lt, List, [], ◌∷◌, ◌++◌, Option, Some, None, map, option_map, flat_map, slice_get, ◌⊎◌, inl, inr, ⊎_elim, refl, sym, ap, ap₂, ◌∙◌, subst, eqb-true, mod-eq_of_lt}
+use Rattle.gi_mir.specs.Row.{is_commutative_op}
 use Rattle.std.proofs.lemmas.Bool.{and_parts, or_cases, or_left, or_right, not-true, ltb-true}
 use Rattle.std.specs.List.{list_all, list_any}
 use Rattle.std.specs.Option.{option_map_or}
@@ -20,7 +21,7 @@ use Rattle.gi_meaning.specs.Runs.{Setting, argument_of, arguments_of, joined_lis
 use Rattle.gi_meaning.specs.State.{Outside, State, World}
 use Rattle.gi_pattern.specs.Binding.{register_at, value_at, whole_value}
 use Rattle.gi_pattern.specs.Data.{MatchData}
-use Rattle.gi_pattern.specs.Fitting.{exchanged, is_commutative}
+use Rattle.gi_pattern.specs.Fitting.{exchanged}
 use Rattle.gi_pattern.specs.Making.{register_or}
 use Rattle.gi_pattern.specs.declared.binding.Binding.{Binding}
 use Rattle.gi_pattern.specs.declared.binding.BoundValue.{BoundValue}
@@ -259,7 +260,7 @@ pub turned_looked : (ss : List Slot) → is_of_two ss ≡ true → list_all is_l
 turned_looked (slot.Def d ∷ slot.Use l ∷ slot.Use r ∷ []) two = refl
 turned_looked _ two = cc
 
-turned_fact : (x : ℕ) (w : World) (types : Types) (c : Binding) (flags : Flags) (names : Names) (o : Opcode) (ss : List Slot) → is_commutative o ≡ true → is_of_two ss ≡ true → (outside : Outside) (env : Environment)
+turned_fact : (x : ℕ) (w : World) (types : Types) (c : Binding) (flags : Flags) (names : Names) (o : Opcode) (ss : List Slot) → is_commutative_op o ≡ true → is_of_two ss ≡ true → (outside : Outside) (env : Environment)
     → Holds x w outside env (Defines (asked x types c flags names (record { op = o; slots = other_way ss })) (map (λ place. position place names) (results_of (other_way ss))))
     → Holds x w outside env (Defines (asked x types c flags names (record { op = o; slots = ss })) (map (λ place. position place names) (results_of ss)))
 turned_fact x w types c flags names o (slot.Def d ∷ slot.Use l ∷ slot.Use r ∷ []) commutes two outside env (values, acts, stand) = (
@@ -269,8 +270,8 @@ turned_fact x w types c flags names o (slot.Def d ∷ slot.Use l ∷ slot.Use r 
 )
 turned_fact x w types c flags names o _ commutes two outside env holds = cc
 
-pub two_of : (m : MatchData) → (not (is_commutative m.op) || is_of_two m.slots) ≡ true → is_commutative m.op ≡ true → is_of_two m.slots ≡ true
-two_of m h commutes = by (is_commutative m.op) (is_of_two m.slots) h commutes
+pub two_of : (m : MatchData) → (not (is_commutative_op m.op) || is_of_two m.slots) ≡ true → is_commutative_op m.op ≡ true → is_of_two m.slots ≡ true
+two_of m h commutes = by (is_commutative_op m.op) (is_of_two m.slots) h commutes
   where
     by : (a b : Bool) → (not a || b) ≡ true → a ≡ true → b ≡ true
     by true b h so = h
@@ -278,7 +279,7 @@ two_of m h commutes = by (is_commutative m.op) (is_of_two m.slots) h commutes
 
 -- the definition that a match found is its fact
 pub definition_fact : (x : ℕ) (names : List (List ℕ)) (f : FunctionData) (w : World) (state : State) (c : Binding) (places : Names) (env : Environment) → Stands (width_in x f) state.values c places env
-    → (m : MatchData) (i : InstrData) → IsDefinedBy x names f w state m i → list_all is_looked_at m.slots ≡ true → are_named places m.slots ≡ true → (not (is_commutative m.op) || is_of_two m.slots) ≡ true → AreInOrder c m i
+    → (m : MatchData) (i : InstrData) → IsDefinedBy x names f w state m i → list_all is_looked_at m.slots ≡ true → are_named places m.slots ≡ true → (not (is_commutative_op m.op) || is_of_two m.slots) ≡ true → AreInOrder c m i
     → (outside : Outside) → Holds x w outside env (Defines (asked x (types_in x f c) c i.flags places m) (map (λ place. position place places) (results_of m.slots)))
 definition_fact x names f w state c places env stands m i by looked named ordered (inl are) outside = written_fact x names f w state c places env stands m i by looked named are outside
 definition_fact x names f w state c places env stands m i by looked named ordered (inr turned) outside =
@@ -372,7 +373,7 @@ written_there x names f w state c m i by are place inside =
     (in_either place (results_of m.slots) (sources_of m.slots) inside)
 
 pub definition_there : (x : ℕ) (names : List (List ℕ)) (f : FunctionData) (w : World) (state : State) (c : Binding) (m : MatchData) (i : InstrData) → IsDefinedBy x names f w state m i
-    → (not (is_commutative m.op) || is_of_two m.slots) ≡ true → AreInOrder c m i → (place : ℕ) → is_in place (results_of m.slots ++ sources_of m.slots) ≡ true → HasValue (state.values (register_or c place).0)
+    → (not (is_commutative_op m.op) || is_of_two m.slots) ≡ true → AreInOrder c m i → (place : ℕ) → is_in place (results_of m.slots ++ sources_of m.slots) ≡ true → HasValue (state.values (register_or c place).0)
 definition_there x names f w state c m i by ordered (inl are) place inside = written_there x names f w state c m i by are place inside
 definition_there x names f w state c m i by ordered (inr turned) place inside =
     let two : is_of_two m.slots ≡ true = two_of m ordered turned.0 in

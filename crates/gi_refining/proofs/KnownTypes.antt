@@ -12,7 +12,7 @@ use Rattle.gi_mir.specs.Data.{InstrData, FunctionData}
 use Rattle.gi_mir.specs.Edit.{IsLive, all_instrs, instr_of}
 use Rattle.gi_mir.specs.Ids.{AreOwnIds}
 use Rattle.gi_mir.specs.Registers.{kind_of, type_of_kind}
-use Rattle.gi_mir.specs.Row.{typing_of}
+use Rattle.gi_mir.specs.Row.{typing_of, is_commutative_op}
 use Rattle.gi_mir.specs.Types.{is_of, same_type}
 use Rattle.gi_mir.specs.Typings.{TypingData, two_alike}
 use Rattle.gi_mir.specs.declared.opcode.Opcode.{Opcode}
@@ -29,7 +29,7 @@ use Rattle.gi_mir.specs.declared.typing.Relation.{Relation}
 use Rattle.gi_mir.specs.declared.typing.Relation.TheVariants as relation
 use Rattle.gi_pattern.specs.Binding.{empty_binding, register_at}
 use Rattle.gi_pattern.specs.Data.{MakeData, MatchData}
-use Rattle.gi_pattern.specs.Fitting.{all_pass, binding_at, definition_at, exchanged, found as found_from, is_commutative, passes, same_types, type_at}
+use Rattle.gi_pattern.specs.Fitting.{all_pass, binding_at, definition_at, exchanged, found as found_from, passes, same_types, type_at}
 use Rattle.gi_pattern.specs.declared.binding.Binding.{Binding}
 use Rattle.gi_pattern.specs.declared.binding.BoundValue.{BoundValue}
 use Rattle.gi_pattern.specs.declared.rule.Slot.{Slot}
@@ -275,7 +275,7 @@ written_typed x f b typing _ os first looked are owned fill met = cc
 
 -- ══ Two operands the other way round ══
 
-commutative_row : (o : Opcode) → is_commutative o ≡ true → (c : Class) × (typing_of o ≡ Some (two_alike c))
+commutative_row : (o : Opcode) → is_commutative_op o ≡ true → (c : Class) × (typing_of o ≡ Some (two_alike c))
 commutative_row op.GenericAdd h = (class.Scalar, refl)
 commutative_row op.GenericMultiply h = (class.Scalar, refl)
 commutative_row op.GenericAnd h = (class.Scalar, refl)
@@ -295,7 +295,7 @@ turned_alike x k a b c h = by (is_of x k a) (same_type a b) (same_type a c) h
 one_typing : (a b : TypingData) → Some a ≡ Some b → a ≡ b
 one_typing a b h = cc
 
-turned_typed : (x : ℕ) (f : FunctionData) (b : Binding) (o : Opcode) (typing : TypingData) (ss : List Slot) (os : List Operand) → typing_of o ≡ Some typing → is_commutative o ≡ true → is_of_two ss ≡ true → SlotsAre b ss (exchanged os) → list_all (has_type f) os ≡ true
+turned_typed : (x : ℕ) (f : FunctionData) (b : Binding) (o : Opcode) (typing : TypingData) (ss : List Slot) (os : List Operand) → typing_of o ≡ Some typing → is_commutative_op o ≡ true → is_of_two ss ≡ true → SlotsAre b ss (exchanged os) → list_all (has_type f) os ≡ true
     → fills typing (any_types (results_of ss)) (any_types (sources_of ss)) ≡ true → unmet x (type_of_register f) (Some typing) os ≡ None
     → are_typed x typing (map (types_in x f b) (results_of ss)) (map (types_in x f b) (sources_of ss)) ≡ true
 turned_typed x f b o typing (slot.Def d ∷ slot.Use l ∷ slot.Use r ∷ []) os row commutes two are owned fill met =
@@ -328,7 +328,7 @@ reads_constant : (x : ℕ) (f : FunctionData) (b : Binding) (o : Opcode) (ss : L
 reads_constant x f b op.GenericConstant (slot.Def d ∷ slot.Value v ∷ []) os are sized = constant_read x f b d v os are sized
 reads_constant x f b _ _ os are sized = tt
 
-commuting_reads : (x : ℕ) (f : FunctionData) (b : Binding) (o : Opcode) (ss : List Slot) → is_commutative o ≡ true → ReadsConstant x (types_in x f b) b o ss
+commuting_reads : (x : ℕ) (f : FunctionData) (b : Binding) (o : Opcode) (ss : List Slot) → is_commutative_op o ≡ true → ReadsConstant x (types_in x f b) b o ss
 commuting_reads x f b op.GenericConstant ss h = cc
 commuting_reads x f b _ ss h = tt
 

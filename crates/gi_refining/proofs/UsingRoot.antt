@@ -7,7 +7,7 @@ use Rattle.gi_mir.specs.Data.{InstrData, FunctionData, reg_of}
 use Rattle.gi_mir.specs.Edit.{IsLive, all_instrs, defines, home_of, instr_of}
 use Rattle.gi_mir.specs.Formed.{is_formed}
 use Rattle.gi_mir.specs.Ids.{AreOwnIds}
-use Rattle.gi_mir.specs.Row.{access_of}
+use Rattle.gi_mir.specs.Row.{access_of, is_commutative_op}
 use Rattle.gi_mir.specs.declared.operand.Flags.{Flags}
 use Rattle.gi_mir.specs.declared.operand.Operand.{Operand}
 use Rattle.gi_mir.specs.declared.operand.Operand.TheVariants as operand
@@ -22,7 +22,7 @@ use Rattle.gi_refine.specs.Values.{is_pure}
 use Rattle.gi_pattern.specs.Applying.{applied}
 use Rattle.gi_pattern.specs.Binding.{empty_binding}
 use Rattle.gi_pattern.specs.Data.{MakeData, MatchData, RuleData}
-use Rattle.gi_pattern.specs.Fitting.{binding_at, exchanged, found, is_commutative}
+use Rattle.gi_pattern.specs.Fitting.{binding_at, exchanged, found}
 use Rattle.gi_pattern.specs.Making.{register_or}
 use Rattle.gi_pattern.specs.declared.binding.Binding.{Binding}
 use Rattle.gi_pattern.specs.declared.rule.Slot.{Slot}
@@ -71,11 +71,11 @@ binary_shape (slot.Def result ∷ slot.Use left ∷ slot.Use right ∷ []) h = (
 binary_shape _ h = cc
 
 -- its operands are bound in one of the ways in which a use asks for it
-root_bound : (b : Binding) (root : MatchData) (instr : InstrData) → is_ordered root ≡ true → AreBoundTo b root.slots instr.operands ⊎ ((is_commutative root.op ≡ true) × AreBoundTo b root.slots (exchanged instr.operands)) → IsBound b root instr
-root_bound b root instr either bound = ⊎_elim (λ written. inl written) (λ other. turned other.0 other.1 (or_cases (not (is_commutative root.op)) (is_of_two root.slots) either)) bound
+root_bound : (b : Binding) (root : MatchData) (instr : InstrData) → is_ordered root ≡ true → AreBoundTo b root.slots instr.operands ⊎ ((is_commutative_op root.op ≡ true) × AreBoundTo b root.slots (exchanged instr.operands)) → IsBound b root instr
+root_bound b root instr either bound = ⊎_elim (λ written. inl written) (λ other. turned other.0 other.1 (or_cases (not (is_commutative_op root.op)) (is_of_two root.slots) either)) bound
   where
-    turned : is_commutative root.op ≡ true → AreBoundTo b root.slots (exchanged instr.operands) → (not (is_commutative root.op) ≡ true) ⊎ (is_of_two root.slots ≡ true) → IsBound b root instr
-    turned commutes other (inl apart) = absurd (true≢false (sym commutes ∙ not-true (is_commutative root.op) apart))
+    turned : is_commutative_op root.op ≡ true → AreBoundTo b root.slots (exchanged instr.operands) → (not (is_commutative_op root.op) ≡ true) ⊎ (is_of_two root.slots ≡ true) → IsBound b root instr
+    turned commutes other (inl apart) = absurd (true≢false (sym commutes ∙ not-true (is_commutative_op root.op) apart))
     turned commutes other (inr shape) =
         let (result, left, right, slots) = binary_shape root.slots shape in inr (record { result = result; left = left; right = right; slots = slots; commutes = commutes; bound = other })
 
@@ -184,7 +184,7 @@ here_of u usable valid own had live fits at = record {
     some : (p : ℕ) × (is_in p (places_defined u.root.slots) ≡ true)
     some = some_place u.root.slots (and_parts (computes u.root.op && list_all is_looked_at u.root.slots) (list_any is_result u.root.slots) fit.keeps.pure).1
 
-    first : (u.instr.op ≡ u.root.op) × (AreBoundTo u.b u.root.slots u.instr.operands ⊎ ((is_commutative u.root.op ≡ true) × AreBoundTo u.b u.root.slots (exchanged u.instr.operands)))
+    first : (u.instr.op ≡ u.root.op) × (AreBoundTo u.b u.root.slots u.instr.operands ⊎ ((is_commutative_op u.root.op ≡ true) × AreBoundTo u.b u.root.slots (exchanged u.instr.operands)))
     first = root-fits u.f u.tests u.root u.definitions u.instr empty_binding u.b bound
 
 -- ══ Registers ══

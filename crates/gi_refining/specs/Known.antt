@@ -5,7 +5,7 @@ use Rattle.std.specs.Option.{option_map_or}
 use Rattle.gi_mir.specs.Data.{InstrData, BlockData, FunctionData, no_flags}
 use Rattle.gi_mir.specs.Edit.{all_instrs, home_of}
 use Rattle.gi_mir.specs.Formed.{is_constant, is_formed}
-use Rattle.gi_mir.specs.Row.{is_phi_op}
+use Rattle.gi_mir.specs.Row.{is_phi_op, is_commutative_op}
 use Rattle.gi_mir.specs.declared.opcode.Opcode.{Opcode}
 use Rattle.gi_mir.specs.declared.opcode.Opcode.TheVariants as op
 use Rattle.gi_mir.specs.declared.operand.Flags.{Flags}
@@ -15,7 +15,7 @@ use Rattle.gi_meaning.specs.Meaning.{meaning_of}
 use Rattle.gi_meaning.specs.Runs.{after_phis, setting_of}
 use Rattle.gi_meaning.specs.State.{IsWorld, State, World}
 use Rattle.gi_pattern.specs.Data.{MatchData, RuleData}
-use Rattle.gi_pattern.specs.Fitting.{definition_at, is_commutative}
+use Rattle.gi_pattern.specs.Fitting.{definition_at}
 use Rattle.gi_pattern.specs.declared.binding.Binding.{Binding}
 use Rattle.gi_pattern.specs.declared.rule.Slot.{Slot}
 use Rattle.gi_pattern.specs.declared.rule.Slot.TheVariants as slot
@@ -41,7 +41,7 @@ is_of_two _ = false
 
 -- a match whose operands fit in either order takes two registers
 abbrev pub is_ordered : MatchData → Bool
-is_ordered m = not (is_commutative m.op) || is_of_two m.slots
+is_ordered m = not (is_commutative_op m.op) || is_of_two m.slots
 
 -- what stands for the registers of a match is among the names
 abbrev pub are_named : Names → List Slot → Bool

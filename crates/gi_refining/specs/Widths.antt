@@ -4,6 +4,9 @@ use Rattle.std.specs.List.{list_all}
 use Rattle.gi_llt.specs.Llt.{width_of}
 use Rattle.gi_mir.specs.Data.{InstrData, FunctionData}
 use Rattle.gi_mir.specs.Edit.{all_instrs}
+use Rattle.gi_mir.specs.Entries.{Room}
+use Rattle.gi_mir.specs.Entries as room
+use Rattle.gi_mir.specs.Row.{room_of}
 use Rattle.gi_mir.specs.declared.opcode.Opcode.{Opcode}
 use Rattle.gi_mir.specs.declared.opcode.Opcode.TheVariants as op
 use Rattle.gi_mir.specs.declared.operand.MemOp.{MemOp}
@@ -48,36 +51,16 @@ abbrev pub holds_all : (written read : List ℕ) → Bool
 holds_all [] ms = true
 holds_all (n ∷ ns) ms = nat_le (total ms) n
 
--- Results that fit by these widths: at most an operand, or a count of an operand's bits; the condition of a choice is no such
--- operand. One bit has room in a place with a bit, and parts in a place with room for all.
+-- by these widths there is room for the results
+abbrev pub has_room : Room → (written read : List ℕ) → Bool
+has_room room.NoneWider ns ms = none_wider ns ms
+has_room room.NoneWiderThanCondition ns ms = none_wider ns (drop 1 ms)
+has_room room.OneBit ns ms = have_bits ns
+has_room room.AllTogether ns ms = holds_all ns ms
+has_room _ ns ms = false
+
 abbrev pub fits_by_widths : Opcode → (written read : List ℕ) → Bool
-fits_by_widths op.GenericFreeze ns ms = none_wider ns ms
-fits_by_widths op.GenericFrameIndex ns ms = none_wider ns ms
-fits_by_widths op.GenericZeroExtend ns ms = none_wider ns ms
-fits_by_widths op.GenericAnd ns ms = none_wider ns ms
-fits_by_widths op.GenericOr ns ms = none_wider ns ms
-fits_by_widths op.GenericXor ns ms = none_wider ns ms
-fits_by_widths op.GenericUnsignedDivide ns ms = none_wider ns ms
-fits_by_widths op.GenericUnsignedRemainder ns ms = none_wider ns ms
-fits_by_widths op.GenericLogicalShiftRight ns ms = none_wider ns ms
-fits_by_widths op.GenericSelect ns ms = none_wider ns (drop 1 ms)
-fits_by_widths op.GenericSignedMinimum ns ms = none_wider ns ms
-fits_by_widths op.GenericSignedMaximum ns ms = none_wider ns ms
-fits_by_widths op.GenericUnsignedMinimum ns ms = none_wider ns ms
-fits_by_widths op.GenericUnsignedMaximum ns ms = none_wider ns ms
-fits_by_widths op.GenericCountLeadingZeros ns ms = none_wider ns ms
-fits_by_widths op.GenericCountTrailingZeros ns ms = none_wider ns ms
-fits_by_widths op.GenericPopulationCount ns ms = none_wider ns ms
-fits_by_widths op.GenericCountLeadingZerosNotOfZero ns ms = none_wider ns ms
-fits_by_widths op.GenericCountTrailingZerosNotOfZero ns ms = none_wider ns ms
-fits_by_widths op.GenericByteSwap ns ms = none_wider ns ms
-fits_by_widths op.GenericCompare ns ms = have_bits ns
-fits_by_widths op.GenericUnsignedAddOverflow ns ms = have_bits ns
-fits_by_widths op.GenericUnsignedSubtractOverflow ns ms = have_bits ns
-fits_by_widths op.GenericUnsignedAddCarry ns ms = have_bits ns
-fits_by_widths op.GenericUnsignedSubtractBorrow ns ms = have_bits ns
-fits_by_widths op.GenericMergeValues ns ms = holds_all ns ms
-fits_by_widths _ ns ms = false
+fits_by_widths o ns ms = has_room (room_of o) ns ms
 
 -- the address of a global, in a register that has a word
 abbrev pub is_fitting_address : Setting → Opcode → List Operand → Bool

@@ -11,10 +11,10 @@ use Rattle.gi_mir.specs.declared.operand.Operand.TheVariants as operand
 use Rattle.gi_mir.specs.Data.{InstrData, FunctionData}
 use Rattle.gi_mir.specs.Edit.{is_def_of, is_use_of}
 use Rattle.gi_mir.specs.Formed.{is_def, is_physical, is_physical_def, is_implicit_def}
-use Rattle.gi_mir.specs.Row.{access_of, is_call_op, is_phi_op, is_terminator_op}
+use Rattle.gi_mir.specs.Row.{access_of, is_call_op, is_phi_op, is_terminator_op, is_commutative_op}
 use Rattle.gi_pattern.specs.Binding.{slots_bound}
 use Rattle.gi_pattern.specs.Data.{MatchData}
-use Rattle.gi_pattern.specs.Fitting.{all_pass, bound_as_written, bound_exchanged, definition_at, exchanged, found, is_commutative, same_op}
+use Rattle.gi_pattern.specs.Fitting.{all_pass, bound_as_written, bound_exchanged, definition_at, exchanged, found, same_op}
 use Rattle.gi_pattern.specs.declared.binding.Binding.{Binding}
 use Rattle.gi_pattern.specs.declared.rule.Test.{Test}
 use Rattle.gi_valid.specs.Definitions.{is_load, is_copy, defines_any_physical, is_erasable, is_pure}
@@ -67,8 +67,8 @@ found_first f tests m ms (Some i) b c h = by (either _ _ c h)
         record { instr = i; there = refl; middle = d; fits = record { op = same_op_is i.op m.op same; operands = i.operands; order = inl refl; bound = slots }; rest = then }
     by (inr g) =
         let (d, bound, then) = and_then (λ d. found f tests ms (definition_at f d ms) d) (bound_exchanged m i b) c g in
-        let (same, slots) = where_true (same_op i.op m.op && is_commutative m.op) (slots_bound m.slots (exchanged i.operands) b) d bound in
-        record { instr = i; there = refl; middle = d; fits = record { op = same_op_is i.op m.op (and_parts (same_op i.op m.op) (is_commutative m.op) same).0; operands = exchanged i.operands; order = inr refl; bound = slots }; rest = then }
+        let (same, slots) = where_true (same_op i.op m.op && is_commutative_op m.op) (slots_bound m.slots (exchanged i.operands) b) d bound in
+        record { instr = i; there = refl; middle = d; fits = record { op = same_op_is i.op m.op (and_parts (same_op i.op m.op) (is_commutative_op m.op) same).0; operands = exchanged i.operands; order = inr refl; bound = slots }; rest = then }
 
 pub found_extends : (f : FunctionData) (tests : List Test) (ms : List MatchData) (here : Option InstrData) (b c : Binding) → found f tests ms here b ≡ Some c → Extends b c
 found_extends f tests [] here b c h =

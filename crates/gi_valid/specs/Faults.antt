@@ -6,9 +6,10 @@ use Rattle.std.specs.Option.{option_or, option_map_or}
 use Rattle.gi_llt.specs.Llt.{width_of}
 use Rattle.gi_mir.specs.Data.{InstrData, BlockData, FunctionData, reg_of}
 use Rattle.gi_mir.specs.Edit.{all_instrs}
-use Rattle.gi_mir.specs.Row.{is_terminator_op, is_unconditional_op, is_branch_op, is_call_op}
+use Rattle.gi_mir.specs.Row.{is_terminator_op, is_unconditional_op, is_branch_op, is_call_op, routine_call_of}
+use Rattle.gi_mir.specs.declared.entry.RoutineCall.{RoutineCall}
+use Rattle.gi_mir.specs.declared.entry.RoutineCall.TheVariants as routine_call
 use Rattle.gi_mir.specs.declared.opcode.Opcode.{Opcode}
-use Rattle.gi_mir.specs.declared.opcode.Opcode.TheVariants as op
 use Rattle.gi_mir.specs.declared.operand.Operand.{Operand}
 use Rattle.gi_mir.specs.declared.operand.Operand.TheVariants as operand
 use Rattle.gi_meaning.specs.Runs.{is_phi, entry_of, is_among}
@@ -148,16 +149,20 @@ phi_entries f site =
 
 -- ══ A physical register that is used behind what may overwrite it ══
 
+-- an opcode that may come to be a call whatever the widths are, and one that may where its result is wider than a register
+abbrev pub always_calls : RoutineCall → Bool
+always_calls routine_call.Always = true
+always_calls _ = false
+
+abbrev pub calls_where_wider : RoutineCall → Bool
+calls_where_wider routine_call.WhereWider = true
+calls_where_wider _ = false
+
 abbrev pub is_division : Opcode → Bool
-is_division op.GenericUnsignedDivide = true
-is_division op.GenericSignedDivide = true
-is_division op.GenericUnsignedRemainder = true
-is_division op.GenericSignedRemainder = true
-is_division _ = false
+is_division o = always_calls (routine_call_of o)
 
 abbrev pub is_product : Opcode → Bool
-is_product op.GenericMultiply = true
-is_product _ = false
+is_product o = calls_where_wider (routine_call_of o)
 
 -- its result is wider than a register
 abbrev pub is_wider : (x : ℕ) → Phase → FunctionData → List ℕ → Bool

@@ -13,6 +13,7 @@ ghost use Rattle.gi_valid.specs.Typing as typings;
 use crate::registers::{count_results, first_unmet, registers_of, results_in, type_in, types_of};
 use crate::room::roomless;
 use gi_llt::{Llt, Memory, Target, width};
+use gi_mir::entry::RoutineCall;
 use gi_mir::function::Function;
 use gi_mir::instr::Instr;
 use gi_mir::opcode::Opcode;
@@ -172,20 +173,14 @@ pub(crate) fn type_mismatch(
 fn is_division(op: Opcode) -> bool
     ensures { result ≡ faults.is_division op }
 {
-    matches!(
-        op,
-        Opcode::GenericUnsignedDivide
-            | Opcode::GenericSignedDivide
-            | Opcode::GenericUnsignedRemainder
-            | Opcode::GenericSignedRemainder
-    )
+    matches!(op.routine_call(), RoutineCall::Always)
 }
 
 /// Whether this is a generic product.
 fn is_product(op: Opcode) -> bool
     ensures { result ≡ faults.is_product op }
 {
-    matches!(op, Opcode::GenericMultiply)
+    matches!(op.routine_call(), RoutineCall::WhereWider)
 }
 
 /// Whether a type is wider than a register.
