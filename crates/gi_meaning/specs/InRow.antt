@@ -1,6 +1,6 @@
 -- Whether an instruction stands in its opcode's row: its registers' types, its memory operand and its numbers are among those
 -- that the table of opcodes has. (Generic Opcodes; Machine IR's target-independent opcodes; RISC-V unprivileged ISA.)
-use Rattle.std.specs.Prelude.{ℕ, ℤ, ◌^◌, Bool, true, false, ◌&&◌, nat_lt, nat_le, ◌==◌, List, [], ◌∷◌, ◌++◌, map, Option, Some, None, if◌then◌else◌, unwrap_or}
+use Rattle.std.specs.Prelude.{ℕ, ℤ, ◌^◌, Bool, true, false, ◌&&◌, nat_lt, nat_le, ◌==◌, List, [], ◌∷◌, ◌++◌, map, Option, Some, None, if◌then◌else◌, unwrap_or, nat_abs}
 use Rattle.std.specs.List.{list_all, list_any}
 use Rattle.std.specs.Option.{option_map_or}
 use Rattle.gi_llt.specs.Llt.{width_of}
@@ -112,9 +112,11 @@ has_memory x access.Store o types mem = option_map_or (fits_memory x o types) me
 
 -- ══ Operands ══
 
--- the number of G_SEXT_INREG
+-- the number of G_SEXT_INREG, and the sizes of `ADJCALLSTACKDOWN 0, 0, implicit-def $x2, implicit $x2`
 abbrev pub is_number_within : (x : ℕ) → Opcode → (bits : ℕ) → ℤ → Bool
 is_number_within x op.GenericSignExtendInRegister bits k = is_in_register x bits k
+is_number_within x op.AdjustCallStackDown bits k = nat_abs k == 0
+is_number_within x op.AdjustCallStackUp bits k = nat_abs k == 0
 is_number_within x o bits k = true
 
 -- a copy may read any physical register, and an instruction of the machine `$x0`
@@ -134,13 +136,19 @@ is_beside _ = false
 abbrev pub has_beside : Opcode → Bool
 has_beside o = list_any (λ forms. list_any is_beside forms) (rows_of o)
 
+-- what adjusts the stack around a call says so of `$x2`
+abbrev pub may_be_beside : Opcode → (register : ℕ) → Bool
+may_be_beside op.AdjustCallStackDown n = n == 2
+may_be_beside op.AdjustCallStackUp n = n == 2
+may_be_beside o n = has_beside o
+
 -- a constant has its register's bits, and a sign is extended from within its register
 abbrev pub is_operand_of : (x : ℕ) → Opcode → (types : List Llt) → Operand → Bool
 is_operand_of x o types (operand.Constant bits value) = (width_of x (value_type x types) == bits) && nat_lt value (2 ^ bits)
 is_operand_of x o types (operand.Int k) = is_number_within x o (width_of x (value_type x types)) k
 is_operand_of x o types (operand.Phys n) = may_read o (typing_of o) n
-is_operand_of x o types (operand.ImplicitUse n) = has_beside o
-is_operand_of x o types (operand.ImplicitDef n) = has_beside o
+is_operand_of x o types (operand.ImplicitUse n) = may_be_beside o n
+is_operand_of x o types (operand.ImplicitDef n) = may_be_beside o n
 is_operand_of x o types _ = true
 
 -- ══ All ══

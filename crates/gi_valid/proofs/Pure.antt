@@ -13,7 +13,7 @@ use Rattle.gi_mir.specs.declared.opcode.Opcode.TheVariants as op
 use Rattle.gi_mir.specs.declared.operand.Flags.{Flags}
 use Rattle.gi_mir.specs.declared.operand.Operand.{Operand}
 use Rattle.gi_mir.specs.declared.operand.Operand.TheVariants as operand
-use Rattle.gi_meaning.specs.InRow.{type_in, results_in, sources_in, have_types, has_memory, may_read, has_beside, is_operand_of, is_in_row, are_in_rows}
+use Rattle.gi_meaning.specs.InRow.{type_in, results_in, sources_in, have_types, has_memory, may_read, has_beside, may_be_beside, is_operand_of, is_in_row, are_in_rows}
 use Rattle.gi_meaning.specs.Meaning.{meaning_of}
 use Rattle.gi_valid.specs.Definitions.{defines_any_physical, is_erasable, is_load, is_copy, copies_physical, is_pure}
 use Rattle.gi_valid.specs.Facts.{is_computing, is_fixed, is_steady}
@@ -93,6 +93,11 @@ reads_zero op.Copy typing n other h = cc
 reads_zero _ None n other h = h
 reads_zero _ (Some typing) n other h = cc
 
+beside_has : (o : Opcode) (n : ℕ) → may_be_beside o n ≡ true → has_beside o ≡ true
+beside_has op.AdjustCallStackDown n h = refl
+beside_has op.AdjustCallStackUp n h = refl
+beside_has _ n h = h
+
 fixed_operands : (x : ℕ) (o : Opcode) (types : List Llt) (os : List Operand) → has_beside o ≡ false → (is_copy o ≡ false) ⊎ (list_any is_physical os ≡ false) → list_all (is_operand_of x o types) os ≡ true
     → list_all is_fixed os ≡ true
 fixed_operands x o types [] beside apart h = refl
@@ -101,8 +106,8 @@ fixed_operands x o types (operand.Phys n ∷ os) beside (inl other) h =
     ap₂ (λ a b. a && b) (reads_zero o (typing_of o) n other parts.0) (fixed_operands x o types os beside (inl other) parts.1)
 fixed_operands x o types (operand.Phys n ∷ os) beside (inr none) h = cc
 fixed_operands x o types (operand.ImplicitUse n ∷ os) beside apart h =
-    let parts : (has_beside o ≡ true) × (list_all (is_operand_of x o types) os ≡ true) = and_parts (has_beside o) (list_all (is_operand_of x o types) os) h in
-    absurd (no_two (has_beside o) parts.0 beside)
+    let parts : (may_be_beside o n ≡ true) × (list_all (is_operand_of x o types) os ≡ true) = and_parts (may_be_beside o n) (list_all (is_operand_of x o types) os) h in
+    absurd (no_two (has_beside o) (beside_has o n parts.0) beside)
   where
     no_two : (b : Bool) → b ≡ true → b ≡ false → ⊥
     no_two true is not_so = cc
