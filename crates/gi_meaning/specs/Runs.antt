@@ -1,8 +1,9 @@
 -- Runs of a function: steps, blocks, and whole runs of so many block entries.
 -- (MIR Format Reference Manual, "Basic Blocks"; Language Reference, "phi" and "Terminator Instructions".)
-use Rattle.std.specs.Prelude.{◌≡◌, ℕ, zero, suc, ◌+◌, ◌≤◌, List, [], ◌∷◌, ◌++◌, map, take, Option, Some, None, option_map, unwrap_or, Bool, false, cond, ◌||◌, ◌==◌, if◌then◌else◌, ◌⊎◌, slice_get}
+use Rattle.std.specs.Prelude.{◌≡◌, ℕ, zero, suc, ◌+◌, ◌≤◌, List, [], ◌∷◌, ◌++◌, map, take, Option, Some, None, option_map, Bool, false, cond, ◌||◌, ◌==◌, if◌then◌else◌, ◌⊎◌, slice_get}
 use Rattle.gi_llt.specs.Llt.{width_of}
 use Rattle.gi_mir.specs.Data.{InstrData, BlockData, FunctionData}
+use Rattle.gi_mir.specs.Names.{name_at}
 use Rattle.gi_mir.specs.Registers.{kind_of}
 use Rattle.gi_mir.specs.declared.operand.Kind.{Kind}
 use Rattle.gi_mir.specs.declared.operand.Kind.TheVariants as kind
@@ -30,9 +31,6 @@ width_of_kind x kind.Class = x
 
 abbrev pub setting_of : (x : ℕ) → (names : List (List ℕ)) → FunctionData → Setting
 setting_of x names f = record { x = x; names = names; width = λ r. width_of_kind x (kind_of f r) }
-
-abbrev pub name_at : List (List ℕ) → ℕ → List ℕ
-name_at names number = unwrap_or (slice_get names number) []
 
 -- ══ Reads ══
 

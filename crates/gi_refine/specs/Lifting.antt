@@ -1,11 +1,12 @@
 -- A rule on values, placed on registers: when instructions show operations, and what is hidden after them.
 use Rattle.std.specs.Prelude.{◌≡◌, ℕ, suc, ◌^◌, ◌<◌, List, [], ◌∷◌, ◌++◌, map, Option, Some, None, Bool, true, false, not, ◌&&◌, ◌||◌, ◌==◌, if◌then◌else◌, slice_get}
 use Rattle.gi_mir.specs.Data.{InstrData}
+use Rattle.gi_mir.specs.Names.{name_at}
 use Rattle.gi_mir.specs.declared.operand.Operand.{Operand}
 use Rattle.gi_mir.specs.declared.operand.Operand.TheVariants as operand
 use Rattle.gi_meaning.specs.Argument.{Argument, Value, Number, Bits, Symbol, To, Test}
 use Rattle.gi_meaning.specs.State.{World, State, outside_of, Place, Virtual, Physical}
-use Rattle.gi_meaning.specs.Runs.{Setting, name_at, is_among}
+use Rattle.gi_meaning.specs.Runs.{Setting, is_among}
 use Rattle.gi_refine.specs.Agreement.{Agree, setting}
 use Rattle.gi_refine.specs.Kept.{HasSameValue}
 use Rattle.gi_refine.specs.Values.{Environment, Slot, At, Fixed, Operation, are_pure, AllHold, Rule}

@@ -7,6 +7,7 @@ use Rattle.std.proofs.lemmas.Option.{same_Some}
 use Rattle.std.proofs.Math.Nat.{div-mul-le_self, pow-le-pow_right}
 use Rattle.gi_llt.specs.Llt.{width_of}
 use Rattle.gi_mir.specs.Data.{InstrData, BlockData, FunctionData}
+use Rattle.gi_mir.specs.Names.{name_at}
 use Rattle.gi_mir.specs.Edit.{all_instrs}
 use Rattle.gi_mir.specs.declared.opcode.Opcode.{Opcode}
 use Rattle.gi_mir.specs.declared.opcode.Opcode.TheVariants as op
@@ -21,7 +22,7 @@ use Rattle.gi_meaning.specs.Given.{Given, Undefined, one}
 use Rattle.gi_meaning.specs.Machine.{is_immediate}
 use Rattle.gi_meaning.specs.Meaning.{Meaning, Copying, Generic, Loading, Storing, MachineLoading, MachineStoring, Machine, Jumping, Branching, MachineBranching, Calling, Returning, Nothing, Joining, Extension, Anything, Zeros, Signs, is_joining, meaning_of}
 use Rattle.gi_meaning.specs.Memory.{Memory, is_aligned, loaded}
-use Rattle.gi_meaning.specs.Runs.{Progress, Setting, Steps, StepsFrom, after_phis, argument_of, arguments_of, entry_for, from_block, going_on, is_phi, joined, joined_lists, name_at, phis_of, places_of, progress_of, put_all, put_value, result_places, setting_of, value_at, width_of_place, written_places}
+use Rattle.gi_meaning.specs.Runs.{Progress, Setting, Steps, StepsFrom, after_phis, argument_of, arguments_of, entry_for, from_block, going_on, is_phi, joined, joined_lists, phis_of, places_of, progress_of, put_all, put_value, result_places, setting_of, value_at, width_of_place, written_places}
 use Rattle.gi_meaning.specs.State.{AreBytes, AreWords, IsWorld, Outside, Physical, Place, State, Virtual, World, outside_of, put}
 use Rattle.gi_meaning.proofs.Numbers.{unsigned_below}
 use Rattle.gi_refine.specs.Fitting.{IsFit, always_fits, is_fitting_constant, phi_fits, uses_have}
