@@ -104,7 +104,7 @@ pub or_breaks : (Q : Answer → Type 0) → Q Breaks → (b : Bool) (T : Type 0)
 or_breaks Q breaks true T a f h = f h
 or_breaks Q breaks false T a f h = subst Q (sym h) breaks
 
-breaks_or : (Q : Answer → Type 0) → Q Breaks → (b : Bool) (T : Type 0) (a : Answer) → (T → Q a) → cond b (a ≡ Breaks) T → Q a
+pub breaks_or : (Q : Answer → Type 0) → Q Breaks → (b : Bool) (T : Type 0) (a : Answer) → (T → Q a) → cond b (a ≡ Breaks) T → Q a
 breaks_or Q breaks true T a f h = subst Q (sym h) breaks
 breaks_or Q breaks false T a f h = f h
 

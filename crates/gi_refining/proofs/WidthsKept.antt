@@ -33,7 +33,7 @@ use Rattle.gi_refine.proofs.FittedSteps.{AnswerFits, AreArgumentsFit, AreFit, Ar
 use Rattle.gi_refine.proofs.Invariants.{invariant_holds}
 use Rattle.gi_refine.proofs.SizedAnswers.{AtMost, IsAnswerSized, act_sized, loaded_small}
 use Rattle.gi_refine.proofs.SizedOperations.{AreSmall}
-use Rattle.gi_refine.proofs.Targets.{or_breaks}
+use Rattle.gi_refine.proofs.Targets.{or_breaks, breaks_or}
 use Rattle.gi_valid.proofs.Answering.{act_fine}
 use Rattle.gi_valid.proofs.Defining.{in_function}
 use Rattle.gi_valid.proofs.Single.{IsIn}
@@ -235,10 +235,6 @@ stored_fits : (ns : List ℕ) (x align bytes address value : ℕ) (outside : Out
 stored_fits ns x align bytes address value outside a h =
     or_breaks (AnswerFits ns) tt (is_aligned align address) (StoresThere (loaded x bytes outside.memory address) x bytes address value outside a) a
     (stored_there_fits ns (loaded x bytes outside.memory address) x bytes address value outside a) h
-
-breaks_or : (Q : Answer → Type 0) → Q Breaks → (b : Bool) (T : Type 0) (a : Answer) → (T → Q a) → cond b (a ≡ Breaks) T → Q a
-breaks_or Q breaks true T a f h = subst Q (sym h) breaks
-breaks_or Q breaks false T a f h = f h
 
 store_fits : (ns : List ℕ) (x : ℕ) (mem : Option MemOp) (arguments : List Argument) (outside : Outside) (a : Answer) → GenericStores x mem arguments outside a → AnswerFits ns a
 store_fits ns x (Some mem) (Value n value ∷ Value l address ∷ []) outside a h =

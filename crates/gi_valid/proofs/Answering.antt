@@ -15,7 +15,7 @@ use Rattle.gi_meaning.specs.State.{Event, World, IsWorld, Outside, AreBytes, Are
 use Rattle.gi_meaning.specs.Meaning.{Meaning, Copying, Generic, Machine, Loading, Storing, MachineLoading, MachineStoring, Jumping, Branching, MachineBranching, Calling, Returning, Nothing, Joining, meaning_of, is_joining}
 use Rattle.gi_meaning.specs.Act.{Answer, Results, Leaves, Breaks, Answers, AnswersWords, copy, generic_load, machine_load, StoresThere, Stores, GenericStores, MachineStores, jump, branch, machine_branch, CallsGlobal, Calls, Act, has_operands, result_registers, passed, words_of, alignment}
 use Rattle.gi_refine.proofs.SizedAnswers.{stored_bytes}
-use Rattle.gi_refine.proofs.Targets.{or_breaks}
+use Rattle.gi_refine.proofs.Targets.{or_breaks, breaks_or}
 use Rattle.gi_valid.specs.Facts.{is_computing}
 
 abbrev pub is_leaving : Meaning → Bool
@@ -41,10 +41,6 @@ words_fine m x widths (Exactly results) outside a h = subst (IsFine m outside) (
 words_fine m x widths (LowBits known width value) outside a h = subst (IsFine m outside) (sym h.2) (λ bytes. bytes)
 
 -- ══ Stores ══
-
-breaks_or : (Q : Answer → Type 0) → Q Breaks → (b : Bool) (T : Type 0) (a : Answer) → (T → Q a) → cond b (a ≡ Breaks) T → Q a
-breaks_or Q breaks true T a f h = subst Q (sym h) breaks
-breaks_or Q breaks false T a f h = f h
 
 stores_there_fine : (m : Meaning) (o : Option ℕ) (x bytes address value : ℕ) (outside : Outside) (a : Answer) → StoresThere o x bytes address value outside a → IsFine m outside a
 stores_there_fine m None x bytes address value outside a h = subst (IsFine m outside) (sym h) tt
