@@ -1,6 +1,6 @@
 -- On RV32 a function whose registers are of 32 bits is refined by the function with each register of class `gpr`,
 -- whatever the ids of its instructions.
-use Rattle.std.proofs.Common.{◌≡◌, ℕ, zero, suc, Bool, true, false, cond, List, [], ◌∷◌, ◌++◌, map, slice_get, refl, sym, ap, ap₂, ◌∙◌, subst}
+use Rattle.std.proofs.Common.{◌≡◌, ℕ, zero, suc, Bool, true, false, cond, List, [], ◌∷◌, ◌++◌, map, slice_get, refl, sym, ap, ◌∙◌, subst}
 use Rattle.std.specs.List.{AllZip}
 use Rattle.std.proofs.lemmas.List.{append-nil}
 use Rattle.gi_mir.specs.Data.{InstrData, BlockData, FunctionData}
@@ -8,13 +8,15 @@ use Rattle.gi_mir.specs.declared.operand.Operand.{Operand}
 use Rattle.gi_mir.specs.declared.operand.Operand.TheVariants as operand
 use Rattle.gi_meaning.specs.Runs.{Setting, setting_of, is_phi, phis_of}
 use Rattle.gi_refine.specs.Agreement.{Agree, AgreeAt}
-use Rattle.gi_refine.specs.Kept.{reused_operand, without_kind, IsKept, AreKept, AllSeenAs}
+use Rattle.gi_refine.specs.Kept.{without_kind, IsKept, AreKept, AllSeenAs}
 use Rattle.gi_refine.specs.OnePlace.{only_virtual, OnePlace, StaysAt, RewritesOnePlace}
 use Rattle.gi_refine.specs.Refinement.{IsRefinement}
+use Rattle.gi_refine.specs.Worded.{classed_instr}
+use Rattle.gi_refine.proofs.Classed.{classed_kept}
 use Rattle.gi_refine.proofs.OnePlaceFollows.{one_place_refines}
 use Rattle.gi_refine.proofs.Reaching.{followed_within, nothing_followed}
 use Rattle.gi_refine.proofs.Staying.{KeepsWidths, all_seen_untouched, body_holds_alone, phis_hold_alone, no_phis_after}
-use Rattle.gi_answer.specs.Selection.{classed_operand, classed_instr, IsSameInstr}
+use Rattle.gi_answer.specs.Selection.{IsSameInstr}
 use Rattle.gi_answer.proofs.SelectShapes.{shaped}
 use Rattle.gi_answer.proofs.SelectFronts.{is_plain, Are32, All32}
 use Rattle.gi_answer.proofs.SelectRuns.{nothing_hidden}
@@ -26,22 +28,8 @@ classed_pairs is = map (λ i. (i.0, classed_instr i.1)) is
 
 -- ══ They are kept ══
 
-same_operand : (o : Operand) → without_kind (classed_operand o) ≡ without_kind (reused_operand (λ r. r) o)
-same_operand (operand.Def r k) = refl
-same_operand (operand.Use r) = refl
-same_operand o = refl
-
-same_operands : (os : List Operand) → map without_kind (map classed_operand os) ≡ map without_kind (map (reused_operand (λ r. r)) os)
-same_operands [] = refl
-same_operands (o ∷ os) = ap₂ (λ p ps. p ∷ ps) (same_operand o) (same_operands os)
-
 kept_classed : (i j : InstrData) → j ≡ classed_instr i → IsKept (λ r. r) i j
-kept_classed i j h = record {
-  op = ap (λ k. k.op) h;
-  flags = ap (λ k. k.flags) h;
-  mem = ap (λ k. k.mem) h;
-  operands = ap (λ k. map without_kind k.operands) h ∙ same_operands i.operands;
-}
+kept_classed i j h = subst (IsKept (λ r. r) i) (sym h) (classed_kept i)
 
 all_kept_classed : (is js : List (ℕ × InstrData)) → AllZip IsSameInstr (classed_pairs is) js → AreKept (λ r. r) is js
 all_kept_classed [] [] h = tt
@@ -59,7 +47,7 @@ no_phis_classed [] (j ∷ js) h none = absurd h
 no_phis_classed (i ∷ is) [] h none = absurd h
 no_phis_classed (i ∷ is) (j ∷ js) h none = ap (λ b. cond b (j ∷ phis_of js) []) (ap is_phi h.0 ∙ no_phi_first i is (is_phi i.1) none)
 
-operands_32 : (os : List Operand) → Are32 (map classed_operand os)
+operands_32 : (os : List Operand) → Are32 (map without_kind os)
 operands_32 [] = tt
 operands_32 (operand.Def r k ∷ os) = (refl, operands_32 os)
 operands_32 (o ∷ os) = operands_32 os

@@ -23,12 +23,13 @@ use Rattle.gi_meaning.proofs.Renaming.{runs_renamed}
 use Rattle.gi_meaning.specs.InRow.{are_in_rows}
 use Rattle.gi_refine.specs.Refinement.{IsRefinement}
 use Rattle.gi_refine.specs.Replacing.{IsSameBlock as IsAlikeBlock}
+use Rattle.gi_refine.specs.Worded.{classed_block}
 use Rattle.gi_refine.proofs.SameBlocks.{same_blocks_refine}
 use Rattle.gi_refine.proofs.Refining.{refines_through}
 use Rattle.gi_refine.proofs.RowsHeld.{allowed_in_rows}
 use Rattle.gi_answer.specs.Rows.{selection_rows}
 use Rattle.gi_answer.specs.Selecting.{short_among}
-use Rattle.gi_answer.specs.Selection.{classed_block, selected_form, IsSameInstr, IsSameBlock, IsSameFunction, IsSelected, IsSelectedModule}
+use Rattle.gi_answer.specs.Selection.{selected_form, IsSameInstr, IsSameBlock, IsSameFunction, IsSelected, IsSelectedModule}
 use Rattle.gi_answer.specs.Selectable.{IsOneBlock, IsSelectable, AllSelectable}
 use Rattle.gi_answer.specs.Promise.{Refines, Compiles}
 use Rattle.gi_answer.proofs.ClassedRuns.{classed_pairs, classed_refines}

@@ -11,6 +11,7 @@ use Rattle.gi_mir.specs.declared.operand.Operand.{Operand}
 use Rattle.gi_mir.specs.declared.operand.Operand.TheVariants as operand
 use Rattle.gi_mir.specs.declared.operand.StackObject.{StackObject}
 use Rattle.gi_mir.specs.declared.opcode.Opcode.{Opcode}
+use Rattle.gi_refine.specs.Kept.{without_kind}
 use Rattle.gi_spelling.specs.Documents.{function_of, read_document, entries_of}
 use Rattle.gi_spelling.specs.Lines.{Section, parts_of_text}
 use Rattle.gi_spelling.specs.Named.{IsNamedOperand, IsNamedEntry, IsNamedBlock, IsNamedFunction}
@@ -26,7 +27,7 @@ use Rattle.gi_answer.specs.Checks.{target_of}
 use Rattle.gi_answer.specs.NormalForm.{first_fit, rewritten, rewritten_at, next_at, last_generic, instr_at, next, Comes}
 use Rattle.gi_answer.specs.Rows.{Site, selection_rows}
 use Rattle.gi_answer.specs.Selectable.{IsSelectable, AllSelectable}
-use Rattle.gi_answer.specs.Selection.{classed_operand, IsSameInstr, IsSelected, IsSelectedModule}
+use Rattle.gi_answer.specs.Selection.{IsSameInstr, IsSelected, IsSelectedModule}
 use Rattle.gi_answer.specs.Shapes.{ShapedInstr, CopyIn, MakeConstant, AddUp, CopyOut, Return, shaped_instr, IsShapedInstr}
 use Rattle.gi_answer.specs.Unrun.{selects}
 use Rattle.gi_options.specs.Options.{OptionsData, options_of}
@@ -157,7 +158,7 @@ taken_nameless : (f : FunctionData) → IsSelectable f → AreNameless f.blocks
 taken_nameless f (inl none) = subst AreNameless (sym none) tt
 taken_nameless f (inr h) = subst AreNameless (sym h.blocks) (shapes_nameless h.shapes h.block.instrs h.shaped, tt)
 
-classed_nameless : (os : List Operand) → list_all is_nameless_operand (map classed_operand os) ≡ list_all is_nameless_operand os
+classed_nameless : (os : List Operand) → list_all is_nameless_operand (map without_kind os) ≡ list_all is_nameless_operand os
 classed_nameless [] = refl
 classed_nameless (operand.Def r k ∷ os) = classed_nameless os
 classed_nameless (operand.Global flag name ∷ os) = refl

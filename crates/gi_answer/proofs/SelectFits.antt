@@ -10,10 +10,10 @@ use Rattle.gi_answer.specs.Shapes.{MakeConstant, AddUp, shaped_instr, word_kind,
 use Rattle.gi_mir.specs.declared.opcode.Opcode.TheVariants.{Add, AddImmediate}
 use Rattle.gi_mir.specs.declared.operand.Operand.TheVariants.{Def, Use, Phys, Int}
 use Rattle.gi_meaning.specs.Machine.{is_immediate}
+use Rattle.gi_refine.specs.Worded.{classed_instr}
 use Rattle.gi_mir.specs.Row.{is_generic_op}
 use Rattle.gi_answer.specs.Rows.{short_number, short_sum, made, add_immediate, dead_made, constant_made, short_sum_made, sum_made}
 use Rattle.gi_answer.specs.Selecting.{short_of, selected_where, selected_if_used, selected_root, selected_sum}
-use Rattle.gi_answer.specs.Selection.{classed_instr}
 use Rattle.gi_answer.specs.declared.select.Root.TheVariants as root
 
 -- the first row that fits, by what is used and by the short constants

@@ -13,9 +13,10 @@ use Rattle.gi_mir.specs.declared.operand.Operand.TheVariants as operand
 use Rattle.gi_answer.specs.Shapes.{ShapedInstr, stands_behind, defined_after, are_in_order}
 use Rattle.gi_answer.specs.NormalForm.{last_place, first_fit, next, next_at, rewritten_at, rewritten, with_ids}
 use Rattle.gi_mir.specs.Row.{is_generic_op}
+use Rattle.gi_refine.specs.Kept.{without_kind}
+use Rattle.gi_refine.specs.Worded.{classed_instr}
 use Rattle.gi_answer.specs.Rows.{Site, is_generic, is_use_of, reads, is_used, short_in, selection_rows}
 use Rattle.gi_answer.specs.Selecting.{used_in, short_among}
-use Rattle.gi_answer.specs.Selection.{classed_operand, classed_instr}
 
 -- ══ Tests ══
 
@@ -104,11 +105,11 @@ pub short_shaped : (f : FunctionData) (b : BlockData) (instrs : List (ℕ × Ins
 short_shaped f b instrs reg id r = ap (λ is. short_among is r) (append-nil instrs)
 
 -- a class changes no use
-use_classed : (r : ℕ) (o : Operand) → is_use_of r (classed_operand o) ≡ is_use_of r o
+use_classed : (r : ℕ) (o : Operand) → is_use_of r (without_kind o) ≡ is_use_of r o
 use_classed r (operand.Def q k) = refl
 use_classed r o = refl
 
-uses_classed : (r : ℕ) (os : List Operand) → list_any (is_use_of r) (map classed_operand os) ≡ list_any (is_use_of r) os
+uses_classed : (r : ℕ) (os : List Operand) → list_any (is_use_of r) (map without_kind os) ≡ list_any (is_use_of r) os
 uses_classed r [] = refl
 uses_classed r (o ∷ os) = ap₂ (λ a b. a || b) (use_classed r o) (uses_classed r os)
 

@@ -12,12 +12,12 @@ use Rattle.gi_answer.specs.Shapes.{ShapedInstr, CopyIn, MakeConstant, AddUp, Cop
 use Rattle.gi_meaning.specs.Runs.{phis_of}
 use Rattle.gi_refine.specs.Refinement.{IsRefinement}
 use Rattle.gi_refine.specs.Replacing.{touches, any_touches}
+use Rattle.gi_refine.specs.Worded.{classed_instr}
 use Rattle.gi_refine.proofs.Refining.{refines_itself, refines_through}
 use Rattle.gi_answer.specs.NormalForm.{first_fit, next, with_ids, IsNormalForm}
 use Rattle.gi_mir.specs.Row.{is_generic_op}
 use Rattle.gi_answer.specs.Rows.{is_generic, is_use_of, reads, is_used, short_in, selection_rows}
 use Rattle.gi_answer.specs.Selecting.{selected_where, selected_list, used_in, before, short_among}
-use Rattle.gi_answer.specs.Selection.{classed_instr}
 use Rattle.gi_answer.proofs.SelectFits.{IsShort, short_value, constant_instr, constant_list, constant_fits, constant_selected, sum_instr, sum_list, sum_fits, sum_selected, sum_classed, sum_not_generic}
 use Rattle.gi_answer.proofs.SelectShapes.{or_false, shaped, site_at, next_reg_after, next_shaped, used_shaped, short_shaped, classed_all, used_classed, classed_made, none_made, is_nameless, InOrder}
 use Rattle.gi_answer.proofs.SelectFronts.{All32, all_32, IsFront, short_before, copy_absent, sum_parts, constant_parts, reads_defined, stated_32, front_next}

@@ -13,12 +13,12 @@ use Rattle.gi_mir.specs.declared.operand.Operand.{Operand}
 use Rattle.gi_mir.specs.declared.operand.Operand.TheVariants as operand
 use Rattle.gi_llt.specs.Bits.{signed}
 use Rattle.gi_meaning.specs.Machine.{is_immediate}
+use Rattle.gi_refine.specs.Worded.{classed_instr}
 use Rattle.gi_spelling.specs.Printable.{Counts, is_whole, is_writable_register, IsPrintableInstr}
 use Rattle.gi_answer.specs.Shapes.{ShapedInstr, CopyIn, MakeConstant, AddUp, CopyOut, Return, shaped_instr, IsShapedInstr, stands_behind, defined_after}
 use Rattle.gi_mir.specs.Row.{is_generic_op}
 use Rattle.gi_answer.specs.Rows.{short_constant, short_operands, short_where}
 use Rattle.gi_answer.specs.Selecting.{before, selected_list, selected_root, selected_sum, selected_where, short_among, used_in}
-use Rattle.gi_answer.specs.Selection.{classed_instr}
 use Rattle.gi_answer.specs.declared.select.Root.TheVariants as root
 use Rattle.gi_answer.proofs.SelectFits.{IsShort, short_value, constant_selected, selected_unless_dead, sum_selected}
 use Rattle.gi_answer.proofs.SelectFronts.{constant_parts}

@@ -14,9 +14,10 @@ use Rattle.gi_mir.specs.declared.operand.Kind.TheVariants as kind
 use Rattle.gi_mir.specs.declared.operand.Operand.{Operand}
 use Rattle.gi_mir.specs.declared.operand.Operand.TheVariants as operand
 use Rattle.gi_meaning.specs.InRow.{type_held, type_in, is_in_row, are_in_rows}
+use Rattle.gi_refine.specs.Worded.{classed_instr}
 use Rattle.gi_answer.specs.Shapes.{ShapedInstr, CopyIn, MakeConstant, AddUp, CopyOut, Return, shaped_instr, IsShapedInstr, stands_behind, defined_after}
 use Rattle.gi_answer.specs.Selecting.{before, selected_list, selected_root, selected_sum, selected_where, used_in}
-use Rattle.gi_answer.specs.Selection.{classed_instr, IsSameInstr}
+use Rattle.gi_answer.specs.Selection.{IsSameInstr}
 use Rattle.gi_answer.specs.declared.select.Root.TheVariants as root
 use Rattle.gi_answer.proofs.ClassedRuns.{classed_pairs}
 use Rattle.gi_answer.proofs.SelectFits.{IsShort, short_value, constant_selected, selected_unless_dead, sum_selected}

@@ -2,24 +2,12 @@
 -- of class `gpr`, and the key `selected` stands. Ids don't matter.
 use Rattle.std.specs.Prelude.{◌≡◌, ℕ, true, map}
 use Rattle.std.specs.List.{AllZip}
-use Rattle.gi_mir.specs.declared.operand.Kind.TheVariants.{Class}
-use Rattle.gi_mir.specs.declared.operand.Operand.{Operand}
-use Rattle.gi_mir.specs.declared.operand.Operand.TheVariants.{Def}
 use Rattle.gi_mir.specs.Data.{InstrData, BlockData, FunctionData, ModuleData}
+use Rattle.gi_refine.specs.Worded.{classed_block}
 use Rattle.gi_answer.specs.NormalForm.{IsNormalForm}
 use Rattle.gi_answer.specs.Rows.{selection_rows}
 
--- each register of class `gpr`
-abbrev pub classed_operand : Operand → Operand
-classed_operand (Def r kind) = Def r Class
-classed_operand other = other
-
-abbrev pub classed_instr : InstrData → InstrData
-classed_instr i = record i { operands = map classed_operand i.operands }
-
-abbrev pub classed_block : BlockData → BlockData
-classed_block b = record b { instrs = map (λ i. (i.0, classed_instr i.1)) b.instrs }
-
+-- each register of class `gpr`, and the key
 abbrev pub selected_form : FunctionData → FunctionData
 selected_form f = record f { selected = true; blocks = map classed_block f.blocks }
 

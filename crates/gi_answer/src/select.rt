@@ -7,10 +7,12 @@ ghost use Rattle.std.specs.HashSet.{contains};
 ghost use Rattle.std.specs.List.{AllZip, list_all, list_any};
 ghost use Rattle.gi_mir.specs.Edit.{with_stack};
 ghost use Rattle.gi_mir.specs.Formed.{is_formed};
+ghost use Rattle.gi_refine.specs.Kept.{without_kind};
+ghost use Rattle.gi_refine.specs.Worded.{classed_instr};
 ghost use Rattle.gi_answer.specs.Rows.{is_use_of};
 ghost use Rattle.gi_answer.specs.Selectable.{IsOneBlock, IsSelectable, AllSelectable};
 ghost use Rattle.gi_answer.specs.Selecting.{AreShaped, short_of, constant_root, sum_root, root_of, result_of, with_constant, plain, selected_sum, selected_root, selected_where, selected_list, short_among, with_all, emptied};
-ghost use Rattle.gi_answer.specs.Selection.{classed_operand, classed_instr, IsSelected, IsSelectedModule};
+ghost use Rattle.gi_answer.specs.Selection.{IsSelected, IsSelectedModule};
 
 use gi_llt::Memory;
 use gi_mir::block::{Block, Numbered};
@@ -214,8 +216,9 @@ fn selected_root(
     }
 }
 
-fn classed_operand(operand: Operand) -> Operand
-    ensures { result ≡ classed_operand operand }
+/// The operand with class `gpr` where it defines a register.
+fn without_kind(operand: Operand) -> Operand
+    ensures { result ≡ without_kind operand }
 {
     match operand {
         Operand::Def(reg, _) => Operand::Def(reg, Kind::Class),
@@ -227,11 +230,11 @@ fn classed_operands(
     alloc: Global,
     operands: &[Operand],
 ) -> Result<SmallVec<Operand, 6, Global>, Memory>
-    ensures { IfOk result (λ classed. classed.items ≡ map classed_operand operands.now) }
+    ensures { IfOk result (λ classed. classed.items ≡ map without_kind operands.now) }
 {
     let mut classed = SmallVec::new(alloc);
     for operand in operands {
-        classed.push(classed_operand(*operand)).map_err(|_| Memory)?;
+        classed.push(without_kind(*operand)).map_err(|_| Memory)?;
     }
     Ok(classed)
 }

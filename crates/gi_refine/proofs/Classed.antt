@@ -47,7 +47,7 @@ plain_twice (operand.Def r k ∷ os) = ap (λ ps. operand.Def r Class ∷ ps) (p
 plain_twice (operand.Use r ∷ os) = ap (λ ps. operand.Use r ∷ ps) (plain_twice os)
 plain_twice (o ∷ os) = ap (λ ps. o ∷ ps) (plain_twice os)
 
-classed_kept : (i : InstrData) → IsKept (λ r. r) i (classed_instr i)
+pub classed_kept : (i : InstrData) → IsKept (λ r. r) i (classed_instr i)
 classed_kept i = record { op = refl; flags = refl; mem = refl; operands = plain_twice i.operands ∙ ap (map without_kind) (sym (same_uses i.operands)) }
 
 body_worded : (x : ℕ) → 32 ≤ x → (names : List (List ℕ)) (width width' : ℕ → ℕ) (w : World) → IsWorld x w → AllWords x width width' → (is : List (ℕ × InstrData)) → AllWorded is

@@ -18,7 +18,7 @@ reused_operand rename other = other
 abbrev pub reused : (rename : ℕ → ℕ) → InstrData → InstrData
 reused rename i = record i { operands = map (reused_operand rename) i.operands }
 
--- an operand but for the kind that a definition gives its register
+-- an operand but for the kind that a definition gives its register: class `gpr` stands for each
 abbrev pub without_kind : Operand → Operand
 without_kind (operand.Def r k) = operand.Def r Class
 without_kind other = other
