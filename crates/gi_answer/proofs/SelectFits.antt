@@ -1,12 +1,12 @@
 -- Which row fits an instruction of the five shapes, and what the program puts in its place.
-use Rattle.std.proofs.Common.{◌≡◌, ℕ, suc, ℤ, ◌+◌, pos, neg_ℤ, ◌-◌, ◌<◌, ◌≤◌, Bool, true, false, not, ◌||◌, ◌&&◌, List, [], ◌∷◌, map, Option, Some, None, option_map, ⊎_elim, refl, sym, ap, ap₂, ◌∙◌, subst, arith, if◌then◌else◌, nat_lt, nat_le}
+use Rattle.std.proofs.Common.{◌≡◌, ℕ, suc, ℤ, ◌+◌, pos, neg_ℤ, ◌-◌, ◌<◌, ◌≤◌, Bool, true, false, not, ◌||◌, ◌&&◌, List, [], ◌∷◌, map, Option, Some, None, option_map, ⊎_elim, refl, sym, ap, ap₂, ◌∙◌, subst, arith, if◌then◌else◌}
 use Rattle.std.proofs.lemmas.Bool.{and_parts, or_cases, ltb-true, lt-ltb, le-ltb, leb-true, le-leb}
 use Rattle.std.proofs.Math.Nat.{mod-eq_of_lt}
 use Rattle.std.specs.List.{list_any}
 use Rattle.std.specs.Option.{option_or}
 use Rattle.gi_llt.specs.Bits.{signed, unsigned}
 use Rattle.gi_mir.specs.Data.{InstrData, reg_of}
-use Rattle.gi_answer.specs.Shapes.{MakeConstant, AddUp, shaped_instr, word_kind, is_short}
+use Rattle.gi_answer.specs.Shapes.{MakeConstant, AddUp, shaped_instr, word_kind, is_negative_immediate, is_short}
 use Rattle.gi_mir.specs.declared.opcode.Opcode.TheVariants.{Add, AddImmediate}
 use Rattle.gi_mir.specs.declared.operand.Operand.TheVariants.{Def, Use, Phys, Int}
 use Rattle.gi_meaning.specs.Machine.{is_immediate}
@@ -38,7 +38,7 @@ immediate_signed value number same short =
 low_short : (value : ℕ) → value < 2048 → IsShort value
 low_short value h = record {
   number = pos value;
-  by_program = ap (λ b. if b then Some (pos value) else (if nat_le 4294965248 value && nat_lt value 4294967296 then Some (neg_ℤ (pos (4294967296 - value))) else None)) (lt-ltb value 2048 h);
+  by_program = ap (λ b. if b then Some (pos value) else (if is_negative_immediate value then Some (neg_ℤ (pos (4294967296 - value))) else None)) (lt-ltb value 2048 h);
   by_table = immediate_signed value (pos value) (ap (λ b. if b then pos value else neg_ℤ (pos (4294967296 - value))) (lt-ltb value 2147483648 (omega (arith, h)))) (le-leb value 2047 (omega (arith, h)));
   immediate = le-leb value 2047 (omega (arith, h));
   bits = mod-eq_of_lt (omega (arith, h));
@@ -56,7 +56,7 @@ high_short : (value : ℕ) → 4294965248 ≤ value → value < 4294967296 → I
 high_short value h l = record {
   number = neg_ℤ (pos (4294967296 - value));
   by_program =
-      ap (λ b. if b then Some (pos value) else (if nat_le 4294965248 value && nat_lt value 4294967296 then Some (neg_ℤ (pos (4294967296 - value))) else None)) (le-ltb value 2048 (omega (arith, h)))
+      ap (λ b. if b then Some (pos value) else (if is_negative_immediate value then Some (neg_ℤ (pos (4294967296 - value))) else None)) (le-ltb value 2048 (omega (arith, h)))
       ∙ ap₂ (λ b c. if b && c then Some (neg_ℤ (pos (4294967296 - value))) else None) (le-leb 4294965248 value h) (lt-ltb value 4294967296 l);
   by_table = immediate_signed value (neg_ℤ (pos (4294967296 - value))) (ap (λ b. if b then pos value else neg_ℤ (pos (4294967296 - value))) (le-ltb value 2147483648 (omega (arith, h))))
       (negative_immediate (4294967296 - value) (4294967295 - value) (omega (arith, l)) (omega (arith, h)));

@@ -1,6 +1,6 @@
 -- How the program selects, from the last instruction of a block to the first: what it looks at in an
 -- instruction, and what it puts in its place by what is used behind it and by the short constants of the block.
-use Rattle.std.specs.Prelude.{◌≡◌, ℕ, ℤ, pos, neg_ℤ, ◌-◌, Bool, true, ◌&&◌, nat_lt, nat_le, ◌==◌, List, [], ◌∷◌, Option, Some, None, option_map, find, if◌then◌else◌}
+use Rattle.std.specs.Prelude.{◌≡◌, ℕ, ℤ, pos, neg_ℤ, ◌-◌, Bool, true, nat_lt, ◌==◌, List, [], ◌∷◌, Option, Some, None, option_map, find, if◌then◌else◌}
 use Rattle.std.specs.List.{AllZip, list_any}
 use Rattle.gi_mir.specs.declared.opcode.Opcode.{Opcode}
 use Rattle.gi_mir.specs.declared.opcode.Opcode.TheVariants.{GenericConstant, GenericAdd, Add, AddImmediate}
@@ -11,7 +11,7 @@ use Rattle.gi_mir.specs.declared.operand.Operand.TheVariants.{Def, Use, Phys, In
 use Rattle.gi_mir.specs.Data.{InstrData, FunctionData, no_flags}
 use Rattle.gi_mir.specs.Edit.{defines, with_instr}
 use Rattle.gi_refine.specs.Worded.{classed_instr}
-use Rattle.gi_answer.specs.Shapes.{ShapedInstr, IsShapedInstr, are_in_order}
+use Rattle.gi_answer.specs.Shapes.{is_negative_immediate, ShapedInstr, IsShapedInstr, are_in_order}
 use Rattle.gi_answer.specs.Rows.{is_use_of, short_where}
 use Rattle.gi_answer.specs.declared.select.Root.{Root}
 use Rattle.gi_answer.specs.declared.select.Root.TheVariants as root
@@ -26,7 +26,7 @@ pub record AreShaped (instrs : List (ℕ × InstrData)) : Type 0 where
 abbrev pub short_of : (value : ℕ) → Option ℤ
 short_of value =
     if nat_lt value 2048 then Some (pos value)
-    else if nat_le 4294965248 value && nat_lt value 4294967296 then Some (neg_ℤ (pos (4294967296 - value)))
+    else if is_negative_immediate value then Some (neg_ℤ (pos (4294967296 - value)))
     else None
 
 abbrev pub constant_root : List Operand → Option Root

@@ -1,7 +1,7 @@
 -- The five shapes of instructions that are selected so far: registers of 32 bits and of the bank `gprb` are copied from and
 -- to physical ones, made of short constants and added, and the function returns.
 -- (Machine IR (MIR) Format Reference Manual, "Machine Basic Blocks".)
-use Rattle.std.specs.Prelude.{◌≡◌, ℕ, Bool, true, false, not, ◌&&◌, ◌||◌, List, [], ◌∷◌, None, nat_lt, nat_le, ◌==◌}
+use Rattle.std.specs.Prelude.{◌≡◌, ℕ, Bool, true, false, not, ◌&&◌, ◌||◌, List, [], ◌∷◌, None, nat_lt, nat_le, ◌==◌, ◌-◌, ◌^◌}
 use Rattle.std.specs.List.{list_any}
 use Rattle.std.specs.Option.{is_none}
 use Rattle.gi_llt.specs.declared.Llt.TheVariants.{Scalar}
@@ -25,9 +25,13 @@ is_banked_word kind = false
 abbrev pub is_argument : ℕ → Bool
 is_argument number = nat_le 10 number && nat_le number 17
 
--- the 32 bits of -2048 to 2047
+-- the 32 bits of -2048 to -1, the numbers below zero that an instruction's immediate of 12 bits can be
+abbrev pub is_negative_immediate : ℕ → Bool
+is_negative_immediate value = nat_le (2 ^ 32 - 2 ^ 11) value && nat_lt value (2 ^ 32)
+
+-- the 32 bits of -2048 to 2047, an instruction's immediate of 12 bits
 abbrev pub is_short : ℕ → Bool
-is_short value = nat_lt value 2048 || (nat_le 4294965248 value && nat_lt value 4294967296)
+is_short value = nat_lt value 2048 || is_negative_immediate value
 
 abbrev pub is_plain : Flags → Bool
 is_plain flags = not flags.nuw && not flags.nsw && not flags.exact && not flags.disjoint && not flags.nneg

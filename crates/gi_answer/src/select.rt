@@ -14,6 +14,7 @@ ghost use Rattle.gi_answer.specs.Selectable.{IsOneBlock, IsSelectable, AllSelect
 ghost use Rattle.gi_answer.specs.Selecting.{AreShaped, short_of, constant_root, sum_root, root_of, result_of, with_constant, plain, selected_sum, selected_root, selected_where, selected_list, short_among, with_all, emptied};
 ghost use Rattle.gi_answer.specs.Selection.{IsSelected, IsSelectedModule};
 
+use crate::shapes::is_negative_immediate;
 use gi_llt::Memory;
 use gi_mir::block::{Block, Numbered};
 use gi_mir::function::Function;
@@ -47,7 +48,7 @@ fn short_number(value: u128) -> Option<i128>
 {
     if value < 2048 {
         Some(value as i128)
-    } else if 4_294_965_248 <= value && value < 4_294_967_296 {
+    } else if is_negative_immediate(value) {
         Some(-((4_294_967_296 - value) as i128))
     } else {
         None

@@ -1,7 +1,7 @@
 //! The five shapes of instructions that are selected so far.
 
 ghost use Rattle.std.specs.Prelude.{◌≡◌};
-ghost use Rattle.gi_answer.specs.Shapes.{are_shaped, is_argument, is_banked_word, is_copied, is_plain, is_returned, is_shaped, is_short, is_short_constant, is_sum};
+ghost use Rattle.gi_answer.specs.Shapes.{are_shaped, is_argument, is_banked_word, is_copied, is_negative_immediate, is_plain, is_returned, is_shaped, is_short, is_short_constant, is_sum};
 
 use gi_llt::Llt;
 use gi_mir::instr::Instr;
@@ -25,11 +25,18 @@ fn is_argument(number: u8) -> bool
     10 <= number && number <= 17
 }
 
+/// Whether 32 bits stand for a number from -2048 to -1.
+pub fn is_negative_immediate(value: u128) -> bool
+    ensures { result ≡ is_negative_immediate value }
+{
+    4_294_965_248 <= value && value < 4_294_967_296
+}
+
 /// Whether 32 bits stand for a number from -2048 to 2047.
 fn is_short(value: u128) -> bool
     ensures { result ≡ is_short value }
 {
-    value < 2048 || (4_294_965_248 <= value && value < 4_294_967_296)
+    value < 2048 || is_negative_immediate(value)
 }
 
 /// Whether an instruction has none of the flags.
