@@ -12,8 +12,9 @@ use Rattle.gi_options.specs.Machine.{width_of}
 use Rattle.gi_options.specs.Options.{OptionsData, options_of}
 use Rattle.gi_options.specs.declared.machine.Machine.{Machine}
 
--- the new function has the old one's name, and each of its runs, in every world and for every number of block
--- entries, is one that the old one allows
+-- The new function has the old one's name, and each of its runs, in every world and for every number of block
+-- entries, is one that the old one allows. Rows are looked at: a run that comes to an instruction that doesn't stand
+-- in its opcode's row is undefined.
 pub record Refines (x : ℕ) (old_names new_names : List (List ℕ)) (old new : FunctionData) : Type 0 where
   pub name : name_at new_names new.name ≡ name_at old_names old.name
   pub runs : (world : World) → IsWorld x world → (n : ℕ) (outcome : Outcome)
