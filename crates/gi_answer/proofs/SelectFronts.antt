@@ -11,7 +11,7 @@ use Rattle.gi_llt.specs.Bits.{unsigned}
 use Rattle.gi_mir.specs.Data.{InstrData, BlockData, FunctionData}
 use Rattle.gi_mir.specs.Edit.{defines}
 use Rattle.gi_mir.specs.Registers.{first_there, kind_in_operands, kind_in_instrs}
-use Rattle.gi_answer.specs.Shapes.{ShapedInstr, CopyIn, MakeConstant, AddUp, CopyOut, Return, shaped_instr, is_among, stands_behind, is_short, defined_after}
+use Rattle.gi_answer.specs.Shapes.{ShapedInstr, CopyIn, MakeConstant, AddUp, CopyOut, Return, shaped_instr, stands_behind, is_short, defined_after}
 use Rattle.gi_mir.specs.declared.operand.Kind.{Kind}
 use Rattle.gi_mir.specs.declared.operand.Kind.TheVariants as kind
 use Rattle.gi_mir.specs.declared.operand.Operand.{Operand}
@@ -22,7 +22,7 @@ use Rattle.gi_meaning.specs.Given.{one}
 use Rattle.gi_meaning.specs.Machine.{is_immediate}
 use Rattle.gi_meaning.specs.Meaning.{meaning_of}
 use Rattle.gi_meaning.specs.State.{World, State, Outside, outside_of, Place, Virtual, Physical, put}
-use Rattle.gi_meaning.specs.Runs.{Setting, width_of_kind, setting_of, arguments_of, written_places, put_all, Progress, On, Left, Over, going_on, progress_of, StepsFrom, Steps, After, Executes, phis_of}
+use Rattle.gi_meaning.specs.Runs.{Setting, width_of_kind, setting_of, arguments_of, written_places, put_all, Progress, On, Left, Over, going_on, progress_of, StepsFrom, Steps, After, Executes, phis_of, is_among}
 use Rattle.gi_refine.proofs.Staying.{phis_before}
 use Rattle.gi_answer.specs.Rows.{reads, short_where, short_number}
 use Rattle.gi_answer.specs.Selecting.{short_among}
@@ -150,8 +150,8 @@ pub record HoldsShort (state : State) (r : ℕ) (number : ℤ) : Type 0 where
 
 -- instructions that define these registers, read no others, and leave their short constants in them
 pub record IsFront (defined : List ℕ) (front : List (ℕ × InstrData)) : Type 0 where
-  pub defines_all : (r : ℕ) → list_any (defines r) front ≡ is_among defined r
-  pub reads_only : (r : ℕ) → is_among defined r ≡ false → list_any (reads r) front ≡ false
+  pub defines_all : (r : ℕ) → list_any (defines r) front ≡ is_among r defined
+  pub reads_only : (r : ℕ) → is_among r defined ≡ false → list_any (reads r) front ≡ false
   pub no_phis : phis_of front ≡ []
   pub of_32 : All32 front
   pub constants : (names : List (List ℕ)) (w : World) (state after : State) → Executes (plain names) w front state (On after)
@@ -192,46 +192,56 @@ pub short_behind : (front back : List (ℕ × InstrData)) (r : ℕ) → list_any
 short_behind front back r h =
     ap (λ (o : Option (ℕ × InstrData)). short_where (option_map (λ i. i.1) o)) (find-append (defines r) front back ∙ ap (λ o. option_or o (find (defines r) back)) (not_found (defines r) front h))
 
-apart_by : (defined : List ℕ) (a r : ℕ) (t : Bool) → (a == r) ≡ t → is_among defined a ≡ true → is_among defined r ≡ false → t ≡ false
-apart_by defined a r true same here absent = cc (subst (λ q. is_among defined q ≡ true) (eqb-true a r same) here, absent)
+apart_by : (defined : List ℕ) (a r : ℕ) (t : Bool) → (a == r) ≡ t → is_among a defined ≡ true → is_among r defined ≡ false → t ≡ false
+apart_by defined a r true same here absent = cc (subst (λ q. is_among q defined ≡ true) (eqb-true a r same) here, absent)
 apart_by defined a r false same here absent = refl
 
 -- what is defined isn't what is not
-pub apart : (defined : List ℕ) (a r : ℕ) → is_among defined a ≡ true → is_among defined r ≡ false → (a == r) ≡ false
+pub apart : (defined : List ℕ) (a r : ℕ) → is_among a defined ≡ true → is_among r defined ≡ false → (a == r) ≡ false
 apart defined a r here absent = apart_by defined a r (a == r) refl here absent
 
-pub new_is_absent : (defined : List ℕ) (d : ℕ) → not (is_among defined d) ≡ true → is_among defined d ≡ false
-new_is_absent defined d h = not-true (is_among defined d) h
+pub new_is_absent : (defined : List ℕ) (d : ℕ) → not (is_among d defined) ≡ true → is_among d defined ≡ false
+new_is_absent defined d h = not-true (is_among d defined) h
+
+-- which of two numbers is compared with which doesn't matter
+both_turned : (a b : ℕ) (t u : Bool) → (a == b) ≡ t → (b == a) ≡ u → t ≡ u
+both_turned a b true true one other = refl
+both_turned a b true false one other = sym (eq-eqb b a (sym (eqb-true a b one))) ∙ other
+both_turned a b false true one other = sym one ∙ eq-eqb a b (sym (eqb-true b a other))
+both_turned a b false false one other = refl
+
+equal_turned : (a b : ℕ) → (a == b) ≡ (b == a)
+equal_turned a b = both_turned a b (a == b) (b == a) refl refl
 
 pub defines_next : (defined : List ℕ) (s : ShapedInstr) (id line r : ℕ)
-    → (list_any (defines r) ((id, shaped_instr s line) ∷ []) || is_among defined r) ≡ is_among (defined_after defined s) r
-defines_next defined (CopyIn d p) id line r = ap (λ b. b || is_among defined r) (or_none ((d == r) || false) ∙ or_none (d == r))
-defines_next defined (MakeConstant d v) id line r = ap (λ b. b || is_among defined r) (or_none ((d == r) || false) ∙ or_none (d == r))
-defines_next defined (AddUp d a b) id line r = ap (λ b. b || is_among defined r) (or_none ((d == r) || false) ∙ or_none (d == r))
+    → (list_any (defines r) ((id, shaped_instr s line) ∷ []) || is_among r defined) ≡ is_among r (defined_after defined s)
+defines_next defined (CopyIn d p) id line r = ap (λ b. b || is_among r defined) (or_none ((d == r) || false) ∙ or_none (d == r) ∙ equal_turned d r)
+defines_next defined (MakeConstant d v) id line r = ap (λ b. b || is_among r defined) (or_none ((d == r) || false) ∙ or_none (d == r) ∙ equal_turned d r)
+defines_next defined (AddUp d a b) id line r = ap (λ b. b || is_among r defined) (or_none ((d == r) || false) ∙ or_none (d == r) ∙ equal_turned d r)
 defines_next defined (CopyOut p q) id line r = refl
 defines_next defined Return id line r = refl
 
-absent_before : (defined : List ℕ) (s : ShapedInstr) (r : ℕ) → is_among (defined_after defined s) r ≡ false → is_among defined r ≡ false
-absent_before defined (CopyIn d p) r h = (or_false (d == r) (is_among defined r) h).1
-absent_before defined (MakeConstant d v) r h = (or_false (d == r) (is_among defined r) h).1
-absent_before defined (AddUp d a b) r h = (or_false (d == r) (is_among defined r) h).1
+absent_before : (defined : List ℕ) (s : ShapedInstr) (r : ℕ) → is_among r (defined_after defined s) ≡ false → is_among r defined ≡ false
+absent_before defined (CopyIn d p) r h = (or_false (r == d) (is_among r defined) h).1
+absent_before defined (MakeConstant d v) r h = (or_false (r == d) (is_among r defined) h).1
+absent_before defined (AddUp d a b) r h = (or_false (r == d) (is_among r defined) h).1
 absent_before defined (CopyOut p q) r h = h
 absent_before defined Return r h = h
 
 -- what may stand
-pub copy_absent : (defined : List ℕ) (d p : ℕ) → stands_behind defined (CopyIn d p) ≡ true → is_among defined d ≡ false
+pub copy_absent : (defined : List ℕ) (d p : ℕ) → stands_behind defined (CopyIn d p) ≡ true → is_among d defined ≡ false
 copy_absent defined d p h = new_is_absent defined d h
 
-pub constant_parts : (defined : List ℕ) (d v : ℕ) → stands_behind defined (MakeConstant d v) ≡ true → (is_among defined d ≡ false) × (is_short v ≡ true)
-constant_parts defined d v h = let parts = and_parts (not (is_among defined d)) (is_short v) h in (new_is_absent defined d parts.0, parts.1)
+pub constant_parts : (defined : List ℕ) (d v : ℕ) → stands_behind defined (MakeConstant d v) ≡ true → (is_among d defined ≡ false) × (is_short v ≡ true)
+constant_parts defined d v h = let parts = and_parts (not (is_among d defined)) (is_short v) h in (new_is_absent defined d parts.0, parts.1)
 
-pub sum_parts : (defined : List ℕ) (d a b : ℕ) → stands_behind defined (AddUp d a b) ≡ true → (is_among defined d ≡ false) × (is_among defined a ≡ true) × (is_among defined b ≡ true)
+pub sum_parts : (defined : List ℕ) (d a b : ℕ) → stands_behind defined (AddUp d a b) ≡ true → (is_among d defined ≡ false) × (is_among a defined ≡ true) × (is_among b defined ≡ true)
 sum_parts defined d a b h =
-    let parts = and_parts (not (is_among defined d) && is_among defined a) (is_among defined b) h in
-    let more = and_parts (not (is_among defined d)) (is_among defined a) parts.0 in
+    let parts = and_parts (not (is_among d defined) && is_among a defined) (is_among b defined) h in
+    let more = and_parts (not (is_among d defined)) (is_among a defined) parts.0 in
     (new_is_absent defined d more.0, more.1, parts.1)
 
-pub reads_defined : (defined : List ℕ) (s : ShapedInstr) (id line r : ℕ) → stands_behind defined s ≡ true → is_among defined r ≡ false → reads r (id, shaped_instr s line) ≡ false
+pub reads_defined : (defined : List ℕ) (s : ShapedInstr) (id line r : ℕ) → stands_behind defined s ≡ true → is_among r defined ≡ false → reads r (id, shaped_instr s line) ≡ false
 reads_defined defined (CopyIn d p) id line r h absent = refl
 reads_defined defined (MakeConstant d v) id line r h absent = refl
 reads_defined defined (AddUp d a b) id line r h absent =
@@ -256,7 +266,7 @@ stated_32 Return id line = (tt, tt)
 
 -- ══ Short constants stay ══
 
-untouched : (defined : List ℕ) (s : ShapedInstr) (line r : ℕ) → stands_behind defined s ≡ true → is_among defined r ≡ true
+untouched : (defined : List ℕ) (s : ShapedInstr) (line r : ℕ) → stands_behind defined s ≡ true → is_among r defined ≡ true
     → Untouched r (written_places (meaning_of (shaped_instr s line).flags (shaped_instr s line).op) (shaped_instr s line).operands)
 untouched defined (CopyIn d p) line r h here = (apart defined r d here (copy_absent defined d p h), tt)
 untouched defined (MakeConstant d v) line r h here = (apart defined r d here (constant_parts defined d v h).0, tt)
@@ -321,7 +331,7 @@ constant_held names w r number s defined line state after constant stands step =
 
 constants_next : (defined : List ℕ) (front : List (ℕ × InstrData)) (s : ShapedInstr) (id line : ℕ) → IsFront defined front → stands_behind defined s ≡ true
     → (names : List (List ℕ)) (w : World) (state after : State) → LastStep (plain names) w front (id, shaped_instr s line) state after
-    → (r : ℕ) (number : ℤ) → short_among (front ++ ((id, shaped_instr s line) ∷ [])) r ≡ Some number → (t : Bool) → is_among defined r ≡ t → HoldsShort after r number
+    → (r : ℕ) (number : ℤ) → short_among (front ++ ((id, shaped_instr s line) ∷ [])) r ≡ Some number → (t : Bool) → is_among r defined ≡ t → HoldsShort after r number
 constants_next defined front s id line before stands names w state after last r number h true here =
     let held : HoldsShort last.middle r number = before.constants names w state last.middle last.first r number
     (sym (short_before front ((id, shaped_instr s line) ∷ []) r (before.defines_all r ∙ here)) ∙ h) in
@@ -338,11 +348,11 @@ pub front_next : (defined : List ℕ) (front : List (ℕ × InstrData)) (s : Sha
 front_next defined front s id line before stands =
     let i : ℕ × InstrData = (id, shaped_instr s line) in record {
       defines_all = λ r. list_any-append (defines r) front (i ∷ []) ∙ ap (λ b. b || list_any (defines r) (i ∷ [])) (before.defines_all r)
-          ∙ or_swapped (is_among defined r) (list_any (defines r) (i ∷ [])) ∙ defines_next defined s id line r;
-      reads_only = λ r absent. let earlier : is_among defined r ≡ false = absent_before defined s r absent in
+          ∙ or_swapped (is_among r defined) (list_any (defines r) (i ∷ [])) ∙ defines_next defined s id line r;
+      reads_only = λ r absent. let earlier : is_among r defined ≡ false = absent_before defined s r absent in
           list_any-append (reads r) front (i ∷ []) ∙ ap₂ (λ a b. a || (b || false)) (before.reads_only r earlier) (reads_defined defined s id line r stands earlier);
       no_phis = phis_before front (i ∷ []) (no_phi s id line) ∙ before.no_phis;
       of_32 = all_32 front (i ∷ []) before.of_32 (stated_32 s id line);
       constants = λ names w state after run r number h. constants_next defined front s id line before stands names w state after
-          (last_step (plain names) w front i state after run) r number h (is_among defined r) refl;
+          (last_step (plain names) w front i state after run) r number h (is_among r defined) refl;
     }

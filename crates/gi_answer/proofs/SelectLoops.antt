@@ -9,8 +9,9 @@ use mathlib.Core.Path.{fun_ext}
 use Rattle.gi_mir.specs.Data.{InstrData, BlockData, FunctionData, reg_of}
 use Rattle.gi_mir.specs.Edit.{HeadData, above_registers, defines, with_block, block_with, block_at, head_of}
 use Rattle.gi_mir.specs.Formed.{is_formed}
+use Rattle.gi_meaning.specs.Runs.{is_among}
 use Rattle.gi_refine.specs.Worded.{classed_instr, classed_block}
-use Rattle.gi_answer.specs.Shapes.{ShapedInstr, CopyIn, MakeConstant, AddUp, CopyOut, Return, shaped_instr, IsShapedInstr, is_among, stands_behind, defined_after}
+use Rattle.gi_answer.specs.Shapes.{ShapedInstr, CopyIn, MakeConstant, AddUp, CopyOut, Return, shaped_instr, IsShapedInstr, stands_behind, defined_after}
 use Rattle.gi_answer.specs.NormalForm.{IsNormalForm, last_site, next_at}
 use Rattle.gi_answer.specs.Rows.{is_use_of, short_where, selection_rows}
 use Rattle.gi_answer.specs.Selectable.{IsOneBlock, IsSelectable, AllSelectable}
@@ -64,7 +65,7 @@ other_here : (i : ℕ × InstrData) (t : Bool) → short_where (Some i.1) ≡ No
 other_here i true h = sym h
 other_here i false h = refl
 
-constant_next : (defined : List ℕ) (front : List (ℕ × InstrData)) (s : ShapedInstr) (id line r : ℕ) (t : Bool) → IsFront defined front → stands_behind defined s ≡ true → is_among defined r ≡ t
+constant_next : (defined : List ℕ) (front : List (ℕ × InstrData)) (s : ShapedInstr) (id line r : ℕ) (t : Bool) → IsFront defined front → stands_behind defined s ≡ true → is_among r defined ≡ t
     → with_constant (root_of (shaped_instr s line)) r (short_among front r) ≡ short_among (front ++ ((id, shaped_instr s line) ∷ [])) r
 constant_next defined front (MakeConstant d v) id line r true front_is stands here =
     let parts = constant_parts defined d v stands in
@@ -100,7 +101,7 @@ constant_more is k i d r in_shape within at same =
     let line : ℕ = i.1.line in
     let here : i ≡ (i.0, shaped_instr h.s line) = ap (λ (e : InstrData). (i.0, e)) h.same in
     ap (λ e. with_constant (root_of e) r (short_among (take k is) r)) (same ∙ h.same)
-    ∙ constant_next h.defined (take k is) h.s i.0 line r (is_among h.defined r) h.front_is h.stands refl
+    ∙ constant_next h.defined (take k is) h.s i.0 line r (is_among r h.defined) h.front_is h.stands refl
     ∙ ap (λ (j : ℕ × InstrData). short_among (take k is ++ (j ∷ [])) r) (sym here ∙ at) ∙ ap (λ xs. short_among xs r) (sym (take-suc is k i within))
 
 -- ══ Selected so far ══

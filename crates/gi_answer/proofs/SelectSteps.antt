@@ -8,8 +8,8 @@ use Rattle.gi_mir.specs.Data.{InstrData, BlockData, FunctionData}
 use Rattle.gi_mir.specs.Edit.{defines, is_def_of}
 use Rattle.gi_mir.specs.declared.operand.Operand.{Operand}
 use Rattle.gi_mir.specs.declared.operand.Operand.TheVariants as operand
-use Rattle.gi_answer.specs.Shapes.{ShapedInstr, CopyIn, MakeConstant, AddUp, CopyOut, Return, shaped_instr, IsShapedInstr, is_among, stands_behind, defined_after}
-use Rattle.gi_meaning.specs.Runs.{phis_of}
+use Rattle.gi_answer.specs.Shapes.{ShapedInstr, CopyIn, MakeConstant, AddUp, CopyOut, Return, shaped_instr, IsShapedInstr, stands_behind, defined_after}
+use Rattle.gi_meaning.specs.Runs.{phis_of, is_among}
 use Rattle.gi_refine.specs.Refinement.{IsRefinement}
 use Rattle.gi_refine.specs.Replacing.{touches, any_touches}
 use Rattle.gi_refine.specs.Worded.{classed_instr}
@@ -58,7 +58,7 @@ pub record Came (constant : ℕ → Option ℤ) (f : FunctionData) (b : BlockDat
   pub none : list_any is_generic back ≡ false
   pub no_phis : phis_of back ≡ []
   pub of_32 : All32 back
-  pub fresh : (r : ℕ) → is_among defined r ≡ true → list_any (defines r) back ≡ false
+  pub fresh : (r : ℕ) → is_among r defined ≡ true → list_any (defines r) back ≡ false
   pub nameless : list_all is_nameless back ≡ true
 
 -- the last instruction of the front counted to what follows
@@ -82,10 +82,10 @@ or_true : (a b : Bool) → b ≡ true → (a || b) ≡ true
 or_true true b h = refl
 or_true false b h = h
 
-among_next : (defined : List ℕ) (s : ShapedInstr) (r : ℕ) → is_among defined r ≡ true → is_among (defined_after defined s) r ≡ true
-among_next defined (CopyIn d p) r h = or_true (d == r) (is_among defined r) h
-among_next defined (MakeConstant d v) r h = or_true (d == r) (is_among defined r) h
-among_next defined (AddUp d a b) r h = or_true (d == r) (is_among defined r) h
+among_next : (defined : List ℕ) (s : ShapedInstr) (r : ℕ) → is_among r defined ≡ true → is_among r (defined_after defined s) ≡ true
+among_next defined (CopyIn d p) r h = or_true (r == d) (is_among r defined) h
+among_next defined (MakeConstant d v) r h = or_true (r == d) (is_among r defined) h
+among_next defined (AddUp d a b) r h = or_true (r == d) (is_among r defined) h
 among_next defined (CopyOut p q) r h = h
 among_next defined Return r h = h
 
@@ -93,7 +93,7 @@ among_next defined Return r h = h
 record Stays (constant : ℕ → Option ℤ) (defined : List ℕ) (s : ShapedInstr) (id line : ℕ) (behind : List InstrData) : Type 0 where
   selects : selected_where (used_in behind) constant (shaped_instr s line) ≡ Some (classed_instr (shaped_instr s line))
   plain : is_generic (id, shaped_instr s line) ≡ false
-  new : (r : ℕ) → is_among defined r ≡ true → defines r (id, shaped_instr s line) ≡ false
+  new : (r : ℕ) → is_among r defined ≡ true → defines r (id, shaped_instr s line) ≡ false
 
 kept_step : (constant : ℕ → Option ℤ) (f : FunctionData) (b : BlockData) (defined : List ℕ) (front : List (ℕ × InstrData)) (s : ShapedInstr) (id line : ℕ) (is : List (ℕ × InstrData)) (reg next : ℕ)
     → Stays constant defined s id line (selected_list constant is)
@@ -158,7 +158,7 @@ record Makes (constant : ℕ → Option ℤ) (f : FunctionData) (b : BlockData) 
   plain : list_any (λ x. is_generic_op x.op) made ≡ false
   no_phis : phis_of (with_ids id made ++ back) ≡ []
   of_32 : All32 (with_ids id made)
-  new : (r : ℕ) → is_among defined r ≡ true → list_any (defines r) (with_ids id made) ≡ false
+  new : (r : ℕ) → is_among r defined ≡ true → list_any (defines r) (with_ids id made) ≡ false
   nameless : list_all is_nameless (with_ids id made) ≡ true
   owes : (names : List (List ℕ)) → Fits names front (i ∷ []) (with_ids id made) back hidden
 
@@ -192,17 +192,17 @@ made_step constant f b defined front s id line is reg next front_is came makes =
 
 -- ══ What is used behind ══
 
-new_apart_by : (defined : List ℕ) (d r : ℕ) (t : Bool) → (d == r) ≡ t → is_among defined d ≡ false → is_among defined r ≡ true → t ≡ false
-new_apart_by defined d r true same absent here = cc (subst (λ q. is_among defined q ≡ false) (eqb-true d r same) absent, here)
+new_apart_by : (defined : List ℕ) (d r : ℕ) (t : Bool) → (d == r) ≡ t → is_among d defined ≡ false → is_among r defined ≡ true → t ≡ false
+new_apart_by defined d r true same absent here = cc (subst (λ q. is_among q defined ≡ false) (eqb-true d r same) absent, here)
 new_apart_by defined d r false same absent here = refl
 
 -- a new register isn't one that is defined
-pub new_apart : (defined : List ℕ) (d r : ℕ) → is_among defined d ≡ false → is_among defined r ≡ true → (d == r) ≡ false
+pub new_apart : (defined : List ℕ) (d r : ℕ) → is_among d defined ≡ false → is_among r defined ≡ true → (d == r) ≡ false
 new_apart defined d r absent here = new_apart_by defined d r (d == r) refl absent here
 
 -- an instruction's new result is used in the function where it is used behind the instruction
 used_here : (f : FunctionData) (b : BlockData) (defined : List ℕ) (front : List (ℕ × InstrData)) (s : ShapedInstr) (id line : ℕ) (back : List (ℕ × InstrData)) (reg next d : ℕ)
-    → IsFront defined front → stands_behind defined s ≡ true → is_among defined d ≡ false
+    → IsFront defined front → stands_behind defined s ≡ true → is_among d defined ≡ false
     → is_used (shaped f b (front ++ ((id, shaped_instr s line) ∷ back)) reg next) d ≡ list_any (reads d) back
 used_here f b defined front s id line back reg next d front_is stands absent =
     let i : ℕ × InstrData = (id, shaped_instr s line) in
@@ -265,7 +265,7 @@ constant_makes constant f b defined front d v id line is reg next front_is stand
         no_phi = refl;
         no_new_phi = came.no_phis;
         front_clear = any_clear d front (front_is.defines_all d ∙ parts.0) (front_is.reads_only d parts.0);
-        back_clear = any_clear d came.back (came.fresh d (ap (λ x. x || is_among defined d) (eq-eqb d d refl))) used;
+        back_clear = any_clear d came.back (came.fresh d (ap (λ x. x || is_among d defined) (eq-eqb d d refl))) used;
         follows = dead_constant_follows names front d v id line;
       };
     }
@@ -293,7 +293,7 @@ sum_defines id d a b line r (Some number) None h = ap (λ x. (x || false) || fal
 sum_defines id d a b line r None None h = ap (λ x. (x || false) || false) h
 
 sum_makes : (constant : ℕ → Option ℤ) (f : FunctionData) (b : BlockData) (defined : List ℕ) (front : List (ℕ × InstrData)) (d a c id line : ℕ) (is : List (ℕ × InstrData)) (reg next : ℕ)
-    → IsFront defined front → stands_behind defined (AddUp d a c) ≡ true → ((r : ℕ) → is_among defined r ≡ true → constant r ≡ short_among front r)
+    → IsFront defined front → stands_behind defined (AddUp d a c) ≡ true → ((r : ℕ) → is_among r defined ≡ true → constant r ≡ short_among front r)
     → (came : Came constant f b (d ∷ defined) (front ++ ((id, sum_instr d a c line) ∷ [])) is reg next) → (u : Bool) → list_any (reads d) came.back ≡ u
     → Makes constant f b defined front (id, sum_instr d a c line) (selected_list constant is) came.back came.next_reg came.next_id
 sum_makes constant f b defined front d a c id line is reg next front_is stands constant_is came true used =
@@ -350,7 +350,7 @@ sum_makes constant f b defined front d a c id line is reg next front_is stands c
         no_phi = refl;
         no_new_phi = came.no_phis;
         front_clear = any_clear d front (front_is.defines_all d ∙ parts.0) (front_is.reads_only d parts.0);
-        back_clear = any_clear d came.back (came.fresh d (ap (λ x. x || is_among defined d) (eq-eqb d d refl))) used;
+        back_clear = any_clear d came.back (came.fresh d (ap (λ x. x || is_among d defined) (eq-eqb d d refl))) used;
         follows = dead_sum_follows names front d a c id line;
       };
     }
@@ -358,7 +358,7 @@ sum_makes constant f b defined front d a c id line is reg next front_is stands c
 -- ══ The whole block ══
 
 step_back : (constant : ℕ → Option ℤ) (f : FunctionData) (b : BlockData) (defined : List ℕ) (front : List (ℕ × InstrData)) (s : ShapedInstr) (id line : ℕ) (is : List (ℕ × InstrData)) (reg next : ℕ)
-    → IsFront defined front → stands_behind defined s ≡ true → ((r : ℕ) → is_among defined r ≡ true → constant r ≡ short_among front r)
+    → IsFront defined front → stands_behind defined s ≡ true → ((r : ℕ) → is_among r defined ≡ true → constant r ≡ short_among front r)
     → Came constant f b (defined_after defined s) (front ++ ((id, shaped_instr s line) ∷ [])) is reg next
     → Came constant f b defined front ((id, shaped_instr s line) ∷ is) reg next
 step_back constant f b defined front (CopyIn d p) id line is reg next front_is stands constant_is came =

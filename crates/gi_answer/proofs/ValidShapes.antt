@@ -19,7 +19,7 @@ use Rattle.gi_mir.specs.declared.operand.Kind.TheVariants.{Banked}
 use Rattle.gi_mir.specs.declared.operand.MemOp.{MemOp}
 use Rattle.gi_mir.specs.declared.operand.Operand.{Operand}
 use Rattle.gi_mir.specs.declared.operand.Operand.TheVariants.{Def, Use, Phys, PhysDef, ImplicitUse, Constant}
-use Rattle.gi_meaning.specs.Runs.{is_phi, phis_of, after_phis}
+use Rattle.gi_meaning.specs.Runs.{is_phi, phis_of, after_phis, is_among}
 use Rattle.gi_valid.specs.Available.{IsAvailable, at_once, one_by_one, behind, defines_origin}
 use Rattle.gi_valid.specs.Faults.{definitions, times}
 use Rattle.gi_meaning.specs.InRow.{results_in}
@@ -29,7 +29,7 @@ use Rattle.gi_valid.proofs.Valid.{orderly, use_available}
 use Rattle.gi_observe.specs.declared.pass.Pass.{Pass}
 use Rattle.gi_answer.specs.Messages.{unbuilt_line}
 use Rattle.gi_answer.specs.Selectable.{IsOneBlock, IsSelectable, AllSelectable}
-use Rattle.gi_answer.specs.Shapes.{is_banked_word, is_argument, is_short, is_plain, is_copied, is_short_constant, is_sum, is_returned, are_shaped, is_shaped, ShapedInstr, CopyIn, MakeConstant, AddUp, CopyOut, Return, word_kind, shaped_instr, IsShapedInstr, is_among, stands_behind, defined_after, are_in_order}
+use Rattle.gi_answer.specs.Shapes.{is_banked_word, is_argument, is_short, is_plain, is_copied, is_short_constant, is_sum, is_returned, are_shaped, is_shaped, ShapedInstr, CopyIn, MakeConstant, AddUp, CopyOut, Return, word_kind, shaped_instr, IsShapedInstr, stands_behind, defined_after, are_in_order}
 use Rattle.gi_answer.specs.Unselected.{other_line, other_in_instrs, other_in_blocks, has_several, is_blank, last_of, blank_message, unselected, unselected_in_function, unselected_in}
 use Rattle.gi_answer.specs.Unrun.{selects, unbuilt, unprinted}
 use Rattle.gi_answer.specs.Validity.{AreValid}
@@ -214,8 +214,8 @@ or_right true b h = refl
 or_right false b h = h
 
 -- an instruction that defines new registers alone and reads defined ones may stand
-stands_where : (defined : List ℕ) (s : ShapedInstr) (id line : ℕ) → ((r : ℕ) → defines r (id, shaped_instr s line) ≡ true → is_among defined r ≡ false)
-    → ((r : ℕ) → uses r (id, shaped_instr s line) ≡ true → is_among defined r ≡ true) → ((reg value : ℕ) → s ≡ MakeConstant reg value → is_short value ≡ true) → stands_behind defined s ≡ true
+stands_where : (defined : List ℕ) (s : ShapedInstr) (id line : ℕ) → ((r : ℕ) → defines r (id, shaped_instr s line) ≡ true → is_among r defined ≡ false)
+    → ((r : ℕ) → uses r (id, shaped_instr s line) ≡ true → is_among r defined ≡ true) → ((reg value : ℕ) → s ≡ MakeConstant reg value → is_short value ≡ true) → stands_behind defined s ≡ true
 stands_where defined (CopyIn d p) id line new there short = ap not (new d (ap (λ t. t || false) (eq-eqb d d refl)))
 stands_where defined (MakeConstant d v) id line new there short = both_true (ap not (new d (ap (λ t. t || false) (eq-eqb d d refl)))) (short d v refl)
 stands_where defined (AddUp d a b) id line new there short =
@@ -255,7 +255,7 @@ its_block x phase f block valid blocks = record {
 
 module _ (f : FunctionData) (block : BlockData) (one : OneBlock f block) (plain : StartsPlain block.instrs) where
   is_new_there : (defined : List ℕ) (front : List (ℕ × InstrData)) (i : ℕ × InstrData) (is : List (ℕ × InstrData)) → block.instrs ≡ front ++ i ∷ is
-      → ((r : ℕ) → list_any (defines r) front ≡ is_among defined r) → (r : ℕ) → defines r i ≡ true → is_among defined r ≡ false
+      → ((r : ℕ) → list_any (defines r) front ≡ is_among r defined) → (r : ℕ) → defines r i ≡ true → is_among r defined ≡ false
   is_new_there defined front i is whole defines_all r h = sym (defines_all r) ∙ by (list_any (defines r) front) refl
     where
       by : (t : Bool) → list_any (defines r) front ≡ t → list_any (defines r) front ≡ false
@@ -263,14 +263,14 @@ module _ (f : FunctionData) (block : BlockData) (one : OneBlock f block) (plain 
       by true so = absurd (not_twice r front (i ∷ is) (subst (λ js. times r (definitions js) ≤ 1) whole (one.once r)) so (ap (λ t. t || list_any (defines r) is) h))
 
   is_defined_there : (defined : List ℕ) (front : List (ℕ × InstrData)) (i : ℕ × InstrData) (is : List (ℕ × InstrData)) → block.instrs ≡ front ++ i ∷ is → StartsPlain front
-      → ((r : ℕ) → list_any (defines r) front ≡ is_among defined r) → (r : ℕ) → uses r i ≡ true → is_among defined r ≡ true
+      → ((r : ℕ) → list_any (defines r) front ≡ is_among r defined) → (r : ℕ) → uses r i ≡ true → is_among r defined ≡ true
   is_defined_there defined front i is whole front_plain defines_all r h =
       let there : IsAvailable f 0 (phis_of block.instrs ++ front) r = one.available front i is (plain_all block.instrs plain ∙ whole) r h in
       let holds : behind r there.extent.origins false front ≡ true =
       sym (ap₂ (λ phis starts. behind r there.extent.origins starts (phis ++ front)) (plain_no_phis block.instrs plain) there.contained.first) ∙ there.holds in
       sym (defines_all r) ∙ defined_there r there.extent.origins front holds (plain_no_phis front front_plain) (plain_all front front_plain)
 
-  in_shape_from : (defined : List ℕ) (front is : List (ℕ × InstrData)) → block.instrs ≡ front ++ is → StartsPlain front → ((r : ℕ) → list_any (defines r) front ≡ is_among defined r)
+  in_shape_from : (defined : List ℕ) (front is : List (ℕ × InstrData)) → block.instrs ≡ front ++ is → StartsPlain front → ((r : ℕ) → list_any (defines r) front ≡ is_among r defined)
       → other_in_instrs is ≡ None → InShape defined is
   in_shape_from defined front [] whole front_plain defines_all none = record { shapes = []; shaped = tt; ordered = refl }
   in_shape_from defined front (i ∷ is) whole front_plain defines_all none =
@@ -283,9 +283,9 @@ module _ (f : FunctionData) (block : BlockData) (one : OneBlock f block) (plain 
       stands_where defined h.shape i.0 line
       (λ r new. is_new_there defined front i is whole defines_all r (ap (defines r) same ∙ new))
       (λ r used. is_defined_there defined front i is whole front_plain defines_all r (ap (uses r) same ∙ used)) h.short in
-      let next : (r : ℕ) → list_any (defines r) (front ++ i ∷ []) ≡ is_among (defined_after defined h.shape) r =
+      let next : (r : ℕ) → list_any (defines r) (front ++ i ∷ []) ≡ is_among r (defined_after defined h.shape) =
       λ r. list_any-append (defines r) front (i ∷ []) ∙ ap₂ (λ (a : Bool) (k : ℕ × InstrData). a || list_any (defines r) (k ∷ [])) (defines_all r) same
-      ∙ or_swapped (is_among defined r) (list_any (defines r) (j ∷ [])) ∙ defines_next defined h.shape i.0 line r in
+      ∙ or_swapped (is_among r defined) (list_any (defines r) (j ∷ [])) ∙ defines_next defined h.shape i.0 line r in
       let rest : InShape (defined_after defined h.shape) is =
       in_shape_from (defined_after defined h.shape) (front ++ i ∷ []) is (whole ∙ sym (append_assoc front (i ∷ []) is))
       (plain_with front i front_plain (ap is_phi h.same ∙ shape_plain h.shape line)) next parts.1 in

@@ -2,7 +2,6 @@
 -- to physical ones, made of short constants and added, and the function returns.
 -- (Machine IR (MIR) Format Reference Manual, "Machine Basic Blocks".)
 use Rattle.std.specs.Prelude.{◌≡◌, ℕ, Bool, true, false, not, ◌&&◌, ◌||◌, List, [], ◌∷◌, None, nat_lt, nat_le, ◌==◌, ◌-◌, ◌^◌}
-use Rattle.std.specs.List.{list_any}
 use Rattle.std.specs.Option.{is_none}
 use Rattle.gi_llt.specs.declared.Llt.TheVariants.{Scalar}
 use Rattle.gi_mir.specs.declared.opcode.Opcode.{Opcode}
@@ -13,6 +12,7 @@ use Rattle.gi_mir.specs.declared.operand.Kind.TheVariants.{Banked}
 use Rattle.gi_mir.specs.declared.operand.Operand.{Operand}
 use Rattle.gi_mir.specs.declared.operand.Operand.TheVariants.{Def, Use, Phys, PhysDef, ImplicitUse, Constant}
 use Rattle.gi_mir.specs.Data.{InstrData, no_flags, reg_of}
+use Rattle.gi_meaning.specs.Runs.{is_among}
 
 -- ══ Which instructions have one ══
 
@@ -98,15 +98,12 @@ IsShapedInstr shape instr = instr.1 ≡ shaped_instr shape (instr.1).line
 
 -- ══ Shapes in order ══
 
-abbrev pub is_among : List ℕ → ℕ → Bool
-is_among numbers number = list_any (λ other. other == number) numbers
-
 -- whether an instruction may stand where these virtual registers have been defined: it defines a new one, and reads those alone
 abbrev pub stands_behind : (defined : List ℕ) → ShapedInstr → Bool
-stands_behind defined (CopyIn reg physical) = not (is_among defined reg)
-stands_behind defined (MakeConstant reg value) = not (is_among defined reg) && is_short value
-stands_behind defined (AddUp reg left right) = not (is_among defined reg) && is_among defined left && is_among defined right
-stands_behind defined (CopyOut physical reg) = is_among defined reg
+stands_behind defined (CopyIn reg physical) = not (is_among reg defined)
+stands_behind defined (MakeConstant reg value) = not (is_among reg defined) && is_short value
+stands_behind defined (AddUp reg left right) = not (is_among reg defined) && is_among left defined && is_among right defined
+stands_behind defined (CopyOut physical reg) = is_among reg defined
 stands_behind defined Return = true
 
 abbrev pub defined_after : List ℕ → ShapedInstr → List ℕ
