@@ -9,7 +9,7 @@ use Rattle.std.proofs.lemmas.List.Folds.{find-append, list_any-append}
 use mathlib.Core.Path.{fun_ext}
 use Rattle.gi_llt.specs.Bits.{unsigned}
 use Rattle.gi_mir.specs.Data.{InstrData, BlockData, FunctionData}
-use Rattle.gi_mir.specs.Edit.{defines}
+use Rattle.gi_mir.specs.Edit.{defines, uses}
 use Rattle.gi_mir.specs.Registers.{first_there, kind_in_operands, kind_in_instrs}
 use Rattle.gi_answer.specs.Shapes.{ShapedInstr, CopyIn, MakeConstant, AddUp, CopyOut, Return, shaped_instr, stands_behind, is_short, defined_after}
 use Rattle.gi_mir.specs.declared.operand.Kind.{Kind}
@@ -24,7 +24,7 @@ use Rattle.gi_meaning.specs.Meaning.{meaning_of}
 use Rattle.gi_meaning.specs.State.{World, State, Outside, outside_of, Place, Virtual, Physical, put}
 use Rattle.gi_meaning.specs.Runs.{Setting, width_of_kind, setting_of, arguments_of, written_places, put_all, Progress, On, Left, Over, going_on, progress_of, StepsFrom, Steps, After, Executes, phis_of, is_among}
 use Rattle.gi_refine.proofs.Staying.{phis_before}
-use Rattle.gi_answer.specs.Rows.{reads, short_where, short_number}
+use Rattle.gi_answer.specs.Rows.{short_where, short_number}
 use Rattle.gi_answer.specs.Selecting.{short_among}
 use Rattle.gi_answer.proofs.SelectFits.{IsShort, short_value}
 use Rattle.gi_answer.proofs.SelectShapes.{or_false, or_none, or_swapped, shaped}
@@ -151,7 +151,7 @@ pub record HoldsShort (state : State) (r : ℕ) (number : ℤ) : Type 0 where
 -- instructions that define these registers, read no others, and leave their short constants in them
 pub record IsFront (defined : List ℕ) (front : List (ℕ × InstrData)) : Type 0 where
   pub defines_all : (r : ℕ) → list_any (defines r) front ≡ is_among r defined
-  pub reads_only : (r : ℕ) → is_among r defined ≡ false → list_any (reads r) front ≡ false
+  pub reads_only : (r : ℕ) → is_among r defined ≡ false → list_any (uses r) front ≡ false
   pub no_phis : phis_of front ≡ []
   pub of_32 : All32 front
   pub constants : (names : List (List ℕ)) (w : World) (state after : State) → Executes (plain names) w front state (On after)
@@ -241,7 +241,7 @@ sum_parts defined d a b h =
     let more = and_parts (not (is_among d defined)) (is_among a defined) parts.0 in
     (new_is_absent defined d more.0, more.1, parts.1)
 
-pub reads_defined : (defined : List ℕ) (s : ShapedInstr) (id line r : ℕ) → stands_behind defined s ≡ true → is_among r defined ≡ false → reads r (id, shaped_instr s line) ≡ false
+pub reads_defined : (defined : List ℕ) (s : ShapedInstr) (id line r : ℕ) → stands_behind defined s ≡ true → is_among r defined ≡ false → uses r (id, shaped_instr s line) ≡ false
 reads_defined defined (CopyIn d p) id line r h absent = refl
 reads_defined defined (MakeConstant d v) id line r h absent = refl
 reads_defined defined (AddUp d a b) id line r h absent =
@@ -350,7 +350,7 @@ front_next defined front s id line before stands =
       defines_all = λ r. list_any-append (defines r) front (i ∷ []) ∙ ap (λ b. b || list_any (defines r) (i ∷ [])) (before.defines_all r)
           ∙ or_swapped (is_among r defined) (list_any (defines r) (i ∷ [])) ∙ defines_next defined s id line r;
       reads_only = λ r absent. let earlier : is_among r defined ≡ false = absent_before defined s r absent in
-          list_any-append (reads r) front (i ∷ []) ∙ ap₂ (λ a b. a || (b || false)) (before.reads_only r earlier) (reads_defined defined s id line r stands earlier);
+          list_any-append (uses r) front (i ∷ []) ∙ ap₂ (λ a b. a || (b || false)) (before.reads_only r earlier) (reads_defined defined s id line r stands earlier);
       no_phis = phis_before front (i ∷ []) (no_phi s id line) ∙ before.no_phis;
       of_32 = all_32 front (i ∷ []) before.of_32 (stated_32 s id line);
       constants = λ names w state after run r number h. constants_next defined front s id line before stands names w state after

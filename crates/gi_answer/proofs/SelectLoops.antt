@@ -7,13 +7,13 @@ use Rattle.std.proofs.lemmas.List.Elements.{AllZip-push}
 use Rattle.std.proofs.lemmas.List.Folds.{list_all-append}
 use mathlib.Core.Path.{fun_ext}
 use Rattle.gi_mir.specs.Data.{InstrData, BlockData, FunctionData, reg_of}
-use Rattle.gi_mir.specs.Edit.{HeadData, above_registers, defines, with_block, block_with, block_at, head_of}
+use Rattle.gi_mir.specs.Edit.{HeadData, above_registers, defines, with_block, block_with, block_at, head_of, is_use_of}
 use Rattle.gi_mir.specs.Formed.{is_formed}
 use Rattle.gi_meaning.specs.Runs.{is_among}
 use Rattle.gi_refine.specs.Worded.{classed_instr, classed_block}
 use Rattle.gi_answer.specs.Shapes.{ShapedInstr, CopyIn, MakeConstant, AddUp, CopyOut, Return, shaped_instr, IsShapedInstr, stands_behind, defined_after}
 use Rattle.gi_answer.specs.NormalForm.{IsNormalForm, last_site, next_at}
-use Rattle.gi_answer.specs.Rows.{is_use_of, short_where, selection_rows}
+use Rattle.gi_answer.specs.Rows.{short_where, selection_rows}
 use Rattle.gi_answer.specs.Selectable.{IsOneBlock, IsSelectable, AllSelectable}
 use Rattle.gi_answer.specs.Selecting.{AreShaped, root_of, with_constant, selected_where, selected_list, selected_root, selected_sum, used_in, before, short_among, with_all, emptied}
 use Rattle.gi_answer.specs.Selection.{selected_form, IsSameInstr, IsSameBlock, IsSameFunction, IsSelected}

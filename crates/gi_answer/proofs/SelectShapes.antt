@@ -7,7 +7,7 @@ use Rattle.std.specs.Option.{option_or}
 use Rattle.std.proofs.lemmas.Bool.{and_parts}
 use Rattle.std.proofs.lemmas.List.{append-nil}
 use Rattle.gi_mir.specs.Data.{InstrData, BlockData, FunctionData}
-use Rattle.gi_mir.specs.Edit.{above_registers}
+use Rattle.gi_mir.specs.Edit.{above_registers, is_use_of, uses}
 use Rattle.gi_mir.specs.declared.operand.Operand.{Operand}
 use Rattle.gi_mir.specs.declared.operand.Operand.TheVariants as operand
 use Rattle.gi_answer.specs.Shapes.{ShapedInstr, stands_behind, defined_after, are_in_order}
@@ -15,7 +15,7 @@ use Rattle.gi_answer.specs.NormalForm.{last_place, first_fit, next, next_at, rew
 use Rattle.gi_mir.specs.Row.{is_generic_op}
 use Rattle.gi_refine.specs.Kept.{without_kind}
 use Rattle.gi_refine.specs.Worded.{classed_instr}
-use Rattle.gi_answer.specs.Rows.{Site, is_generic, is_use_of, reads, is_used, short_in, selection_rows}
+use Rattle.gi_answer.specs.Rows.{Site, is_generic, is_used, short_in, selection_rows}
 use Rattle.gi_answer.specs.Selecting.{used_in, short_among}
 
 -- ══ Tests ══
@@ -98,8 +98,8 @@ no_next f b back reg id none = ap (λ place. next_at selection_rows (shaped f b 
 
 -- ══ What is used, and the short constants ══
 
-pub used_shaped : (f : FunctionData) (b : BlockData) (instrs : List (ℕ × InstrData)) (reg id r : ℕ) → is_used (shaped f b instrs reg id) r ≡ list_any (reads r) instrs
-used_shaped f b instrs reg id r = ap (list_any (reads r)) (append-nil instrs)
+pub used_shaped : (f : FunctionData) (b : BlockData) (instrs : List (ℕ × InstrData)) (reg id r : ℕ) → is_used (shaped f b instrs reg id) r ≡ list_any (uses r) instrs
+used_shaped f b instrs reg id r = ap (list_any (uses r)) (append-nil instrs)
 
 pub short_shaped : (f : FunctionData) (b : BlockData) (instrs : List (ℕ × InstrData)) (reg id r : ℕ) → short_in (shaped f b instrs reg id) r ≡ short_among instrs r
 short_shaped f b instrs reg id r = ap (λ is. short_among is r) (append-nil instrs)
@@ -116,7 +116,7 @@ uses_classed r (o ∷ os) = ap₂ (λ a b. a || b) (use_classed r o) (uses_class
 abbrev pub classed_all : List (ℕ × InstrData) → List InstrData
 classed_all is = map (λ i. classed_instr i.1) is
 
-pub used_classed : (r : ℕ) (is : List (ℕ × InstrData)) → used_in (classed_all is) r ≡ list_any (reads r) is
+pub used_classed : (r : ℕ) (is : List (ℕ × InstrData)) → used_in (classed_all is) r ≡ list_any (uses r) is
 used_classed r [] = refl
 used_classed r (i ∷ is) = ap₂ (λ a b. a || b) (uses_classed r i.1.operands) (used_classed r is)
 

@@ -5,7 +5,7 @@ use Rattle.std.specs.List.{AllZip, list_any, list_all}
 use Rattle.std.proofs.lemmas.Bool.{eqb-true, eq-eqb}
 use Rattle.std.proofs.lemmas.List.Folds.{list_any-append, list_all-append}
 use Rattle.gi_mir.specs.Data.{InstrData, BlockData, FunctionData}
-use Rattle.gi_mir.specs.Edit.{defines, is_def_of}
+use Rattle.gi_mir.specs.Edit.{defines, is_def_of, is_use_of, uses}
 use Rattle.gi_mir.specs.declared.operand.Operand.{Operand}
 use Rattle.gi_mir.specs.declared.operand.Operand.TheVariants as operand
 use Rattle.gi_answer.specs.Shapes.{ShapedInstr, CopyIn, MakeConstant, AddUp, CopyOut, Return, shaped_instr, IsShapedInstr, stands_behind, defined_after}
@@ -16,7 +16,7 @@ use Rattle.gi_refine.specs.Worded.{classed_instr}
 use Rattle.gi_refine.proofs.Refining.{refines_itself, refines_through}
 use Rattle.gi_answer.specs.NormalForm.{first_fit, next, with_ids, IsNormalForm}
 use Rattle.gi_mir.specs.Row.{is_generic_op}
-use Rattle.gi_answer.specs.Rows.{is_generic, is_use_of, reads, is_used, short_in, selection_rows}
+use Rattle.gi_answer.specs.Rows.{is_generic, is_used, short_in, selection_rows}
 use Rattle.gi_answer.specs.Selecting.{selected_where, selected_list, used_in, before, short_among}
 use Rattle.gi_answer.proofs.SelectFits.{IsShort, short_value, constant_instr, constant_list, constant_fits, constant_selected, sum_instr, sum_list, sum_fits, sum_selected, sum_classed, sum_not_generic}
 use Rattle.gi_answer.proofs.SelectShapes.{or_false, shaped, site_at, next_reg_after, next_shaped, used_shaped, short_shaped, classed_all, used_classed, classed_made, none_made, is_nameless, InOrder}
@@ -131,12 +131,12 @@ touches_clear d (operand.Use r ∷ os) h g =
     let parts = or_false (r.0 == d) (list_any (is_use_of d) os) g in ap₂ (λ x y. x || y) parts.0 (touches_clear d os h parts.1)
 touches_clear d (o ∷ os) h g = touches_clear d os h g
 
-any_clear : (d : ℕ) (is : List (ℕ × InstrData)) → list_any (defines d) is ≡ false → list_any (reads d) is ≡ false → any_touches (λ q. q == d) (λ q. q) is ≡ false
+any_clear : (d : ℕ) (is : List (ℕ × InstrData)) → list_any (defines d) is ≡ false → list_any (uses d) is ≡ false → any_touches (λ q. q == d) (λ q. q) is ≡ false
 any_clear d [] h g = refl
 any_clear d (i ∷ is) h g =
     let defs = or_false (defines d i) (list_any (defines d) is) h in
-    let uses = or_false (reads d i) (list_any (reads d) is) g in
-    ap₂ (λ x y. x || y) (touches_clear d i.1.operands defs.0 uses.0) (any_clear d is defs.1 uses.1)
+    let unused = or_false (uses d i) (list_any (uses d) is) g in
+    ap₂ (λ x y. x || y) (touches_clear d i.1.operands defs.0 unused.0) (any_clear d is defs.1 unused.1)
 
 touches_nothing : (os : List Operand) → touches nothing_hidden (λ q. q) os ≡ false
 touches_nothing [] = refl
@@ -203,20 +203,20 @@ new_apart defined d r absent here = new_apart_by defined d r (d == r) refl absen
 -- an instruction's new result is used in the function where it is used behind the instruction
 used_here : (f : FunctionData) (b : BlockData) (defined : List ℕ) (front : List (ℕ × InstrData)) (s : ShapedInstr) (id line : ℕ) (back : List (ℕ × InstrData)) (reg next d : ℕ)
     → IsFront defined front → stands_behind defined s ≡ true → is_among d defined ≡ false
-    → is_used (shaped f b (front ++ ((id, shaped_instr s line) ∷ back)) reg next) d ≡ list_any (reads d) back
+    → is_used (shaped f b (front ++ ((id, shaped_instr s line) ∷ back)) reg next) d ≡ list_any (uses d) back
 used_here f b defined front s id line back reg next d front_is stands absent =
     let i : ℕ × InstrData = (id, shaped_instr s line) in
-    used_shaped f b (front ++ (i ∷ back)) reg next d ∙ list_any-append (reads d) front (i ∷ back)
-    ∙ ap₂ (λ x y. x || (y || list_any (reads d) back)) (front_is.reads_only d absent) (reads_defined defined s id line d stands absent)
+    used_shaped f b (front ++ (i ∷ back)) reg next d ∙ list_any-append (uses d) front (i ∷ back)
+    ∙ ap₂ (λ x y. x || (y || list_any (uses d) back)) (front_is.reads_only d absent) (reads_defined defined s id line d stands absent)
 
-used_behind : (back : List (ℕ × InstrData)) (behind : List InstrData) (d : ℕ) → classed_all back ≡ behind → used_in behind d ≡ list_any (reads d) back
+used_behind : (back : List (ℕ × InstrData)) (behind : List InstrData) (d : ℕ) → classed_all back ≡ behind → used_in behind d ≡ list_any (uses d) back
 used_behind back behind d same = ap (λ xs. used_in xs d) (sym same) ∙ used_classed d back
 
 -- ══ A constant ══
 
 constant_makes : (constant : ℕ → Option ℤ) (f : FunctionData) (b : BlockData) (defined : List ℕ) (front : List (ℕ × InstrData)) (d v id line : ℕ) (is : List (ℕ × InstrData)) (reg next : ℕ)
     → IsFront defined front → stands_behind defined (MakeConstant d v) ≡ true
-    → (came : Came constant f b (d ∷ defined) (front ++ ((id, constant_instr d v line) ∷ [])) is reg next) → (u : Bool) → list_any (reads d) came.back ≡ u
+    → (came : Came constant f b (d ∷ defined) (front ++ ((id, constant_instr d v line) ∷ [])) is reg next) → (u : Bool) → list_any (uses d) came.back ≡ u
     → Makes constant f b defined front (id, constant_instr d v line) (selected_list constant is) came.back came.next_reg came.next_id
 constant_makes constant f b defined front d v id line is reg next front_is stands came true used =
     let parts = constant_parts defined d v stands in
@@ -294,7 +294,7 @@ sum_defines id d a b line r None None h = ap (λ x. (x || false) || false) h
 
 sum_makes : (constant : ℕ → Option ℤ) (f : FunctionData) (b : BlockData) (defined : List ℕ) (front : List (ℕ × InstrData)) (d a c id line : ℕ) (is : List (ℕ × InstrData)) (reg next : ℕ)
     → IsFront defined front → stands_behind defined (AddUp d a c) ≡ true → ((r : ℕ) → is_among r defined ≡ true → constant r ≡ short_among front r)
-    → (came : Came constant f b (d ∷ defined) (front ++ ((id, sum_instr d a c line) ∷ [])) is reg next) → (u : Bool) → list_any (reads d) came.back ≡ u
+    → (came : Came constant f b (d ∷ defined) (front ++ ((id, sum_instr d a c line) ∷ [])) is reg next) → (u : Bool) → list_any (uses d) came.back ≡ u
     → Makes constant f b defined front (id, sum_instr d a c line) (selected_list constant is) came.back came.next_reg came.next_id
 sum_makes constant f b defined front d a c id line is reg next front_is stands constant_is came true used =
     let parts = sum_parts defined d a c stands in
@@ -366,10 +366,10 @@ step_back constant f b defined front (CopyIn d p) id line is reg next front_is s
     (record { selects = refl; plain = refl; new = λ r h. ap (λ x. x || false) (new_apart defined d r (copy_absent defined d p stands) h) }) came
 step_back constant f b defined front (MakeConstant d v) id line is reg next front_is stands constant_is came =
     made_step constant f b defined front (MakeConstant d v) id line is reg next front_is came
-    (constant_makes constant f b defined front d v id line is reg next front_is stands came (list_any (reads d) came.back) refl)
+    (constant_makes constant f b defined front d v id line is reg next front_is stands came (list_any (uses d) came.back) refl)
 step_back constant f b defined front (AddUp d a c) id line is reg next front_is stands constant_is came =
     made_step constant f b defined front (AddUp d a c) id line is reg next front_is came
-    (sum_makes constant f b defined front d a c id line is reg next front_is stands constant_is came (list_any (reads d) came.back) refl)
+    (sum_makes constant f b defined front d a c id line is reg next front_is stands constant_is came (list_any (uses d) came.back) refl)
 step_back constant f b defined front (CopyOut p q) id line is reg next front_is stands constant_is came =
     kept_step constant f b defined front (CopyOut p q) id line is reg next (record { selects = refl; plain = refl; new = λ r h. refl }) came
 step_back constant f b defined front Return id line is reg next front_is stands constant_is came =

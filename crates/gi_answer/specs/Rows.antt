@@ -1,7 +1,7 @@
 -- The table of instruction selection: what stands in the place of a generic instruction. A row looks at the
 -- function, at the place and at the instruction there, and answers where it fits.
 -- (RISC-V unprivileged ISA, RV32I: "Integer Computational Instructions".)
-use Rattle.std.specs.Prelude.{ℕ, ℤ, Bool, true, false, not, ◌&&◌, ◌==◌, List, [], ◌∷◌, Option, Some, None, option_map, find, if◌then◌else◌}
+use Rattle.std.specs.Prelude.{ℕ, ℤ, Bool, true, false, not, ◌&&◌, List, [], ◌∷◌, Option, Some, None, option_map, find, if◌then◌else◌}
 use Rattle.std.specs.List.{list_any}
 use Rattle.gi_llt.specs.Bits.{signed}
 use Rattle.gi_mir.specs.declared.opcode.Opcode.{Opcode}
@@ -11,7 +11,7 @@ use Rattle.gi_mir.specs.declared.operand.Kind.{Kind}
 use Rattle.gi_mir.specs.declared.operand.Operand.{Operand}
 use Rattle.gi_mir.specs.declared.operand.Operand.TheVariants.{Def, Use, Phys, PhysDef, ImplicitDef, Int, Constant}
 use Rattle.gi_mir.specs.Data.{InstrData, FunctionData, no_flags}
-use Rattle.gi_mir.specs.Edit.{all_instrs, defines}
+use Rattle.gi_mir.specs.Edit.{all_instrs, defines, uses}
 use Rattle.gi_mir.specs.Row.{is_generic_op, is_call_op}
 use Rattle.gi_meaning.specs.Machine.{is_immediate}
 
@@ -27,16 +27,8 @@ pub record Site : Type 0 where
 
 -- ══ Registers ══
 
-abbrev pub is_use_of : ℕ → Operand → Bool
-is_use_of r (Use q) = q.0 == r
-is_use_of r _ = false
-
--- whether an instruction reads a virtual register
-abbrev pub reads : ℕ → ℕ × InstrData → Bool
-reads r i = list_any (is_use_of r) i.1.operands
-
 abbrev pub is_used : FunctionData → ℕ → Bool
-is_used f r = list_any (reads r) (all_instrs f.blocks)
+is_used f r = list_any (uses r) (all_instrs f.blocks)
 
 -- the first instruction in layout that defines a virtual register
 abbrev pub definition_of : FunctionData → ℕ → Option InstrData

@@ -9,10 +9,10 @@ use Rattle.gi_mir.specs.declared.operand.Kind.TheVariants.{Class}
 use Rattle.gi_mir.specs.declared.operand.Operand.{Operand}
 use Rattle.gi_mir.specs.declared.operand.Operand.TheVariants.{Def, Use, Phys, Int, Constant}
 use Rattle.gi_mir.specs.Data.{InstrData, FunctionData, no_flags}
-use Rattle.gi_mir.specs.Edit.{defines, with_instr}
+use Rattle.gi_mir.specs.Edit.{defines, with_instr, is_use_of}
 use Rattle.gi_refine.specs.Worded.{classed_instr}
 use Rattle.gi_answer.specs.Shapes.{is_negative_immediate, ShapedInstr, IsShapedInstr, are_in_order}
-use Rattle.gi_answer.specs.Rows.{is_use_of, short_where}
+use Rattle.gi_answer.specs.Rows.{short_where}
 use Rattle.gi_answer.specs.declared.select.Root.{Root}
 use Rattle.gi_answer.specs.declared.select.Root.TheVariants as root
 

@@ -5,11 +5,10 @@ ghost use Rattle.std.specs.Prelude.{◌≡◌, ◌==◌, ◌||◌, ℕ, ◌∷�
 ghost use Rattle.std.specs.HashMap.{get};
 ghost use Rattle.std.specs.HashSet.{contains};
 ghost use Rattle.std.specs.List.{AllZip, list_all, list_any};
-ghost use Rattle.gi_mir.specs.Edit.{with_stack};
+ghost use Rattle.gi_mir.specs.Edit.{with_stack, is_use_of};
 ghost use Rattle.gi_mir.specs.Formed.{is_formed};
 ghost use Rattle.gi_refine.specs.Kept.{without_kind};
 ghost use Rattle.gi_refine.specs.Worded.{classed_instr};
-ghost use Rattle.gi_answer.specs.Rows.{is_use_of};
 ghost use Rattle.gi_answer.specs.Selectable.{IsOneBlock, IsSelectable, AllSelectable};
 ghost use Rattle.gi_answer.specs.Selecting.{AreShaped, short_of, constant_root, sum_root, root_of, result_of, with_constant, plain, selected_sum, selected_root, selected_where, selected_list, short_among, with_all, emptied};
 ghost use Rattle.gi_answer.specs.Selection.{IsSelected, IsSelectedModule};

@@ -12,6 +12,7 @@ use Rattle.gi_mir.specs.declared.operand.Flags.{Flags}
 use Rattle.gi_mir.specs.declared.operand.Operand.{Operand}
 use Rattle.gi_mir.specs.declared.operand.Operand.TheVariants as operand
 use Rattle.gi_mir.specs.declared.operand.Reg.{Reg}
+use Rattle.gi_meaning.specs.Fold.{has_no_memory}
 use Rattle.gi_meaning.specs.Meaning.{meaning_of}
 use Rattle.gi_meaning.specs.Runs.{after_phis, is_among, setting_of}
 use Rattle.gi_meaning.specs.State.{IsWorld, State, World}
@@ -50,7 +51,7 @@ use Rattle.gi_soundness.proofs.Rule.{IsFit, MeetsAll, fit_of, keeps_parts, meets
 use Rattle.gi_soundness.proofs.Typed.{in_list}
 use Rattle.gi_soundness.proofs.Valid.{great_of, known_of}
 use Rattle.gi_refining.specs.Known.{is_of_two, is_ordered}
-use Rattle.gi_refining.specs.Usable.{is_usable, is_without_memory}
+use Rattle.gi_refining.specs.Usable.{is_usable}
 use Rattle.gi_refining.proofs.UsingFresh.{fresh_from}
 use Rattle.gi_refining.proofs.UsingInputs.{IsInput, all_as_wide, among_places, input_of, same_results, some_place}
 use Rattle.gi_refining.proofs.UsingTests.{IsUsable, no_memory, pure_alike, usable_parts}
@@ -246,7 +247,7 @@ at_root u c names flags live at formed same known = record {
   op = c.op;
   bound = c.bound;
   flags_are = same;
-  mem = no_memory u.instr formed (subst (λ o. is_without_memory (access_of o) ≡ true) (sym c.op) c.usable.memory);
+  mem = no_memory u.instr formed (subst (λ o. has_no_memory (access_of o) ≡ true) (sym c.op) c.usable.memory);
   plain = c.usable.plain;
   named = c.usable.named;
   pure = and_from (is_pure (meaning_of (flags 0) u.root.op)) true (pure_alike (flags 0) u.root.op ∙ c.usable.pure) refl;

@@ -11,6 +11,7 @@ use Rattle.gi_mir.specs.declared.operand.Flags.{Flags}
 use Rattle.gi_mir.specs.declared.operand.MemOp.{MemOp}
 use Rattle.gi_mir.specs.declared.row.Access.{Access}
 use Rattle.gi_mir.specs.declared.row.Access.TheVariants as access
+use Rattle.gi_meaning.specs.Fold.{has_no_memory}
 use Rattle.gi_meaning.specs.Meaning.{meaning_of}
 use Rattle.gi_refine.specs.Values.{is_pure}
 use Rattle.gi_pattern.specs.Binding.{empty_binding}
@@ -20,7 +21,7 @@ use Rattle.gi_lifting.specs.OnValues.{inputs_of}
 use Rattle.gi_lifting.specs.Placed.{all_placed}
 use Rattle.gi_soundness.specs.Rules.{is_in, keeps_valid, origins_in}
 use Rattle.gi_refining.specs.Known.{is_ordered}
-use Rattle.gi_refining.specs.Usable.{any_types, gives_results, input_names, is_usable_at, is_without_memory}
+use Rattle.gi_refining.specs.Usable.{any_types, gives_results, input_names, is_usable_at}
 
 pub record IsUsable (rule : RuleData) (root : MatchData) : Type 0 where
   pub keeps : keeps_valid rule ≡ true
@@ -28,7 +29,7 @@ pub record IsUsable (rule : RuleData) (root : MatchData) : Type 0 where
   pub either : is_ordered root ≡ true
   pub named : uses_named (input_names rule.matches) root.slots ≡ true
   pub pure : is_pure (meaning_of no_flags root.op) ≡ true
-  pub memory : is_without_memory (access_of root.op) ≡ true
+  pub memory : has_no_memory (access_of root.op) ≡ true
   pub origins : list_all (λ place. is_in place (origins_in rule.matches)) (inputs_of rule.matches) ≡ true
   pub placed : all_placed 32 any_types empty_binding (input_names rule.matches) rule.makes ≡ true
   pub results : list_all gives_results rule.makes ≡ true
@@ -40,7 +41,7 @@ usable_parts rule root h =
     let C : Bool = is_ordered root in
     let D : Bool = uses_named (input_names rule.matches) root.slots in
     let E : Bool = is_pure (meaning_of no_flags root.op) in
-    let F : Bool = is_without_memory (access_of root.op) in
+    let F : Bool = has_no_memory (access_of root.op) in
     let G : Bool = list_all (λ place. is_in place (origins_in rule.matches)) (inputs_of rule.matches) in
     let H : Bool = all_placed 32 any_types empty_binding (input_names rule.matches) rule.makes in
     let I : Bool = list_all gives_results rule.makes in
@@ -79,10 +80,10 @@ formed_access i h =
     (and_parts first second parts.0).1
 
 -- an instruction that is formed has the memory operand of its row
-pub no_memory : (i : InstrData) → is_formed i ≡ true → is_without_memory (access_of i.op) ≡ true → i.mem ≡ None
+pub no_memory : (i : InstrData) → is_formed i ≡ true → has_no_memory (access_of i.op) ≡ true → i.mem ≡ None
 no_memory i formed without = by (access_of i.op) i.mem without (formed_access i formed)
   where
-    by : (a : Access) (m : Option MemOp) → is_without_memory a ≡ true → has_access a m ≡ true → m ≡ None
+    by : (a : Access) (m : Option MemOp) → has_no_memory a ≡ true → has_access a m ≡ true → m ≡ None
     by access.Neither None h g = refl
     by access.Neither (Some m) h g = cc
     by access.Load m h g = cc

@@ -4,8 +4,7 @@ use Rattle.std.specs.List.{list_all}
 use Rattle.gi_llt.specs.declared.Llt.TheVariants.{Scalar}
 use Rattle.gi_mir.specs.Data.{FunctionData, no_flags}
 use Rattle.gi_mir.specs.Row.{access_of}
-use Rattle.gi_mir.specs.declared.row.Access.{Access}
-use Rattle.gi_mir.specs.declared.row.Access.TheVariants as access
+use Rattle.gi_meaning.specs.Fold.{has_no_memory}
 use Rattle.gi_meaning.specs.Meaning.{meaning_of}
 use Rattle.gi_refine.specs.Values.{is_pure}
 use Rattle.gi_pattern.specs.Binding.{empty_binding}
@@ -15,11 +14,6 @@ use Rattle.gi_lifting.specs.OnValues.{Names, Types, inputs_of}
 use Rattle.gi_lifting.specs.Placed.{all_placed}
 use Rattle.gi_soundness.specs.Rules.{is_in, keeps_valid, origins_in}
 use Rattle.gi_refining.specs.Known.{is_ordered}
-
--- an opcode whose instructions have no memory operand
-abbrev pub is_without_memory : Access → Bool
-is_without_memory access.Neither = true
-is_without_memory _ = false
 
 -- the places of the inputs, as names of values
 abbrev pub input_names : List MatchData → Names
@@ -43,7 +37,7 @@ is_usable_at rule root =
     && is_ordered root
     && uses_named (input_names rule.matches) root.slots
     && is_pure (meaning_of no_flags root.op)
-    && is_without_memory (access_of root.op)
+    && has_no_memory (access_of root.op)
     && list_all (λ place. is_in place (origins_in rule.matches)) (inputs_of rule.matches)
     && all_placed 32 any_types empty_binding (input_names rule.matches) rule.makes
     && list_all gives_results rule.makes

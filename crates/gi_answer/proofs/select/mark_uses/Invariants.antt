@@ -1,7 +1,7 @@
 use Rattle.std.proofs.Common.{◌≡◌, ℕ, ◌||◌, nat_eq, take}
 use Rattle.std.specs.HashSet.{contains}
 use Rattle.std.specs.List.{list_any}
-use Rattle.gi_answer.specs.Rows.{is_use_of}
+use Rattle.gi_mir.specs.Edit.{is_use_of}
 use Rattle.gi_answer.proofs.select.mark_uses.Given as goal
 
 abbrev pub invariant-loop-operand : goal.invariant-loop-operand

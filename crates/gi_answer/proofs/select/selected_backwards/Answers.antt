@@ -4,7 +4,7 @@ use Rattle.std.specs.HashSet.{contains}
 use Rattle.std.specs.List.{list_any}
 use Rattle.gi_mir.specs.Data.{InstrData}
 use Rattle.gi_mir.specs.Formed.{is_formed}
-use Rattle.gi_answer.specs.Rows.{is_use_of}
+use Rattle.gi_mir.specs.Edit.{is_use_of}
 use Rattle.gi_answer.specs.Selecting.{selected_where}
 use Rattle.gi_answer.proofs.SelectLoops.{SelectedFrom, dropped, formed_at, selected_none, selected_some}
 use Rattle.gi_answer.proofs.select.selected_backwards.Goals as goal
