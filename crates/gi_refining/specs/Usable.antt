@@ -1,5 +1,5 @@
 -- What is asked of a rule by its own list, so that it may be used wherever it fits in a valid function.
-use Rattle.std.specs.Prelude.{ℕ, Bool, true, false, ◌&&◌, nat_le, List, [], ◌∷◌, Some, map}
+use Rattle.std.specs.Prelude.{ℕ, Bool, false, ◌&&◌, nat_le, List, [], ◌∷◌, Some, map}
 use Rattle.std.specs.List.{list_all}
 use Rattle.gi_llt.specs.declared.Llt.TheVariants.{Scalar}
 use Rattle.gi_mir.specs.Data.{FunctionData, no_flags}

@@ -13,7 +13,7 @@ use Rattle.gi_meaning.specs.Memory.{loaded, is_aligned}
 use Rattle.gi_meaning.specs.Routine.{has_routine}
 use Rattle.gi_meaning.specs.State.{Event, World, IsWorld, Outside, AreBytes, AreEvents}
 use Rattle.gi_meaning.specs.Meaning.{Meaning, Copying, Generic, Machine, Loading, Storing, MachineLoading, MachineStoring, Jumping, Branching, MachineBranching, Calling, Returning, Nothing, Joining, meaning_of, is_joining}
-use Rattle.gi_meaning.specs.Act.{Answer, Results, Leaves, Breaks, Answers, AnswersWords, copy, generic_load, machine_load, StoresThere, Stores, GenericStores, MachineStores, jump, branch, machine_branch, CallsGlobal, Calls, Act, has_operands, result_registers, passed, words_of, alignment}
+use Rattle.gi_meaning.specs.Act.{Answer, Results, Leaves, Answers, AnswersWords, copy, generic_load, machine_load, StoresThere, Stores, GenericStores, MachineStores, jump, branch, machine_branch, CallsGlobal, Calls, Act, has_operands, result_registers, passed, words_of, alignment}
 use Rattle.gi_refine.proofs.SizedAnswers.{stored_bytes}
 use Rattle.gi_refine.proofs.Targets.{or_breaks, breaks_or}
 use Rattle.gi_valid.specs.Facts.{is_computing}
