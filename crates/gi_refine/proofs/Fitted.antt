@@ -141,7 +141,7 @@ entry_fits width values n from fit (operand.Use r ∷ operand.Block b ∷ os) h 
 entry_fits width values n from fit (operand.Use r ∷ os) h = entry_fits width values n from fit os (and_parts (width r.0 == n) (uses_have width n os) h).1
 entry_fits width values n from fit (o ∷ os) h = entry_fits width values n from fit os h
 
-taken_fits : (s : Setting) (state : State) → IsFit s state → (n : ℕ) (from : Option ℕ) (os : List Operand) → uses_have s.width n os ≡ true → IfSome (value_at state (from_block from os)) (λ v. v < 2 ^ n)
+pub taken_fits : (s : Setting) (state : State) → IsFit s state → (n : ℕ) (from : Option ℕ) (os : List Operand) → uses_have s.width n os ≡ true → IfSome (value_at state (from_block from os)) (λ v. v < 2 ^ n)
 taken_fits s state fit n None os h = tt
 taken_fits s state fit n (Some from) os h =
     subst (λ v. IfSome v (λ u. u < 2 ^ n)) (sym (value_at_is state (entry_for from os))) (entry_fits s.width state.values n from fit.values os h)

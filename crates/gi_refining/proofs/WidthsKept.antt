@@ -18,17 +18,18 @@ use Rattle.gi_mir.specs.declared.operand.Operand.TheVariants as operand
 use Rattle.gi_meaning.specs.Act.{Act, Answer, Asks, Breaks, GenericStores, Leaves, MachineStores, Results, Returns, Stores, StoresThere, alignment, clobbered, extended, from_loaded, generic_load, is_result_register, load}
 use Rattle.gi_meaning.specs.Argument.{Argument, Bits, Number, Symbol, Value}
 use Rattle.gi_meaning.specs.Generic.{constant, symbol_address}
-use Rattle.gi_meaning.specs.Given.{Given, Undefined, one}
+use Rattle.gi_meaning.specs.Given.{Given, Undefined}
 use Rattle.gi_meaning.specs.Machine.{is_immediate}
 use Rattle.gi_meaning.specs.Meaning.{Meaning, Copying, Generic, Loading, Storing, MachineLoading, MachineStoring, Machine, Jumping, Branching, MachineBranching, Calling, Returning, Nothing, Joining, Extension, Anything, Zeros, Signs, is_joining, meaning_of}
 use Rattle.gi_meaning.specs.Memory.{Memory, is_aligned, loaded}
-use Rattle.gi_meaning.specs.Runs.{Progress, Setting, Steps, StepsFrom, after_phis, argument_of, arguments_of, entry_for, from_block, going_on, is_phi, joined, joined_lists, phis_of, places_of, progress_of, put_all, put_value, result_places, setting_of, value_at, width_of_place, written_places}
+use Rattle.gi_meaning.specs.Runs.{Progress, Setting, Steps, StepsFrom, after_phis, argument_of, arguments_of, from_block, going_on, is_phi, joined, joined_lists, phis_of, places_of, progress_of, put_all, put_value, result_places, setting_of, value_at, width_of_place, written_places}
 use Rattle.gi_meaning.specs.State.{AreBytes, AreWords, IsWorld, Outside, Physical, Place, State, Virtual, World, outside_of, put}
 use Rattle.gi_meaning.proofs.Numbers.{unsigned_below}
-use Rattle.gi_refine.specs.Fitting.{IsFit, always_fits, is_fitting_constant, phi_fits, uses_have}
+use Rattle.gi_refine.specs.Fitting.{IsFit, always_fits, is_fitting_constant, phi_fits}
 use Rattle.gi_refine.specs.Invariant.{AllKeep, BlockKeeps, GoesOnWith}
 use Rattle.gi_refine.specs.Worded.{has_virtual, may_have_words}
 use Rattle.gi_refine.proofs.Basics.{value_holds, word_holds}
+use Rattle.gi_refine.proofs.Fitted.{taken_fits}
 use Rattle.gi_refine.proofs.FittedSteps.{AnswerFits, AreArgumentsFit, AreFit, AreThereFit, MeaningFits, act_fits, answers_fit, arguments_fit, has_no_words, in_place_fits, one_fits, opcode_fits}
 use Rattle.gi_refine.proofs.Invariants.{invariant_holds}
 use Rattle.gi_refine.proofs.SizedAnswers.{AtMost, IsAnswerSized, act_sized, loaded_small}
@@ -365,33 +366,6 @@ step_keeps s w wide is_world i keeps state keeping p step =
     step_from_keeps s w is_world i (answer_fits s w wide is_world i (meaning_of i.flags i.op) refl keeps) state keeping (arguments_of s w state i.operands) refl (arguments_fit s w is_world state keeping.fit i.operands) p step
 
 -- ══ Phis ══
-
--- the value of a register, if it is one
-abbrev at_register : (values : ℕ → Option ℕ) → Option ℕ → Option ℕ
-at_register values None = None
-at_register values (Some r) = values r
-
-value_at_is : (state : State) (r : Option ℕ) → value_at state r ≡ at_register state.values r
-value_at_is state None = refl
-value_at_is state (Some r) = refl
-
-chosen_fits : (width : ℕ → ℕ) (values : ℕ → Option ℕ) (n : ℕ) → ((r : ℕ) → IfSome (values r) (λ v. v < 2 ^ width r)) → (b : Bool) (r : ℕ) (later : Option ℕ) → width r ≡ n
-    → IfSome (at_register values later) (λ v. v < 2 ^ n) → IfSome (at_register values (cond b (Some r) later)) (λ v. v < 2 ^ n)
-chosen_fits width values n fit true r later same h = subst (λ k. IfSome (values r) (λ v. v < 2 ^ k)) same (fit r)
-chosen_fits width values n fit false r later same h = h
-
-entry_fits : (width : ℕ → ℕ) (values : ℕ → Option ℕ) (n from : ℕ) → ((r : ℕ) → IfSome (values r) (λ v. v < 2 ^ width r)) → (os : List Operand) → uses_have width n os ≡ true
-    → IfSome (at_register values (entry_for from os)) (λ v. v < 2 ^ n)
-entry_fits width values n from fit [] h = tt
-entry_fits width values n from fit (operand.Use r ∷ operand.Block b ∷ os) h =
-    chosen_fits width values n fit (b == from) r.0 (entry_for from (operand.Block b ∷ os)) (eqb-true (width r.0) n (and_parts (width r.0 == n) (uses_have width n os) h).0)
-    (entry_fits width values n from fit (operand.Block b ∷ os) (and_parts (width r.0 == n) (uses_have width n os) h).1)
-entry_fits width values n from fit (operand.Use r ∷ os) h = entry_fits width values n from fit os (and_parts (width r.0 == n) (uses_have width n os) h).1
-entry_fits width values n from fit (o ∷ os) h = entry_fits width values n from fit os h
-
-taken_fits : (s : Setting) (state : State) → IsFit s state → (n : ℕ) (from : Option ℕ) (os : List Operand) → uses_have s.width n os ≡ true → IfSome (value_at state (from_block from os)) (λ v. v < 2 ^ n)
-taken_fits s state fit n None os h = tt
-taken_fits s state fit n (Some from) os h = subst (λ v. IfSome v (λ u. u < 2 ^ n)) (sym (value_at_is state (entry_for from os))) (entry_fits s.width state.values n from fit.values os h)
 
 value_put : (s : Setting) (state : Option State) (ps : List Place) (value : Option ℕ) → IfSome state (IsKeeping s) → ((p : Place) → ps ≡ p ∷ [] → IfSome value (λ v. v < 2 ^ width_of_place s p)) → IfSome (put_value state ps value) (IsKeeping s)
 value_put s (Some state) (p ∷ []) (Some v) keeping fits = put_fit s state p v (fits p refl) keeping
