@@ -2,7 +2,7 @@
 use Rattle.std.proofs.Common.{ℕ, List, [], ◌∷◌, sym, ◌∙◌, subst, inl, inr}
 use Rattle.std.specs.List.{AllZip}
 use Rattle.gi_mir.specs.Data.{FunctionData, ModuleData}
-use Rattle.gi_meaning.specs.State.{World, Outcome, Fails}
+use Rattle.gi_meaning.specs.State.{World, Outcome, Undefined}
 use Rattle.gi_meaning.specs.Runs.{cut, Runs, Allows}
 use Rattle.gi_spelling.specs.Same.{IsSameFunction, IsSameModule}
 use Rattle.gi_spelling.specs.Spelling.{Spells}
@@ -19,7 +19,7 @@ module _ (x : ℕ) (names others : List (List ℕ)) (f g : FunctionData) (is : I
 
   pub allows_there : (world : World) (n : ℕ) (outcome : Outcome) → Allows x names f world n outcome → Allows x others g world n outcome
   allows_there world n outcome (inl run) = inl (runs_there world n outcome run)
-  allows_there world n outcome (inr may) = inr (record { events = may.events; entries = may.entries; within = may.within; fails = runs_there (cut world may.events) may.entries Fails may.fails })
+  allows_there world n outcome (inr may) = inr (record { events = may.events; entries = may.entries; within = may.within; undefined = runs_there (cut world may.events) may.entries Undefined may.undefined })
 
 refines_too : (x : ℕ) (old_names new_names read_names written_names : List (List ℕ)) (old new read written : FunctionData) → IsSameFunction old_names read_names old read → IsSameFunction new_names written_names new written
     → Refines x old_names new_names old new → Refines x read_names written_names read written

@@ -10,7 +10,7 @@ use Rattle.gi_meaning.specs.Runs.{Setting, setting_of, is_phi, phis_of}
 use Rattle.gi_refine.specs.Agreement.{Agree, AgreeAt}
 use Rattle.gi_refine.specs.Kept.{without_kind, IsKept, AreKept, AllSeenAs}
 use Rattle.gi_refine.specs.OnePlace.{only_virtual, OnePlace, StaysAt, RewritesOnePlace}
-use Rattle.gi_refine.specs.Refinement.{IsRefinement}
+use Rattle.gi_refine.specs.Refinement.{RefinesUnchecked}
 use Rattle.gi_refine.specs.Worded.{classed_instr}
 use Rattle.gi_refine.proofs.Classed.{classed_kept}
 use Rattle.gi_refine.proofs.OnePlaceFollows.{one_place_refines}
@@ -70,7 +70,7 @@ abbrev behind_all : (is js : List (ℕ × InstrData)) → OnePlace
 behind_all is js = record { block = 0; before = is; old = []; after = []; new_before = js; new = []; new_after = []; hidden = nothing_hidden; rename = λ r. r }
 
 pub classed_refines : (names : List (List ℕ)) (f g : FunctionData) (b k : BlockData) (is js : List (ℕ × InstrData)) (reg id reg' id' : ℕ) → AllZip IsSameInstr (classed_pairs is) js → phis_of is ≡ [] → All32 is
-    → k.successors ≡ b.successors → IsRefinement 32 names (shaped f b is reg id) (shaped g k js reg' id')
+    → k.successors ≡ b.successors → RefinesUnchecked 32 names (shaped f b is reg id) (shaped g k js reg' id')
 classed_refines names f g b k is js reg id reg' id' same no_phis of_32 next =
     let old : FunctionData = shaped f b is reg id in
     let new : FunctionData = shaped g k js reg' id' in

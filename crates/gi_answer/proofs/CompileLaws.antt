@@ -21,7 +21,7 @@ use Rattle.gi_spelling.proofs.ReadSpells.{read_spelled}
 use Rattle.gi_spelling.proofs.SpelledPrintable.{spelled_printable}
 use Rattle.gi_meaning.proofs.Renaming.{runs_renamed}
 use Rattle.gi_meaning.specs.InRow.{are_in_rows}
-use Rattle.gi_refine.specs.Refinement.{IsRefinement}
+use Rattle.gi_refine.specs.Refinement.{RefinesUnchecked}
 use Rattle.gi_refine.specs.Replacing.{IsSameBlock as IsAlikeBlock}
 use Rattle.gi_refine.specs.Worded.{classed_block}
 use Rattle.gi_refine.proofs.SameBlocks.{same_blocks_refine}
@@ -157,27 +157,27 @@ empty_printable names f g none fine made =
       blocks = subst (AllByRecursion (IsPrintableBlock names (counts_of g))) (sym same.blocks) tt;
     }
 
-empty_refines : (names : List (List ℕ)) (f g : FunctionData) → f.blocks ≡ [] → IsSelected f g → IsRefinement 32 names f g
+empty_refines : (names : List (List ℕ)) (f g : FunctionData) → f.blocks ≡ [] → IsSelected f g → RefinesUnchecked 32 names f g
 empty_refines names f g none made =
     same_blocks_refine 32 names f g (subst (λ bs. AllZip IsAlikeBlock bs g.blocks) (sym none) (subst (AllZip IsAlikeBlock []) (sym (selected_empty f g none made).blocks) tt))
 
 -- ══ The promise ══
 
-block_refines : (names : List (List ℕ)) (f : FunctionData) (h : IsOneBlock f) (g : FunctionData) → IsSelected f g → IsRefinement 32 names f g
+block_refines : (names : List (List ℕ)) (f : FunctionData) (h : IsOneBlock f) (g : FunctionData) → IsSelected f g → RefinesUnchecked 32 names f g
 block_refines names f h g made =
     let one : SelectedBlock f h g = selected_block f h g made in
     let came = one.came in
     let normal : FunctionData = shaped f h.block came.back came.next_reg came.next_id in
     let start : FunctionData = shaped f h.block h.block.instrs f.next_reg f.next_id in
     let shape : g ≡ shaped g one.block one.block.instrs g.next_reg g.next_id = ap (λ (blocks : List BlockData). record g { blocks = blocks }) one.blocks in
-    let last : IsRefinement 32 names normal (shaped g one.block one.block.instrs g.next_reg g.next_id) =
+    let last : RefinesUnchecked 32 names normal (shaped g one.block one.block.instrs g.next_reg g.next_id) =
     classed_refines names f g h.block one.block came.back one.block.instrs came.next_reg came.next_id g.next_reg g.next_id one.instrs came.no_phis came.of_32 one.successors in
-    subst (λ k. IsRefinement 32 names k g) (sym one.start)
-    (subst (λ k. IsRefinement 32 names start k) (sym shape)
+    subst (λ k. RefinesUnchecked 32 names k g) (sym one.start)
+    (subst (λ k. RefinesUnchecked 32 names start k) (sym shape)
     (refines_through 32 names start normal (shaped g one.block one.block.instrs g.next_reg g.next_id) (came.goes.refines names) last))
 
 -- what is selected refines
-pub selected_refines : (names : List (List ℕ)) (f : FunctionData) → IsSelectable f → (g : FunctionData) → IsSelected f g → IsRefinement 32 names f g
+pub selected_refines : (names : List (List ℕ)) (f : FunctionData) → IsSelectable f → (g : FunctionData) → IsSelected f g → RefinesUnchecked 32 names f g
 selected_refines names f (inl none) g made = empty_refines names f g none made
 selected_refines names f (inr h) g made = block_refines names f h g made
 

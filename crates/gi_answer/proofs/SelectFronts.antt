@@ -16,7 +16,7 @@ use Rattle.gi_mir.specs.declared.operand.Kind.{Kind}
 use Rattle.gi_mir.specs.declared.operand.Kind.TheVariants as kind
 use Rattle.gi_mir.specs.declared.operand.Operand.{Operand}
 use Rattle.gi_mir.specs.declared.operand.Operand.TheVariants as operand
-use Rattle.gi_meaning.specs.Act.{Answer, Results, Leaves, Returns, Asks, Breaks, Answers}
+use Rattle.gi_meaning.specs.Act.{Answer, Results, Leaves, Returns, Asks, Undefined, Answers}
 use Rattle.gi_meaning.specs.Argument.{Argument}
 use Rattle.gi_meaning.specs.Given.{one}
 use Rattle.gi_meaning.specs.Machine.{is_immediate}
@@ -109,7 +109,7 @@ answer_leaves r ps state after (Results results outside) h e =
 answer_leaves r ps state after (Leaves block) h e = cc
 answer_leaves r ps state after (Returns words) h e = cc
 answer_leaves r ps state after (Asks callee words) h e = cc
-answer_leaves r ps state after Breaks h e = cc
+answer_leaves r ps state after Undefined h e = cc
 
 pub step_leaves : (s : Setting) (w : World) (r : ℕ) (i : InstrData) (state after : State) (arguments : Option (List Argument)) → Untouched r (written_places (meaning_of i.flags i.op) i.operands)
     → StepsFrom s w i state arguments (On after) → after.values r ≡ state.values r

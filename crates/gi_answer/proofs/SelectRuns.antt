@@ -10,12 +10,12 @@ use Rattle.gi_mir.specs.declared.operand.Operand.TheVariants.{Def, Use, Phys, In
 use Rattle.gi_meaning.specs.Act.{Answer, Results}
 use Rattle.gi_meaning.specs.Argument.{Argument, Value, Number}
 use Rattle.gi_meaning.specs.Machine.{is_immediate}
-use Rattle.gi_meaning.specs.State.{World, State, outside_of, Fails, Virtual, put}
+use Rattle.gi_meaning.specs.State.{World, State, outside_of, Undefined, Virtual, put}
 use Rattle.gi_meaning.specs.Runs.{Setting, setting_of, joined_lists, Progress, On, Over, progress_of, StepsFrom, After, Executes, phis_of, after_phis}
 use Rattle.gi_refine.specs.Agreement.{ValueStands, Agree, AgreeAt}
 use Rattle.gi_refine.specs.OnePlace.{only_virtual}
 use Rattle.gi_refine.specs.Reached.{WhereReached}
-use Rattle.gi_refine.specs.Refinement.{IsRefinement}
+use Rattle.gi_refine.specs.Refinement.{RefinesUnchecked}
 use Rattle.gi_refine.specs.Replacing.{any_touches, Replacement, IsReplaced}
 use Rattle.gi_refine.specs.Simulation.{Stands, IsFollowed}
 use Rattle.gi_refine.proofs.Staying.{no_phis_after, replacement_refines}
@@ -75,7 +75,7 @@ pub record Fits (names : List (List ℕ)) (front : List (ℕ × InstrData)) (old
 
 pub fits_refine : (names : List (List ℕ)) (f : FunctionData) (b : BlockData) (defined : List ℕ) (front old new back : List (ℕ × InstrData)) (hidden : ℕ → Bool) (reg id reg' id' : ℕ)
     → IsFront defined front → Fits names front old new back hidden
-    → IsRefinement 32 names (shaped f b (front ++ (old ++ back)) reg id) (shaped f b (front ++ (new ++ back)) reg' id')
+    → RefinesUnchecked 32 names (shaped f b (front ++ (old ++ back)) reg id) (shaped f b (front ++ (new ++ back)) reg' id')
 fits_refine names f b defined front old new back hidden reg id reg' id' before h =
     let g : FunctionData = shaped f b (front ++ (old ++ back)) reg id in
     let k : FunctionData = shaped f b (front ++ (new ++ back)) reg' id' in
@@ -144,8 +144,8 @@ two_values a b = joined_lists (Some []) (joined_lists (option_map (λ v. Value 3
 -- a sum of two values, or undefined
 abbrev sum_progress : State → (d : ℕ) → (x y : Option ℕ) → Progress
 sum_progress state d (Some x) (Some y) = On (put state (Virtual d) (wrapped 32 (x + y)))
-sum_progress state d None y = Over Fails
-sum_progress state d (Some x) None = Over Fails
+sum_progress state d None y = Over Undefined
+sum_progress state d (Some x) None = Over Undefined
 
 sum_steps : (names : List (List ℕ)) (w : World) (d a b line : ℕ) (state : State) (x y : Option ℕ)
     → StepsFrom (plain names) w (sum_instr d a b line) state (two_values x y) (sum_progress state d x y)
@@ -225,7 +225,7 @@ dead_constant_follows names front d v id line w = record {
 abbrev SumFollows : (names : List (List ℕ)) → World → (hidden : ℕ → Bool) → (d a b id line : ℕ) → (old : State) → (p' : Progress) → Type 0
 SumFollows names w hidden d a b id line old p' =
     ((p : Progress) × Executes (plain names) w ((id, sum_instr d a b line) ∷ []) old p × Stands (Agreeing names hidden) (Leaving names hidden) p p')
-    ⊎ Executes (plain names) w ((id, sum_instr d a b line) ∷ []) old (Over Fails)
+    ⊎ Executes (plain names) w ((id, sum_instr d a b line) ∷ []) old (Over Undefined)
 
 dead_sum_by : (names : List (List ℕ)) (w : World) (d a b id line : ℕ) (old new : State) (p' : Progress) (x y : Option ℕ) → old.values a ≡ x → old.values b ≡ y
     → Agreeing names (λ q. q == d) old new → p' ≡ On new → SumFollows names w (λ q. q == d) d a b id line old p'

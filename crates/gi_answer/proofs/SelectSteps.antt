@@ -10,7 +10,7 @@ use Rattle.gi_mir.specs.declared.operand.Operand.{Operand}
 use Rattle.gi_mir.specs.declared.operand.Operand.TheVariants as operand
 use Rattle.gi_answer.specs.Shapes.{ShapedInstr, CopyIn, MakeConstant, AddUp, CopyOut, Return, shaped_instr, IsShapedInstr, stands_behind, defined_after}
 use Rattle.gi_meaning.specs.Runs.{phis_of, is_among}
-use Rattle.gi_refine.specs.Refinement.{IsRefinement}
+use Rattle.gi_refine.specs.Refinement.{RefinesUnchecked}
 use Rattle.gi_refine.specs.Replacing.{touches, any_touches}
 use Rattle.gi_refine.specs.Worded.{classed_instr}
 use Rattle.gi_refine.proofs.Refining.{refines_itself, refines_through}
@@ -35,7 +35,7 @@ leads_on f g step = record { by = λ normal h. record { count = suc h.count; com
 -- and it refines
 pub record Goes (f g : FunctionData) : Type 0 where
   pub leads : Leads f g
-  pub refines : (names : List (List ℕ)) → IsRefinement 32 names f g
+  pub refines : (names : List (List ℕ)) → RefinesUnchecked 32 names f g
 
 goes_nowhere : (f : FunctionData) → Goes f f
 goes_nowhere f = record { leads = record { by = λ normal h. h }; refines = λ names. refines_itself 32 names f }

@@ -9,7 +9,7 @@ ghost use Rattle.gi_spelling.specs.Read.{IsReadModule};
 ghost use Rattle.gi_spelling.specs.Same.{IsSameModule};
 ghost use Rattle.gi_spelling.specs.Spelled.{IsSpelled};
 ghost use Rattle.gi_spelling.specs.There.{NamesBlocksThatAreThere};
-ghost use Rattle.gi_refine.specs.Refinement.{IsRefinement};
+ghost use Rattle.gi_refine.specs.Refinement.{RefinesUnchecked};
 ghost use Rattle.gi_valid.specs.Typing.{Phase};
 ghost use Rattle.gi_valid.specs.Valid.{IsValid};
 ghost use Rattle.gi_answer.specs.Answers.{IsOutput};
@@ -50,5 +50,5 @@ pub fn normal_form_is_there()
 
 /// On RV32 what is selected from a function refines it.
 pub fn selected_function_refines()
-    ensures { (names : List (List ℕ)) (f g : FunctionData) → IsSelectable f → IsSelected f g → IsRefinement 32 names f g }
+    ensures { (names : List (List ℕ)) (f g : FunctionData) → IsSelectable f → IsSelected f g → RefinesUnchecked 32 names f g }
 {}

@@ -9,7 +9,7 @@ use Rattle.gi_pattern.specs.InPlace.{with_ids}
 use Rattle.gi_meaning.specs.Runs.{after_phis, setting_of, width_of_kind}
 use Rattle.gi_refine.specs.Examples.{block_of, names, of_two, s32}
 use Rattle.gi_refine.specs.OnePlace.{only_virtual}
-use Rattle.gi_refine.specs.Refinement.{IsRefinement}
+use Rattle.gi_refine.specs.Refinement.{RefinesUnchecked}
 use Rattle.gi_refine.specs.Replacing.{any_touches}
 use Rattle.gi_refine.proofs.Covering.{covered_by}
 use Rattle.gi_pattern.specs.Applying.{applied, made_at}
@@ -119,5 +119,5 @@ used = record {
   others_clear = no_other;
 }
 
-pub less_five_refined : IsRefinement 32 names less_five (applied 32 difference_with_constant less_five_bound 2 less_five)
+pub less_five_refined : RefinesUnchecked 32 names less_five (applied 32 difference_with_constant less_five_bound 2 less_five)
 less_five_refined = sound-refines 32 names less_five 14 root definitions [] makes less_five_bound 2 subtraction.1 (λ k. no_flags) hides difference_with_constant_sound (inl refl) suited used

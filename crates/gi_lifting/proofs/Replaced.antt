@@ -22,7 +22,7 @@ use Rattle.gi_refine.specs.Kept.{AllSeenAs, AreKept, BodyHolds, PhisHold, reused
 use Rattle.gi_refine.specs.Lifting.{AllSame, all_grown}
 use Rattle.gi_refine.specs.Reached.{IsReached}
 use Rattle.gi_refine.specs.OnePlace.{OnePlace, StaysAt, only_virtual}
-use Rattle.gi_refine.specs.Refinement.{IsRefinement}
+use Rattle.gi_refine.specs.Refinement.{RefinesUnchecked}
 use Rattle.gi_refine.specs.Replacing.{any_touches}
 use Rattle.gi_refine.specs.Values.{IsSound}
 use Rattle.gi_refine.proofs.OnePlaceFollows.{one_place_refines}
@@ -134,7 +134,7 @@ new-side x names f name root definitions tests replaces b id instr flags hidden 
 replacing-refines : (x : ℕ) (names : List (List ℕ)) (f : FunctionData) (name : ℕ) (root : MatchData) (definitions : List MatchData) (tests : List Test) (replaces : List (ℕ × ℕ)) (b : Binding) (id : ℕ) (instr : InstrData) (flags : ℕ → Flags) (hidden : ℕ → Bool)
     → IsReplacing x names f (replacing_of name root definitions tests replaces) root b id instr flags hidden
     → ((w : World) → IsWorld x w → IsSound x w (on_values x f (replacing_of name root definitions tests replaces) b flags))
-    → IsRefinement x names f (applied x (replacing_of name root definitions tests replaces) b id f)
+    → RefinesUnchecked x names f (applied x (replacing_of name root definitions tests replaces) b id f)
 replacing-refines x names f name root definitions tests replaces b id instr flags hidden used sound =
     let rule = replacing_of name root definitions tests replaces in
     let rename = in_place_of rule b in
@@ -183,7 +183,7 @@ pub sound-replaces : (x : ℕ) (names : List (List ℕ)) (f : FunctionData) (nam
     → (x ≡ 32) ⊎ (x ≡ 64)
     → Suits x (replacing_of name root definitions tests replaces) (types_in x f b) b
     → IsReplacing x names f (replacing_of name root definitions tests replaces) root b id instr flags hidden
-    → IsRefinement x names f (applied x (replacing_of name root definitions tests replaces) b id f)
+    → RefinesUnchecked x names f (applied x (replacing_of name root definitions tests replaces) b id f)
 sound-replaces x names f name root definitions tests replaces b id instr flags hidden sound size suits used =
     replacing-refines x names f name root definitions tests replaces b id instr flags hidden used (λ w is_world. sound.by x w (types_in x f b) b flags size suits)
 

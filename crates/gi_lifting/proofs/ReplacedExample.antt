@@ -14,7 +14,7 @@ use Rattle.gi_refine.specs.Examples.{block_of, names, of_two, s32}
 use Rattle.gi_refine.specs.Kept.{BodyHolds, HasSameValue, PhisHold, UsesHold}
 use Rattle.gi_refine.specs.OnePlace.{only_virtual}
 use Rattle.gi_refine.specs.Reached.{IsReached}
-use Rattle.gi_refine.specs.Refinement.{IsRefinement}
+use Rattle.gi_refine.specs.Refinement.{RefinesUnchecked}
 use Rattle.gi_refine.specs.Replacing.{any_touches}
 use Rattle.gi_refine.proofs.Covering.{covered_by}
 use Rattle.gi_refine.proofs.Staying.{kind_replaced, kind_set}
@@ -143,5 +143,5 @@ used = record {
   others_hold = nothing_held;
 }
 
-pub plus_zero_refined : IsRefinement 32 names plus_zero (applied 32 sum_with_zero plus_zero_bound 2 plus_zero)
+pub plus_zero_refined : RefinesUnchecked 32 names plus_zero (applied 32 sum_with_zero plus_zero_bound 2 plus_zero)
 plus_zero_refined = sound-replaces 32 names plus_zero 5 root definitions (Is 0 (pos 0) ∷ []) ((0, 1) ∷ []) plus_zero_bound 2 sum.1 (λ k. no_flags) hides sum_with_zero_sound (inl refl) suited used

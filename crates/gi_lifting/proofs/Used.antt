@@ -12,7 +12,7 @@ use Rattle.gi_pattern.specs.InPlace.{with_ids}
 use Rattle.gi_pattern.proofs.InPlace.{blocks-replaced}
 use Rattle.gi_pattern.specs.declared.binding.Binding.{Binding}
 use Rattle.gi_pattern.specs.declared.rule.Test.{Test}
-use Rattle.gi_refine.specs.Refinement.{IsRefinement}
+use Rattle.gi_refine.specs.Refinement.{RefinesUnchecked}
 use Rattle.gi_refine.specs.Replacing.{Replacement}
 use Rattle.gi_refine.specs.RuleUse.{width_in}
 use Rattle.gi_refine.specs.Values.{IsSound}
@@ -75,7 +75,7 @@ new-side x names f name root definitions tests makes b id instr flags hidden use
 pub use-refines : (x : ℕ) (names : List (List ℕ)) (f : FunctionData) (name : ℕ) (root : MatchData) (definitions : List MatchData) (tests : List Test) (makes : List MakeData) (b : Binding) (id : ℕ) (instr : InstrData) (flags : ℕ → Flags) (hidden : ℕ → Bool)
     → IsUsed x names f (rule_of name root definitions tests makes) root b id instr flags hidden
     → ((w : World) → IsWorld x w → IsSound x w (on_values x f (rule_of name root definitions tests makes) b flags))
-    → IsRefinement x names f (applied x (rule_of name root definitions tests makes) b id f)
+    → RefinesUnchecked x names f (applied x (rule_of name root definitions tests makes) b id f)
 use-refines x names f name root definitions tests makes b id instr flags hidden used sound =
     let rule = rule_of name root definitions tests makes in
     let g = applied x rule b id f in
@@ -99,6 +99,6 @@ pub sound-refines : (x : ℕ) (names : List (List ℕ)) (f : FunctionData) (name
     → (x ≡ 32) ⊎ (x ≡ 64)
     → Suits x (rule_of name root definitions tests makes) (types_in x f b) b
     → IsUsed x names f (rule_of name root definitions tests makes) root b id instr flags hidden
-    → IsRefinement x names f (applied x (rule_of name root definitions tests makes) b id f)
+    → RefinesUnchecked x names f (applied x (rule_of name root definitions tests makes) b id f)
 sound-refines x names f name root definitions tests makes b id instr flags hidden sound size suits used =
     use-refines x names f name root definitions tests makes b id instr flags hidden used (λ w is_world. sound.by x w (types_in x f b) b flags size suits)

@@ -4,7 +4,7 @@ ghost use Rattle.std.specs.Prelude.{◌≡◌, ◌⊎◌, ℕ, Bool, List, ◌�
 ghost use Rattle.gi_mir.specs.Data.{BlockData, FunctionData, InstrData};
 ghost use Rattle.gi_mir.specs.Edit.{home_of, instr_of};
 ghost use Rattle.gi_mir.specs.declared.operand.Flags.{Flags};
-ghost use Rattle.gi_refine.specs.Refinement.{IsRefinement};
+ghost use Rattle.gi_refine.specs.Refinement.{RefinesUnchecked};
 ghost use Rattle.gi_meaning.specs.State.{IsWorld, Returned, State, World};
 ghost use Rattle.gi_refine.specs.Agreement.{setting};
 ghost use Rattle.gi_refine.specs.Lifting.{AllSame, AllShow, IsKnown, all_grown, first_slots};
@@ -92,7 +92,7 @@ pub fn used_rule_refines()
         → (x ≡ 32) ⊎ (x ≡ 64)
         → Suits x (rule_of name root definitions tests makes) (types_in x f b) b
         → IsUsed x names f (rule_of name root definitions tests makes) root b id instr flags hidden
-        → IsRefinement x names f (applied x (rule_of name root definitions tests makes) b id f) }
+        → RefinesUnchecked x names f (applied x (rule_of name root definitions tests makes) b id f) }
 {}
 
 /// So does one that replaces registers and makes nothing, where besides each register has the value of what replaces it wherever
@@ -103,7 +103,7 @@ pub fn replacing_rule_refines()
         → (x ≡ 32) ⊎ (x ≡ 64)
         → Suits x (replacing_of name root definitions tests replaces) (types_in x f b) b
         → IsReplacing x names f (replacing_of name root definitions tests replaces) root b id instr flags hidden
-        → IsRefinement x names f (applied x (replacing_of name root definitions tests replaces) b id f) }
+        → RefinesUnchecked x names f (applied x (replacing_of name root definitions tests replaces) b id f) }
 {}
 
 /// Wherever runs reach behind the root of a certain rule, what it replaces has the value of what replaces it, or none.
@@ -134,12 +134,12 @@ pub fn tests_make_known()
 /// either side, are replaced.
 pub fn rules_are_used()
     ensures fits { binding_at less_five difference_with_constant 2 ≡ Some less_five_bound }
-    ensures refines { IsRefinement 32 names less_five (applied 32 difference_with_constant less_five_bound 2 less_five) }
+    ensures refines { RefinesUnchecked 32 names less_five (applied 32 difference_with_constant less_five_bound 2 less_five) }
     ensures turned_fits { binding_at zero_plus sum_with_zero 2 ≡ Some zero_plus_bound }
-    ensures turned_refines { IsRefinement 32 names zero_plus (applied 32 sum_with_zero zero_plus_bound 2 zero_plus) }
+    ensures turned_refines { RefinesUnchecked 32 names zero_plus (applied 32 sum_with_zero zero_plus_bound 2 zero_plus) }
     ensures turned_returns { ComesTo 32 names zero_plus (world_of 7 0 0 []) 1 (Returned (7 ∷ []) counting 0) }
     ensures replaced_fits { binding_at plus_zero sum_with_zero 2 ≡ Some plus_zero_bound }
-    ensures replaced_refines { IsRefinement 32 names plus_zero (applied 32 sum_with_zero plus_zero_bound 2 plus_zero) }
+    ensures replaced_refines { RefinesUnchecked 32 names plus_zero (applied 32 sum_with_zero plus_zero_bound 2 plus_zero) }
     ensures replaced_returns { ComesTo 32 names plus_zero (world_of 7 0 0 []) 1 (Returned (7 ∷ []) counting 0) }
     ensures returns { ComesTo 32 names less_five (world_of 7 0 0 []) 1 (Returned (2 ∷ []) counting 0) }
     ensures new_returns { ComesTo 32 names (applied 32 difference_with_constant less_five_bound 2 less_five) (world_of 7 0 0 []) 1 (Returned (2 ∷ []) counting 0) }

@@ -12,14 +12,17 @@ use Rattle.gi_mir.specs.declared.operand.Flags.{Flags}
 use Rattle.gi_mir.specs.declared.operand.MemOp.{MemOp}
 use Rattle.gi_mir.specs.declared.operand.SymbolFlag.TheVariants.{Plain, Call, Hi, Lo}
 use Rattle.gi_meaning.specs.Argument.{Argument, Value, Number, Bits, Symbol, Called, Test}
-use Rattle.gi_meaning.specs.Given.{Given, Exactly, LowBits, Undefined, one, free, unless_broken, in_low_bits}
+use Rattle.gi_meaning.specs.Given.{Given, Exactly, LowBits, one, free, unless_broken, in_low_bits}
+use Rattle.gi_meaning.specs.Given as a_given
 use Rattle.gi_meaning.specs.Generic.{overflows_division, nullary, unary, binary, ternary, binary_with_bit, ternary_with_bit, comparison, constant, symbol_address, extension_in_register, merge, unmerge, parts_of}
 use Rattle.gi_meaning.specs.Machine.{is_immediate, is_amount, on_words, on_immediate, add_immediate, by_amount, load_upper, on_rv64, on_low_half, sum_word, less_word, less_unsigned_word, and_word, or_word, xor_word, left_word, right_word, arithmetic_right_word}
 use Rattle.gi_meaning.specs.Memory.{Memory, loaded, stored, is_aligned}
 use Rattle.gi_meaning.specs.Meaning.{Meaning, Copying, Generic, Machine, Loading, Storing, MachineLoading, MachineStoring, Jumping, Branching, MachineBranching, Calling, Returning, Nothing, Joining, Extension, Anything, Zeros, Signs, meaning_of}
 use Rattle.gi_meaning.specs.Routine.{InTwoWords, has_routine}
-use Rattle.gi_meaning.specs.State.{World, State, Outside, outside_of, AreWords, Outcome, Going, Fails}
-use Rattle.gi_meaning.specs.Act.{Answer, Results, Returns, Asks, Breaks, Answers, AnswersWords, all_fitted, ReadsAs, AllReadAs, copied, copy, alignment, extended, from_loaded, load, generic_load, StoresThere, Stores, GenericStores, machine_load, MachineStores, jump, branch, machine_branch, clobbered, passed, result_registers, words_of, LeavesFree, CallsGlobal, has_operands, routine_given, result_words, CallsRoutine, Calls, returned, Act}
+use Rattle.gi_meaning.specs.State.{World, State, Outside, outside_of, AreWords, Outcome, Going}
+use Rattle.gi_meaning.specs.State as an_outcome
+use Rattle.gi_meaning.specs.Act.{Answer, Results, Returns, Asks, Answers, AnswersWords, all_fitted, ReadsAs, AllReadAs, copied, copy, alignment, extended, from_loaded, load, generic_load, StoresThere, Stores, GenericStores, machine_load, MachineStores, jump, branch, machine_branch, clobbered, passed, result_registers, words_of, LeavesFree, CallsGlobal, has_operands, routine_given, result_words, CallsRoutine, Calls, returned, Act}
+use Rattle.gi_meaning.specs.Act as an_answer
 use Rattle.gi_meaning.specs.Runs.{Setting, arguments_of, written_places, width_of_place, Progress, On, Left, Over, progress_of, StepsFrom, After, Executes, phis_of, after_phis, joined, is_among, Follows, RunsAfterPhis, RunsBlock, Enters}
 
 -- it can't be that nothing passes
@@ -46,7 +49,7 @@ answers_there : (g : Given) (outside : Outside) → IsOpen g → (answer : Answe
 answers_there (Exactly results) outside h = (Results results outside, (results, refl, refl))
 answers_there (LowBits known width value) outside h =
     (Results (value % 2 ^ known ∷ []) outside, (value % 2 ^ known ∷ [], (value % 2 ^ known, low_part known width value h, mod-mod value (2 ^ known), refl), refl))
-answers_there Undefined outside h = (Breaks, refl)
+answers_there a_given.Undefined outside h = (an_answer.Undefined, refl)
 
 words_there : (x : ℕ) (widths : List ℕ) (g : Given) (outside : Outside) → IsOpen g → (answer : Answer) × AnswersWords x widths g outside answer
 words_there x widths (Exactly words) outside h = (Results (all_fitted x widths words) outside, (words, refl, refl))
@@ -54,7 +57,7 @@ words_there x widths (LowBits known width value) outside h = (
   Results (all_fitted x widths (value % 2 ^ known ∷ [])) outside,
   (value % 2 ^ known ∷ [], (value % 2 ^ known, low_part known width value h, mod-mod value (2 ^ known), refl), refl),
 )
-words_there x widths Undefined outside h = (Breaks, refl)
+words_there x widths a_given.Undefined outside h = (an_answer.Undefined, refl)
 
 free_open : (n : ℕ) → IsOpen (free n)
 free_open n = omega arith
@@ -67,8 +70,8 @@ either_open : (b : Bool) (g h : Given) → IsOpen g → IsOpen h → IsOpen (con
 either_open true g h first second = first
 either_open false g h first second = second
 
-if_open : (b : Bool) (g : Given) → IsOpen g → IsOpen (cond b g Undefined)
-if_open b g h = either_open b g Undefined h tt
+if_open : (b : Bool) (g : Given) → IsOpen g → IsOpen (cond b g a_given.Undefined)
+if_open b g h = either_open b g a_given.Undefined h tt
 
 low_open : (less : Bool) (known width value : ℕ) (g : Given) → nat_lt known width ≡ less → IsOpen g → IsOpen (cond less (LowBits known width value) g)
 low_open true known width value g is h = let below : known < width = ltb-true known width is in omega (arith, below)
@@ -76,7 +79,7 @@ low_open false known width value g is h = h
 
 in_low_bits_open : (known width value : ℕ) → IsOpen (in_low_bits known width value)
 in_low_bits_open known width value =
-    low_open (nat_lt known width) known width value (cond (known == width) (one value) Undefined) refl (if_open (known == width) (one value) tt)
+    low_open (nat_lt known width) known width value (cond (known == width) (one value) a_given.Undefined) refl (if_open (known == width) (one value) tt)
 
 copied_open : (m n value : ℕ) → IsOpen (copied m n value)
 copied_open m n value =
@@ -193,10 +196,10 @@ open_meaning flags op.GenericMultiply = binary_open _ (λ n a b. unless_open _ n
 open_meaning flags op.GenericAnd = binary_open _ (λ n a b. tt)
 open_meaning flags op.GenericOr = binary_open _ (λ n a b. unless_open _ n _)
 open_meaning flags op.GenericXor = binary_open _ (λ n a b. tt)
-open_meaning flags op.GenericUnsignedDivide = binary_open _ (λ n a b. either_open (b == 0) Undefined _ tt (unless_open _ n _))
-open_meaning flags op.GenericSignedDivide = binary_open _ (λ n a b. either_open ((b == 0) || overflows_division n a b) Undefined _ tt (unless_open _ n _))
-open_meaning flags op.GenericUnsignedRemainder = binary_open _ (λ n a b. either_open (b == 0) Undefined _ tt tt)
-open_meaning flags op.GenericSignedRemainder = binary_open _ (λ n a b. either_open ((b == 0) || overflows_division n a b) Undefined _ tt tt)
+open_meaning flags op.GenericUnsignedDivide = binary_open _ (λ n a b. either_open (b == 0) a_given.Undefined _ tt (unless_open _ n _))
+open_meaning flags op.GenericSignedDivide = binary_open _ (λ n a b. either_open ((b == 0) || overflows_division n a b) a_given.Undefined _ tt (unless_open _ n _))
+open_meaning flags op.GenericUnsignedRemainder = binary_open _ (λ n a b. either_open (b == 0) a_given.Undefined _ tt tt)
+open_meaning flags op.GenericSignedRemainder = binary_open _ (λ n a b. either_open ((b == 0) || overflows_division n a b) a_given.Undefined _ tt tt)
 open_meaning flags op.GenericShiftLeft = binary_open _ (λ n a b. either_open (nat_le n b) (free n) _ (free_open n) (unless_open _ n _))
 open_meaning flags op.GenericLogicalShiftRight = binary_open _ (λ n a b. either_open (nat_le n b) (free n) _ (free_open n) (unless_open _ n _))
 open_meaning flags op.GenericArithmeticShiftRight = binary_open _ (λ n a b. either_open (nat_le n b) (free n) _ (free_open n) (unless_open _ n _))
@@ -296,31 +299,31 @@ either_there true P Q first second = first
 either_there false P Q first second = second
 
 -- what is undefined answers that
-abbrev BreaksOff : Answer → Type 0
-BreaksOff answer = answer ≡ Breaks
+abbrev IsUndefined : Answer → Type 0
+IsUndefined answer = answer ≡ an_answer.Undefined
 
-breaks_off : (answer : Answer) × BreaksOff answer
-breaks_off = (Breaks, refl)
+undefined_there : (answer : Answer) × IsUndefined answer
+undefined_there = (an_answer.Undefined, refl)
 
 store_there : (old : Option ℕ) (x bytes address value : ℕ) (outside : Outside) → (answer : Answer) × StoresThere old x bytes address value outside answer
-store_there None x bytes address value outside = (Breaks, refl)
+store_there None x bytes address value outside = (an_answer.Undefined, refl)
 store_there (Some old) x bytes address value outside = (Results [] (record outside { memory = stored x bytes outside.memory address value }), refl)
 
 stores_there : (x align bytes address value : ℕ) (outside : Outside) → (answer : Answer) × Stores x align bytes address value outside answer
 stores_there x align bytes address value outside =
-    either_there (is_aligned align address) (StoresThere (loaded x bytes outside.memory address) x bytes address value outside) BreaksOff
-    (store_there (loaded x bytes outside.memory address) x bytes address value outside) breaks_off
+    either_there (is_aligned align address) (StoresThere (loaded x bytes outside.memory address) x bytes address value outside) IsUndefined
+    (store_there (loaded x bytes outside.memory address) x bytes address value outside) undefined_there
 
 generic_stores_there : (x : ℕ) (mem : Option MemOp) (arguments : List Argument) (outside : Outside) → (answer : Answer) × GenericStores x mem arguments outside answer
 generic_stores_there x (Some mem) (Value n value ∷ Value l address ∷ []) outside =
-    either_there mem.load BreaksOff (Stores x (alignment x mem) (width_of x mem.ty / 8) address value outside) breaks_off (stores_there x (alignment x mem) (width_of x mem.ty / 8) address value outside)
-generic_stores_there x _ _ outside = (Breaks, refl)
+    either_there mem.load IsUndefined (Stores x (alignment x mem) (width_of x mem.ty / 8) address value outside) undefined_there (stores_there x (alignment x mem) (width_of x mem.ty / 8) address value outside)
+generic_stores_there x _ _ outside = (an_answer.Undefined, refl)
 
 machine_stores_there : (x : ℕ) (exists : ℕ → Bool) (bytes : ℕ) (arguments : List Argument) (outside : Outside) → (answer : Answer) × MachineStores x exists bytes arguments outside answer
 machine_stores_there x exists bytes (Value n value ∷ Value l base ∷ Number offset ∷ []) outside =
-    either_there (exists x && is_immediate offset) (Stores x bytes bytes (wrapped x (base + unsigned x offset)) value outside) BreaksOff
-    (stores_there x bytes bytes (wrapped x (base + unsigned x offset)) value outside) breaks_off
-machine_stores_there x exists bytes _ outside = (Breaks, refl)
+    either_there (exists x && is_immediate offset) (Stores x bytes bytes (wrapped x (base + unsigned x offset)) value outside) IsUndefined
+    (stores_there x bytes bytes (wrapped x (base + unsigned x offset)) value outside) undefined_there
+machine_stores_there x exists bytes _ outside = (an_answer.Undefined, refl)
 
 -- ══ Words that are read ══
 
@@ -372,7 +375,7 @@ two_words_there x (Exactly (value ∷ [])) = (parts_of (x ∷ x ∷ []) value, r
 two_words_there x (Exactly []) = (0 ∷ 0 ∷ [], ((pow_pos x, (pow_pos x, tt)), refl))
 two_words_there x (Exactly (v ∷ u ∷ vs)) = (0 ∷ 0 ∷ [], ((pow_pos x, (pow_pos x, tt)), refl))
 two_words_there x (LowBits known width value) = (0 ∷ 0 ∷ [], ((pow_pos x, (pow_pos x, tt)), refl))
-two_words_there x Undefined = (0 ∷ 0 ∷ [], ((pow_pos x, (pow_pos x, tt)), refl))
+two_words_there x a_given.Undefined = (0 ∷ 0 ∷ [], ((pow_pos x, (pow_pos x, tt)), refl))
 
 abbrev AnswersRoutine : (x routine : ℕ) → (inputs : List (ℕ × ℕ)) → (results : List ℕ) → Outside → Answer → Type 0
 AnswersRoutine x routine inputs results outside answer =
@@ -382,19 +385,19 @@ routine_there : (x routine : ℕ) (inputs : List (ℕ × ℕ)) (results : List �
 routine_there x routine inputs results outside =
     let two : (words : List ℕ) × InTwoWords x (routine_given x routine inputs) words = two_words_there x (routine_given x routine inputs) in
     let free : (answer : Answer) × LeavesFree x (result_words two.0 results) outside answer = leaves_free_there x (result_words two.0 results) outside in
-    either_there (has_operands inputs && has_routine x routine) (AnswersRoutine x routine inputs results outside) BreaksOff (free.0, (two.0, two.1, free.1)) breaks_off
+    either_there (has_operands inputs && has_routine x routine) (AnswersRoutine x routine inputs results outside) IsUndefined (free.0, (two.0, two.1, free.1)) undefined_there
 
 calls_there : (x : ℕ) (w : World) (arguments : List Argument) (outside : Outside) → NotNone Answer (Calls x w arguments outside)
 calls_there x w (Symbol Call callee address ∷ rest) outside = global_there x w callee (words_of (passed rest)) (length (result_registers rest)) outside
 calls_there x w (Called Call routine ∷ rest) outside =
     found Answer (CallsRoutine x routine (passed rest) (result_registers rest) outside) (routine_there x routine (passed rest) (result_registers rest) outside)
-calls_there x w (Symbol Plain callee address ∷ rest) outside = found Answer BreaksOff breaks_off
-calls_there x w (Symbol Hi callee address ∷ rest) outside = found Answer BreaksOff breaks_off
-calls_there x w (Symbol Lo callee address ∷ rest) outside = found Answer BreaksOff breaks_off
-calls_there x w (Called Plain routine ∷ rest) outside = found Answer BreaksOff breaks_off
-calls_there x w (Called Hi routine ∷ rest) outside = found Answer BreaksOff breaks_off
-calls_there x w (Called Lo routine ∷ rest) outside = found Answer BreaksOff breaks_off
-calls_there x w _ outside = found Answer BreaksOff breaks_off
+calls_there x w (Symbol Plain callee address ∷ rest) outside = found Answer IsUndefined undefined_there
+calls_there x w (Symbol Hi callee address ∷ rest) outside = found Answer IsUndefined undefined_there
+calls_there x w (Symbol Lo callee address ∷ rest) outside = found Answer IsUndefined undefined_there
+calls_there x w (Called Plain routine ∷ rest) outside = found Answer IsUndefined undefined_there
+calls_there x w (Called Hi routine ∷ rest) outside = found Answer IsUndefined undefined_there
+calls_there x w (Called Lo routine ∷ rest) outside = found Answer IsUndefined undefined_there
+calls_there x w _ outside = found Answer IsUndefined undefined_there
 
 -- ══ An instruction ══
 
@@ -425,10 +428,10 @@ act_there x w (MachineBranching test) mem widths arguments outside h =
 act_there x w Calling mem widths arguments outside h = calls_there x w arguments outside
 act_there x w Returning mem widths arguments outside h = λ none. none (Returns (returned arguments)) refl
 act_there x w Nothing mem widths arguments outside h = λ none. none (Results [] outside) refl
-act_there x w Joining mem widths arguments outside h = λ none. none Breaks refl
+act_there x w Joining mem widths arguments outside h = λ none. none an_answer.Undefined refl
 
 steps_from_there : (s : Setting) (w : World) (i : InstrData) (state : State) (arguments : Option (List Argument)) → NotNone Progress (StepsFrom s w i state arguments)
-steps_from_there s w i state None = λ none. none (Over Fails) refl
+steps_from_there s w i state None = λ none. none (Over an_outcome.Undefined) refl
 steps_from_there s w i state (Some arguments) =
     λ none. act_there s.x w (meaning_of i.flags i.op) i.mem (map (width_of_place s) (written_places (meaning_of i.flags i.op) i.operands)) arguments (outside_of state) (open_meaning i.flags i.op)
     (λ answer act. none (progress_of state (written_places (meaning_of i.flags i.op) i.operands) answer) (answer, act, refl))
@@ -446,9 +449,9 @@ executes_there s w (i ∷ is) state =
     λ none. steps_from_there s w i.1 state (arguments_of s w state i.1.operands)
     (λ next step. after_there next (Executes s w is) (executes_there s w is) (λ p after. none p (next, step, after)))
 
-falls_there : (t : Bool) (P : Outcome → Type 0) → NotNone Outcome P → NotNone Outcome (λ outcome. cond t (P outcome) (outcome ≡ Fails))
+falls_there : (t : Bool) (P : Outcome → Type 0) → NotNone Outcome P → NotNone Outcome (λ outcome. cond t (P outcome) (outcome ≡ an_outcome.Undefined))
 falls_there true P h = h
-falls_there false P h = λ none. none Fails refl
+falls_there false P h = λ none. none an_outcome.Undefined refl
 
 follows_there : (b : ℕ) (successors : List ℕ) (enters : Option ℕ → ℕ → State → Outcome → Type 0) → ((from : Option ℕ) (c : ℕ) (state : State) → NotNone Outcome (enters from c state))
     → (p : Progress) → NotNone Outcome (Follows b successors enters p)
@@ -458,13 +461,13 @@ follows_there b successors enters h (Over over) = λ none. none over refl
 
 after_phis_there : (s : Setting) (w : World) (b : ℕ) (block : BlockData) (enters : Option ℕ → ℕ → State → Outcome → Type 0) → ((from : Option ℕ) (c : ℕ) (state : State) → NotNone Outcome (enters from c state))
     → (state : Option State) → NotNone Outcome (RunsAfterPhis s w b block enters state)
-after_phis_there s w b block enters h None = λ none. none Fails refl
+after_phis_there s w b block enters h None = λ none. none an_outcome.Undefined refl
 after_phis_there s w b block enters h (Some state) =
     λ none. executes_there s w (after_phis block.instrs) state (λ p ran. follows_there b block.successors enters h p (λ outcome goes. none outcome (p, ran, goes)))
 
 block_there : (s : Setting) (w : World) (block : Option BlockData) (enters : Option ℕ → ℕ → State → Outcome → Type 0) → ((from : Option ℕ) (c : ℕ) (state : State) → NotNone Outcome (enters from c state))
     → (from : Option ℕ) (b : ℕ) (state : State) → NotNone Outcome (RunsBlock s w block enters from b state)
-block_there s w None enters h from b state = λ none. none Fails refl
+block_there s w None enters h from b state = λ none. none an_outcome.Undefined refl
 block_there s w (Some block) enters h from b state = after_phis_there s w b block enters h (joined state from (phis_of block.instrs))
 
 -- from each state at the entry of a block

@@ -12,9 +12,11 @@ use Rattle.gi_mir.specs.declared.operand.Operand.{Operand}
 use Rattle.gi_mir.specs.declared.operand.Operand.TheVariants as operand
 use Rattle.gi_meaning.specs.Argument.{Argument}
 use Rattle.gi_meaning.specs.InRow.{type_held, type_in, results_in, sources_in, have_types, has_memory, is_operand_of, has_row, is_in_row, nowhere, checked_instr, checked_pair, checked_block, checked_blocks}
-use Rattle.gi_meaning.specs.State.{World, State, outside_of, start, Outcome, Fails, Place, Virtual, Physical, put}
+use Rattle.gi_meaning.specs.State.{World, State, outside_of, start, Outcome, Place, Virtual, Physical, put}
+use Rattle.gi_meaning.specs.State as an_outcome
 use Rattle.gi_meaning.specs.Meaning.{Meaning, Calling, Nothing, meaning_of}
-use Rattle.gi_meaning.specs.Act.{Answer, Results, Leaves, Returns, Asks, Breaks, Act, clobbered, is_result_register}
+use Rattle.gi_meaning.specs.Act.{Answer, Results, Leaves, Returns, Asks, Act, clobbered, is_result_register}
+use Rattle.gi_meaning.specs.Act as an_answer
 use Rattle.gi_meaning.specs.Runs.{Setting, width_of_kind, setting_of, argument_of, joined_lists, arguments_of, places_of, result_places, written_places, width_of_place, put_all, Progress, On, Left, Over, going_on, progress_of, StepsFrom, Steps, After, Executes, is_phi, phis_of, after_phis, entry_of, chosen, entry_for, value_at, from_block, put_value, joined, is_among, Follows, RunsAfterPhis, RunsBlock, Enters, Runs}
 use Rattle.gi_mir.proofs.KindLemmas.{same_test, kind_in_blocks_old}
 use Rattle.gi_mir.specs.Renaming.{IsInjective, renamed_operand, renamed_instr, renamed_pair, renamed_block, renamed}
@@ -114,7 +116,7 @@ progress_old number h state ps (Results results outside) =
 progress_old number h state ps (Leaves block) = refl
 progress_old number h state ps (Returns words) = refl
 progress_old number h state ps (Asks callee words) = refl
-progress_old number h state ps Breaks = refl
+progress_old number h state ps an_answer.Undefined = refl
 
 steps_from_old : (number : ℕ → ℕ) → IsInjective number → (s : Setting) (w : World) (i : InstrData) (state : State) (p : Progress) (arguments : Option (List Argument))
     → StepsFrom s w (renamed_instr number i) state arguments p
@@ -223,7 +225,7 @@ record GoesOld (number : ℕ → ℕ) (enters enters' : Option ℕ → ℕ → S
 
 falls_old : (number : ℕ → ℕ) (enters enters' : Option ℕ → ℕ → State → Outcome → Type 0) → GoesOld number enters enters'
     → (test : Bool) (from : Option ℕ) (b : ℕ) (state : State) (o : Outcome)
-    → cond test (enters from b state o) (o ≡ Fails) → cond test (enters' from b (old_state number state) o) (o ≡ Fails)
+    → cond test (enters from b state o) (o ≡ an_outcome.Undefined) → cond test (enters' from b (old_state number state) o) (o ≡ an_outcome.Undefined)
 falls_old number enters enters' goes true from b state o run = goes.by from b state o run
 falls_old number enters enters' goes false from b state o run = run
 

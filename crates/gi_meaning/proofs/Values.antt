@@ -5,10 +5,12 @@ use Rattle.std.specs.Prelude.{Some, None}
 use Rattle.gi_llt.specs.declared.Llt.TheVariants.{Scalar, Pointer}
 use Rattle.gi_mir.specs.declared.opcode.Opcode.TheVariants as op
 use Rattle.gi_mir.specs.declared.operand.Pred.TheVariants as pred
-use Rattle.gi_meaning.specs.Act.{Breaks, load, generic_load, machine_load, Stores}
+use Rattle.gi_meaning.specs.Act.{load, generic_load, machine_load, Stores}
+use Rattle.gi_meaning.specs.Act as an_answer
 use Rattle.gi_meaning.specs.Argument.{Value, Number, Test}
 use Rattle.gi_meaning.specs.Fold.{gives_of}
-use Rattle.gi_meaning.specs.Given.{Exactly, LowBits, Undefined, one, free}
+use Rattle.gi_meaning.specs.Given.{Exactly, LowBits, one, free}
+use Rattle.gi_meaning.specs.Given as a_given
 use Rattle.gi_meaning.specs.Meaning.{meaning_of, always, only_64, Anything, Zeros, Signs}
 use Rattle.gi_meaning.specs.Memory.{Memory, stored}
 use Rattle.gi_mir.specs.Data.{no_flags}
@@ -93,22 +95,22 @@ or_disjoint_broken = refl
 zero_extension_nneg_broken : gives_of (meaning_of (record no_flags { nneg = true }) op.GenericZeroExtend) (100 ∷ []) (Value 1 1 ∷ []) ≡ LowBits 1 100 1
 zero_extension_nneg_broken = refl
 
-unsigned_quotient_by_zero : gives_of (meaning_of no_flags op.GenericUnsignedDivide) (1 ∷ []) (Value 1 0 ∷ Value 1 0 ∷ []) ≡ Undefined
+unsigned_quotient_by_zero : gives_of (meaning_of no_flags op.GenericUnsignedDivide) (1 ∷ []) (Value 1 0 ∷ Value 1 0 ∷ []) ≡ a_given.Undefined
 unsigned_quotient_by_zero = refl
 
-signed_quotient_by_zero : gives_of (meaning_of no_flags op.GenericSignedDivide) (1 ∷ []) (Value 1 0 ∷ Value 1 0 ∷ []) ≡ Undefined
+signed_quotient_by_zero : gives_of (meaning_of no_flags op.GenericSignedDivide) (1 ∷ []) (Value 1 0 ∷ Value 1 0 ∷ []) ≡ a_given.Undefined
 signed_quotient_by_zero = refl
 
-unsigned_remainder_by_zero : gives_of (meaning_of no_flags op.GenericUnsignedRemainder) (1 ∷ []) (Value 1 0 ∷ Value 1 0 ∷ []) ≡ Undefined
+unsigned_remainder_by_zero : gives_of (meaning_of no_flags op.GenericUnsignedRemainder) (1 ∷ []) (Value 1 0 ∷ Value 1 0 ∷ []) ≡ a_given.Undefined
 unsigned_remainder_by_zero = refl
 
-signed_remainder_by_zero : gives_of (meaning_of no_flags op.GenericSignedRemainder) (1 ∷ []) (Value 1 0 ∷ Value 1 0 ∷ []) ≡ Undefined
+signed_remainder_by_zero : gives_of (meaning_of no_flags op.GenericSignedRemainder) (1 ∷ []) (Value 1 0 ∷ Value 1 0 ∷ []) ≡ a_given.Undefined
 signed_remainder_by_zero = refl
 
 signed_quotient_of_negative : gives_of (meaning_of no_flags op.GenericSignedDivide) (31 ∷ []) (Value 31 1073741825 ∷ Value 31 1073741823 ∷ []) ≡ Exactly (2147483647 ∷ [])
 signed_quotient_of_negative = refl
 
-signed_remainder_of_least_by_minus_one : gives_of (meaning_of no_flags op.GenericSignedRemainder) (1 ∷ []) (Value 1 1 ∷ Value 1 1 ∷ []) ≡ Undefined
+signed_remainder_of_least_by_minus_one : gives_of (meaning_of no_flags op.GenericSignedRemainder) (1 ∷ []) (Value 1 1 ∷ Value 1 1 ∷ []) ≡ a_given.Undefined
 signed_remainder_of_least_by_minus_one = refl
 
 signed_remainder_of_negative : gives_of (meaning_of no_flags op.GenericSignedRemainder) (13 ∷ []) (Value 13 4832 ∷ Value 13 4095 ∷ []) ≡ Exactly (4832 ∷ [])
@@ -184,10 +186,10 @@ less_word : word_given (meaning_of no_flags op.SetLess) 32 (Value 32 2147483648 
 less_word = refl
 
 -- written by hand: the least value by -1 at other widths
-signed_quotient_overflow : gives_of (meaning_of no_flags op.GenericSignedDivide) (32 ∷ []) (Value 32 2147483648 ∷ Value 32 4294967295 ∷ []) ≡ Undefined
+signed_quotient_overflow : gives_of (meaning_of no_flags op.GenericSignedDivide) (32 ∷ []) (Value 32 2147483648 ∷ Value 32 4294967295 ∷ []) ≡ a_given.Undefined
 signed_quotient_overflow = refl
 
-signed_remainder_overflow : gives_of (meaning_of no_flags op.GenericSignedRemainder) (64 ∷ []) (Value 64 9223372036854775808 ∷ Value 64 18446744073709551615 ∷ []) ≡ Undefined
+signed_remainder_overflow : gives_of (meaning_of no_flags op.GenericSignedRemainder) (64 ∷ []) (Value 64 9223372036854775808 ∷ Value 64 18446744073709551615 ∷ []) ≡ a_given.Undefined
 signed_remainder_overflow = refl
 
 -- ══ Memory: four bytes from 4096 on, and the last and the first byte of 32 bits of addresses ══
@@ -200,13 +202,13 @@ bytes a =
 lowest_byte_first : load 32 4 32 32 Zeros bytes 4096 ≡ one 2164228609
 lowest_byte_first = refl
 
-misaligned : load 32 4 32 32 Zeros bytes 4098 ≡ Undefined
+misaligned : load 32 4 32 32 Zeros bytes 4098 ≡ a_given.Undefined
 misaligned = refl
 
 aligned_to_two : load 32 2 16 32 Zeros bytes 4098 ≡ one 33023
 aligned_to_two = refl
 
-missing_byte : load 32 1 16 32 Zeros bytes 4099 ≡ Undefined
+missing_byte : load 32 1 16 32 Zeros bytes 4099 ≡ a_given.Undefined
 missing_byte = refl
 
 around_the_end : load 32 1 16 32 Zeros bytes 4294967295 ≡ one 2311
@@ -228,10 +230,10 @@ whole_with_anything = refl
 pointer_alignment : generic_load 32 Anything (Some (record { load = true; ty = Pointer; align = 0 })) (32 ∷ []) (Value 32 4096 ∷ []) bytes ≡ one 2164228609
 pointer_alignment = refl
 
-pointer_misaligned : generic_load 32 Anything (Some (record { load = true; ty = Pointer; align = 0 })) (32 ∷ []) (Value 32 4097 ∷ []) bytes ≡ Undefined
+pointer_misaligned : generic_load 32 Anything (Some (record { load = true; ty = Pointer; align = 0 })) (32 ∷ []) (Value 32 4097 ∷ []) bytes ≡ a_given.Undefined
 pointer_misaligned = refl
 
-load_of_a_store : generic_load 32 Anything (Some (record { load = false; ty = Scalar 8; align = 1 })) (32 ∷ []) (Value 32 4096 ∷ []) bytes ≡ Undefined
+load_of_a_store : generic_load 32 Anything (Some (record { load = false; ty = Scalar 8; align = 1 })) (32 ∷ []) (Value 32 4096 ∷ []) bytes ≡ a_given.Undefined
 load_of_a_store = refl
 
 load_word : machine_load 64 always 4 Signs (Value 64 4100 ∷ Number (negsuc 3) ∷ []) bytes ≡ one 18446744071578812929
@@ -240,13 +242,13 @@ load_word = refl
 load_word_unsigned : machine_load 64 only_64 4 Zeros (Value 64 4096 ∷ Number (pos 0) ∷ []) bytes ≡ one 2164228609
 load_word_unsigned = refl
 
-load_word_unsigned_on_32 : machine_load 32 only_64 4 Zeros (Value 32 4096 ∷ Number (pos 0) ∷ []) bytes ≡ Undefined
+load_word_unsigned_on_32 : machine_load 32 only_64 4 Zeros (Value 32 4096 ∷ Number (pos 0) ∷ []) bytes ≡ a_given.Undefined
 load_word_unsigned_on_32 = refl
 
-load_half_misaligned : machine_load 64 always 2 Signs (Value 64 4096 ∷ Number (pos 1) ∷ []) bytes ≡ Undefined
+load_half_misaligned : machine_load 64 always 2 Signs (Value 64 4096 ∷ Number (pos 1) ∷ []) bytes ≡ a_given.Undefined
 load_half_misaligned = refl
 
-load_beyond_immediates : machine_load 64 always 1 Signs (Value 64 2048 ∷ Number (pos 2048) ∷ []) bytes ≡ Undefined
+load_beyond_immediates : machine_load 64 always 1 Signs (Value 64 2048 ∷ Number (pos 2048) ∷ []) bytes ≡ a_given.Undefined
 load_beyond_immediates = refl
 
 stored_low : stored 32 2 bytes 4096 66051 4096 ≡ Some 3
@@ -258,8 +260,8 @@ stored_high = refl
 stored_no_more : stored 32 2 bytes 4096 66051 4098 ≡ Some 255
 stored_no_more = refl
 
-store_misaligned : (outside : Outside) → Stores 32 2 2 4097 7 outside Breaks
+store_misaligned : (outside : Outside) → Stores 32 2 2 4097 7 outside an_answer.Undefined
 store_misaligned outside = refl
 
-store_at_missing_byte : Stores 32 1 4 4098 7 (record { memory = bytes; taken = 0 }) Breaks
+store_at_missing_byte : Stores 32 1 4 4098 7 (record { memory = bytes; taken = 0 }) an_answer.Undefined
 store_at_missing_byte = refl

@@ -6,7 +6,8 @@ use Rattle.gi_llt.specs.Bits.{wrapped, unsigned, sign_extended}
 use Rattle.gi_llt.specs.Llt.{width_of}
 use Rattle.gi_mir.specs.declared.operand.MemOp.{MemOp}
 use Rattle.gi_mir.specs.declared.operand.SymbolFlag.TheVariants.{Call}
-use Rattle.gi_meaning.specs.Given.{Given, LowBits, Undefined, IsGiven, one, in_low_bits}
+use Rattle.gi_meaning.specs.Given.{Given, LowBits, IsGiven, one, in_low_bits}
+use Rattle.gi_meaning.specs.Given as a_given
 use Rattle.gi_meaning.specs.Argument.{Argument, Value, Implicit, Defined, Number, Symbol, Called, To}
 use Rattle.gi_meaning.specs.Machine.{is_immediate}
 use Rattle.gi_meaning.specs.Memory.{Memory, loaded, stored, is_aligned}
@@ -23,14 +24,14 @@ pub data Answer : Type 0 where
   Returns : (words : List ℕ) → Answer
   -- a call that no event answers
   Asks : (callee : List ℕ) → (words : List ℕ) → Answer
-  -- undefined
-  Breaks : Answer
+  -- nothing is promised
+  Undefined : Answer
 
 -- ══ Results ══
 
 -- results as an operation gives them
 abbrev pub Answers : Given → Outside → Answer → Type 0
-Answers Undefined outside answer = answer ≡ Breaks
+Answers a_given.Undefined outside answer = answer ≡ Undefined
 Answers given outside answer = (results : List ℕ) × IsGiven given results × (answer ≡ Results results outside)
 
 -- a word in a place of width bits: its low bits
@@ -43,7 +44,7 @@ all_fitted x _ words = words
 
 -- words as a machine instruction gives them, each in its place
 abbrev pub AnswersWords : (x : ℕ) → (widths : List ℕ) → Given → Outside → Answer → Type 0
-AnswersWords x widths Undefined outside answer = answer ≡ Breaks
+AnswersWords x widths a_given.Undefined outside answer = answer ≡ Undefined
 AnswersWords x widths given outside answer =
     (words : List ℕ) × IsGiven given words × (answer ≡ Results (all_fitted x widths words) outside)
 
@@ -72,7 +73,7 @@ copied m n value = if nat_lt m n then LowBits m n value else if m == n then one 
 
 abbrev pub copy : List ℕ → List Argument → Given
 copy (n ∷ []) (Value m value ∷ []) = copied m n value
-copy _ _ = Undefined
+copy _ _ = a_given.Undefined
 
 -- ══ Loads and stores ══
 
@@ -86,59 +87,59 @@ extended Zeros m n value = one value
 extended Signs m n value = one (sign_extended m n value)
 
 abbrev pub from_loaded : Option ℕ → Extension → (m n : ℕ) → Given
-from_loaded None extension m n = Undefined
+from_loaded None extension m n = a_given.Undefined
 from_loaded (Some value) extension m n = extended extension m n value
 
 -- a load of m bits into n
 abbrev pub load : (x align m n : ℕ) → Extension → Memory → (address : ℕ) → Given
 load x align m n extension memory address =
-    if is_aligned align address then from_loaded (loaded x (m / 8) memory address) extension m n else Undefined
+    if is_aligned align address then from_loaded (loaded x (m / 8) memory address) extension m n else a_given.Undefined
 
 abbrev pub generic_load : (x : ℕ) → Extension → Option MemOp → List ℕ → List Argument → Memory → Given
 generic_load x extension (Some mem) (n ∷ []) (Value l address ∷ []) memory =
-    if mem.load then load x (alignment x mem) (width_of x mem.ty) n extension memory address else Undefined
-generic_load x extension _ _ _ memory = Undefined
+    if mem.load then load x (alignment x mem) (width_of x mem.ty) n extension memory address else a_given.Undefined
+generic_load x extension _ _ _ memory = a_given.Undefined
 
 -- where each byte is there, the memory after the store
 abbrev pub StoresThere : Option ℕ → (x bytes : ℕ) → (address value : ℕ) → Outside → Answer → Type 0
-StoresThere None x bytes address value outside answer = answer ≡ Breaks
+StoresThere None x bytes address value outside answer = answer ≡ Undefined
 StoresThere (Some old) x bytes address value outside answer =
     answer ≡ Results [] (record outside { memory = stored x bytes outside.memory address value })
 
 abbrev pub Stores : (x align bytes address value : ℕ) → Outside → Answer → Type 0
 Stores x align bytes address value outside answer =
-    cond (is_aligned align address) (StoresThere (loaded x bytes outside.memory address) x bytes address value outside answer) (answer ≡ Breaks)
+    cond (is_aligned align address) (StoresThere (loaded x bytes outside.memory address) x bytes address value outside answer) (answer ≡ Undefined)
 
 abbrev pub GenericStores : (x : ℕ) → Option MemOp → List Argument → Outside → Answer → Type 0
 GenericStores x (Some mem) (Value n value ∷ Value l address ∷ []) outside answer =
-    cond mem.load (answer ≡ Breaks) (Stores x (alignment x mem) (width_of x mem.ty / 8) address value outside answer)
-GenericStores x _ _ outside answer = answer ≡ Breaks
+    cond mem.load (answer ≡ Undefined) (Stores x (alignment x mem) (width_of x mem.ty / 8) address value outside answer)
+GenericStores x _ _ outside answer = answer ≡ Undefined
 
 -- a base and an offset; a machine's access is aligned to its size
 abbrev pub machine_load : (x : ℕ) → (ℕ → Bool) → (bytes : ℕ) → Extension → List Argument → Memory → Given
 machine_load x exists bytes extension (Value l base ∷ Number offset ∷ []) memory =
     if exists x && is_immediate offset
-    then load x bytes (bytes * 8) x extension memory (wrapped x (base + unsigned x offset)) else Undefined
-machine_load x exists bytes extension _ memory = Undefined
+    then load x bytes (bytes * 8) x extension memory (wrapped x (base + unsigned x offset)) else a_given.Undefined
+machine_load x exists bytes extension _ memory = a_given.Undefined
 
 abbrev pub MachineStores : (x : ℕ) → (ℕ → Bool) → (bytes : ℕ) → List Argument → Outside → Answer → Type 0
 MachineStores x exists bytes (Value n value ∷ Value l base ∷ Number offset ∷ []) outside answer =
-    cond (exists x && is_immediate offset) (Stores x bytes bytes (wrapped x (base + unsigned x offset)) value outside answer) (answer ≡ Breaks)
-MachineStores x exists bytes _ outside answer = answer ≡ Breaks
+    cond (exists x && is_immediate offset) (Stores x bytes bytes (wrapped x (base + unsigned x offset)) value outside answer) (answer ≡ Undefined)
+MachineStores x exists bytes _ outside answer = answer ≡ Undefined
 
 -- ══ Branches ══
 
 abbrev pub jump : List Argument → Answer
 jump (To block ∷ []) = Leaves block
-jump _ = Breaks
+jump _ = Undefined
 
 abbrev pub branch : List Argument → Outside → Answer
 branch (Value n condition ∷ To block ∷ []) outside = if condition == 0 then Results [] outside else Leaves block
-branch _ outside = Breaks
+branch _ outside = Undefined
 
 abbrev pub machine_branch : (x : ℕ) → (ℕ → ℕ → ℕ → Bool) → List Argument → Outside → Answer
 machine_branch x test (Value l a ∷ Value m b ∷ To block ∷ []) outside = if test x a b then Leaves block else Results [] outside
-machine_branch x test _ outside = Breaks
+machine_branch x test _ outside = Undefined
 
 -- ══ Calls ══
 
@@ -200,7 +201,7 @@ has_operands inputs =
 
 abbrev pub of_four_words : (x place : ℕ) → Option ℕ → Option ℕ → Option ℕ → Option ℕ → Given
 of_four_words x place (Some l) (Some h) (Some m) (Some k) = computation_at place (2 * x) (l + 2 ^ x * h) (m + 2 ^ x * k)
-of_four_words x place _ _ _ _ = Undefined
+of_four_words x place _ _ _ _ = a_given.Undefined
 
 abbrev pub routine_given : (x place : ℕ) → List (ℕ × ℕ) → Given
 routine_given x place inputs = of_four_words x place (passed_in 10 inputs) (passed_in 11 inputs) (passed_in 12 inputs) (passed_in 13 inputs)
@@ -218,13 +219,13 @@ abbrev pub CallsRoutine : (x routine : ℕ) → (inputs : List (ℕ × ℕ)) →
 CallsRoutine x routine inputs results outside answer =
     cond (has_operands inputs && has_routine x routine)
     ((words : List ℕ) × InTwoWords x (routine_given x routine inputs) words × LeavesFree x (result_words words results) outside answer)
-    (answer ≡ Breaks)
+    (answer ≡ Undefined)
 
 abbrev pub Calls : (x : ℕ) → World → List Argument → Outside → Answer → Type 0
 Calls x world (Symbol Call callee address ∷ rest) outside answer =
     CallsGlobal x world callee (words_of (passed rest)) (length (result_registers rest)) outside answer
 Calls x world (Called Call routine ∷ rest) outside answer = CallsRoutine x routine (passed rest) (result_registers rest) outside answer
-Calls x world _ outside answer = answer ≡ Breaks
+Calls x world _ outside answer = answer ≡ Undefined
 
 -- the words of the implicit registers, in operand order
 abbrev pub returned : List Argument → List ℕ
@@ -257,4 +258,4 @@ Act x world Calling mem widths arguments outside answer = Calls x world argument
 Act x world Returning mem widths arguments outside answer = answer ≡ Returns (returned arguments)
 Act x world Nothing mem widths arguments outside answer = answer ≡ Results [] outside
 -- a phi takes effect as its block is entered, and nowhere else
-Act x world Joining mem widths arguments outside answer = answer ≡ Breaks
+Act x world Joining mem widths arguments outside answer = answer ≡ Undefined

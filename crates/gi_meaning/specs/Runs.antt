@@ -11,9 +11,11 @@ use Rattle.gi_mir.specs.declared.operand.Operand.{Operand}
 use Rattle.gi_mir.specs.declared.operand.Operand.TheVariants as operand
 use Rattle.gi_meaning.specs.InRow.{checked_blocks}
 use Rattle.gi_meaning.specs.Argument.{Argument, Value, Implicit, Defined, Number, Bits, Symbol, Called, To, Test, Saved}
-use Rattle.gi_meaning.specs.State.{World, State, outside_of, start, Outcome, Returned, Going, Asking, Fails, Place, Virtual, Physical, word_in, put}
+use Rattle.gi_meaning.specs.State.{World, State, outside_of, start, Outcome, Returned, Going, Asking, Place, Virtual, Physical, word_in, put}
+use Rattle.gi_meaning.specs.State as an_outcome
 use Rattle.gi_meaning.specs.Meaning.{Meaning, Calling, Nothing, meaning_of, is_joining}
-use Rattle.gi_meaning.specs.Act.{Answer, Results, Leaves, Returns, Asks, Breaks, Act, clobbered, is_result_register}
+use Rattle.gi_meaning.specs.Act.{Answer, Results, Leaves, Returns, Asks, Act, clobbered, is_result_register}
+use Rattle.gi_meaning.specs.Act as an_answer
 
 -- ══ What instructions are read in ══
 
@@ -101,7 +103,7 @@ pub data Progress : Type 0 where
   Over : (outcome : Outcome) → Progress
 
 abbrev pub going_on : Option State → Progress
-going_on None = Over Fails
+going_on None = Over an_outcome.Undefined
 going_on (Some state) = On state
 
 -- what an answer makes of the state
@@ -110,11 +112,11 @@ progress_of state places (Results results outside) = going_on (put_all (record s
 progress_of state places (Leaves block) = Left block state
 progress_of state places (Returns words) = Over (Returned words state.memory state.taken)
 progress_of state places (Asks callee words) = Over (Asking callee words state.memory state.taken)
-progress_of state places Breaks = Over Fails
+progress_of state places an_answer.Undefined = Over an_outcome.Undefined
 
 -- from arguments that are there; a register without a value is undefined
 abbrev pub StepsFrom : Setting → World → InstrData → State → Option (List Argument) → Progress → Type 0
-StepsFrom setting world i state None progress = progress ≡ Over Fails
+StepsFrom setting world i state None progress = progress ≡ Over an_outcome.Undefined
 StepsFrom setting world i state (Some arguments) progress =
     (answer : Answer)
     × Act setting.x world (meaning_of i.flags i.op) i.mem
@@ -192,18 +194,18 @@ Entering = Option ℕ → ℕ → State → Outcome → Type 0
 
 -- what follows a block: another one, the next in layout where it is among the successors, or the end
 abbrev pub Follows : (b : ℕ) → (successors : List ℕ) → Entering → Progress → Outcome → Type 0
-Follows b successors enters (On state) outcome = cond (is_among (b + 1) successors) (enters (Some b) (b + 1) state outcome) (outcome ≡ Fails)
+Follows b successors enters (On state) outcome = cond (is_among (b + 1) successors) (enters (Some b) (b + 1) state outcome) (outcome ≡ an_outcome.Undefined)
 Follows b successors enters (Left block state) outcome = enters (Some b) block state outcome
 Follows b successors enters (Over over) outcome = outcome ≡ over
 
 abbrev pub RunsAfterPhis : Setting → World → (b : ℕ) → BlockData → Entering → Option State → Outcome → Type 0
-RunsAfterPhis setting world b block enters None outcome = outcome ≡ Fails
+RunsAfterPhis setting world b block enters None outcome = outcome ≡ an_outcome.Undefined
 RunsAfterPhis setting world b block enters (Some state) outcome =
     (progress : Progress) × Executes setting world (after_phis block.instrs) state progress
     × Follows b block.successors enters progress outcome
 
 abbrev pub RunsBlock : Setting → World → Option BlockData → Entering → Entering
-RunsBlock setting world None enters from b state outcome = outcome ≡ Fails
+RunsBlock setting world None enters from b state outcome = outcome ≡ an_outcome.Undefined
 RunsBlock setting world (Some block) enters from b state outcome =
     RunsAfterPhis setting world b block enters (joined state from (phis_of block.instrs)) outcome
 
@@ -233,12 +235,12 @@ abbrev pub cut : World → ℕ → World
 cut world k = record world { trace = take k world.trace }
 
 -- within n block entries and after some prefix of the trace it runs to what is undefined
-pub record MayFail (x : ℕ) (names : List (List ℕ)) (f : FunctionData) (world : World) (n : ℕ) : Type 0 where
+pub record MayBeUndefined (x : ℕ) (names : List (List ℕ)) (f : FunctionData) (world : World) (n : ℕ) : Type 0 where
   pub events : ℕ
   pub entries : ℕ
   pub within : entries ≤ n
-  pub fails : Runs x names f (cut world events) entries Fails
+  pub undefined : Runs x names f (cut world events) entries an_outcome.Undefined
 
--- A function allows an outcome that it runs to, and any outcome where it may fail before.
+-- A function allows an outcome that it runs to, and any outcome where it may be undefined before.
 abbrev pub Allows : (x : ℕ) → (names : List (List ℕ)) → FunctionData → World → (n : ℕ) → Outcome → Type 0
-Allows x names f world n outcome = Runs x names f world n outcome ⊎ MayFail x names f world n
+Allows x names f world n outcome = Runs x names f world n outcome ⊎ MayBeUndefined x names f world n

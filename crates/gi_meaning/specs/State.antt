@@ -67,7 +67,7 @@ pub data Outcome : Type 0 where
   Returned : (words : List ℕ) → (memory : Memory) → (taken : ℕ) → Outcome
   Going : (memory : Memory) → (taken : ℕ) → Outcome
   Asking : (callee : List ℕ) → (words : List ℕ) → (memory : Memory) → (taken : ℕ) → Outcome
-  Fails : Outcome
+  Undefined : Outcome
 
 -- where a value is kept: in a virtual register or in a physical one
 pub data Place : Type 0 where

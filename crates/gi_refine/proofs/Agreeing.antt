@@ -5,9 +5,11 @@ use Rattle.gi_mir.specs.declared.operand.Operand.{Operand}
 use Rattle.gi_mir.specs.declared.operand.Operand.TheVariants as operand
 use Rattle.gi_meaning.specs.Argument.{Argument, Value, Implicit}
 use Rattle.gi_meaning.specs.Memory.{Memory}
-use Rattle.gi_meaning.specs.State.{World, State, Outside, outside_of, Returned, Asking, Fails, Place, Virtual, Physical, word_in, put}
+use Rattle.gi_meaning.specs.State.{World, State, Outside, outside_of, Returned, Asking, Place, Virtual, Physical, word_in, put}
+use Rattle.gi_meaning.specs.State as an_outcome
 use Rattle.gi_meaning.specs.Meaning.{Meaning, meaning_of}
-use Rattle.gi_meaning.specs.Act.{Answer, Results, Leaves, Returns, Asks, Breaks, Act}
+use Rattle.gi_meaning.specs.Act.{Answer, Results, Leaves, Returns, Asks, Act}
+use Rattle.gi_meaning.specs.Act as an_answer
 use Rattle.gi_meaning.specs.Runs.{Setting, argument_of, arguments_of, joined_lists, written_places, width_of_place, put_all, Progress, On, Left, Over, going_on, progress_of, StepsFrom, Steps, After, Executes}
 use Rattle.gi_refine.specs.Simulation.{Stands, IsFollowed}
 use Rattle.std.proofs.lemmas.Bool.{eq-eqb, eqb-true}
@@ -184,8 +186,8 @@ progress_stands s t hidden exit exits old new ps (Returns words) answer' stands 
 progress_stands s t hidden exit exits old new ps (Asks callee words) answer' stands agree =
     subst (λ a. Stands (Agree s t (all_shown hidden ps)) exit (progress_of old ps (Asks callee words)) (progress_of new ps a)) (sym stands)
     (ap₂ (λ m k. Asking callee words m k) (sym agree.memory) (sym agree.taken))
-progress_stands s t hidden exit exits old new ps Breaks answer' stands agree =
-    subst (λ a. Stands (Agree s t (all_shown hidden ps)) exit (Over Fails) (progress_of new ps a)) (sym stands) refl
+progress_stands s t hidden exit exits old new ps an_answer.Undefined answer' stands agree =
+    subst (λ a. Stands (Agree s t (all_shown hidden ps)) exit (Over an_outcome.Undefined) (progress_of new ps a)) (sym stands) refl
 
 results_alike : (x : ℕ) (names : List (List ℕ)) (width width' : ℕ → ℕ) (ps : List Place) (vs : List ℕ) → AreAlike width width' ps
     → ResultsStand (setting x names width) (setting x names width') ps vs vs
@@ -203,7 +205,7 @@ answer_alike x names width width' ps (Results results outside) alike = (results,
 answer_alike x names width width' ps (Leaves block) alike = refl
 answer_alike x names width width' ps (Returns words) alike = refl
 answer_alike x names width width' ps (Asks callee words) alike = refl
-answer_alike x names width width' ps Breaks alike = refl
+answer_alike x names width width' ps an_answer.Undefined alike = refl
 
 widths_alike : (x : ℕ) (names : List (List ℕ)) (width width' : ℕ → ℕ) (ps : List Place) → AreAlike width width' ps
     → map (width_of_place (setting x names width')) ps ≡ map (width_of_place (setting x names width)) ps
@@ -214,11 +216,11 @@ widths_alike x names width width' (Physical n ∷ ps) alike = ap (λ ns. x ∷ n
 pub outside_same : (s t : Setting) (hidden : Place → Bool) (old new : State) → Agree s t hidden old new → outside_of new ≡ outside_of old
 outside_same s t hidden old new agree = ap₂ (λ (m : Memory) (k : ℕ). let o : Outside = record { memory = m; taken = k } in o) agree.memory agree.taken
 
--- what the new instruction does from a state, the old does from one that agrees, or it fails
+-- what the new instruction does from a state, the old does from one that agrees, or it is undefined
 abbrev pub StepFollowed : (s t : Setting) → World → (hidden : Place → Bool) → (exit : ℕ → State → State → Type 0) → (i : InstrData) → (old : State) → (arguments : Option (List Argument)) → (p' : Progress) → Type 0
 StepFollowed s t w hidden exit i old arguments p' =
     ((p : Progress) × StepsFrom s w i old arguments p × Stands (Agree s t (all_shown hidden (written_places (meaning_of i.flags i.op) i.operands))) exit p p')
-    ⊎ StepsFrom s w i old arguments (Over Fails)
+    ⊎ StepsFrom s w i old arguments (Over an_outcome.Undefined)
 
 -- from arguments that are there, the same answer
 pub step_stands : (x : ℕ) (names : List (List ℕ)) (width width' : ℕ → ℕ) (w : World) (hidden : Place → Bool) (exit : ℕ → State → State → Type 0)
@@ -273,7 +275,7 @@ same_instruction x names width width' w hidden exit exits i j same seen alike = 
       let step : Steps (setting x names width') w i.1 new p' = subst (λ d. Steps (setting x names width') w d new p') same (alone_is (setting x names width') w j new p' run) in
       ⊎_elim
       (λ stood. inl (stood.0, alone (setting x names width) w i old stood.0 stood.1, stood.2))
-      (λ fails. inr (alone (setting x names width) w i old (Over Fails) fails))
+      (λ undefined. inr (alone (setting x names width) w i old (Over an_outcome.Undefined) undefined))
       (step_stands x names width width' w hidden exit exits i.1 old new agree alike
       (arguments_of (setting x names width) w old i.1.operands) (arguments_of (setting x names width') w new i.1.operands)
       (arguments_stand x names width width' w hidden old new agree i.1.operands seen) p' step);

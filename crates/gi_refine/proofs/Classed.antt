@@ -11,7 +11,7 @@ use Rattle.gi_meaning.specs.Meaning.{meaning_of}
 use Rattle.gi_meaning.specs.Runs.{Setting, setting_of, width_of_kind, places_of, written_places, width_of_place, is_phi, phis_of, after_phis, entry_for, value_at, from_block, put_value, joined}
 use Rattle.gi_refine.specs.Agreement.{setting, ValueStands, shown, all_shown}
 use Rattle.gi_refine.specs.Kept.{without_kind, IsKept}
-use Rattle.gi_refine.specs.Refinement.{IsRefinement}
+use Rattle.gi_refine.specs.Refinement.{RefinesUnchecked}
 use Rattle.gi_refine.specs.Simulation.{IsFollowed, PhisStand, IsBlockFollowed, PlaceFollowed}
 use Rattle.gi_refine.specs.Worded.{AreWorded, AgreeInWords, classed_instr, classed_pair, classed_block, classed, AreNarrow, AllNarrow, AllWorded, UsesOfWidth, PlacesOfWidth, PhisOfWidth, IsBlockWorded, AreBlocksWorded}
 use Rattle.gi_refine.proofs.Agreeing.{put_agree}
@@ -260,7 +260,7 @@ narrow_width x (Some k) h = h
 
 -- ══ The whole function ══
 
-pub classed_refines : (x : ℕ) → 32 ≤ x → (names : List (List ℕ)) (f : FunctionData) → AreBlocksWorded (setting_of x names f) f.blocks → IsRefinement x names f (classed f)
+pub classed_refines : (x : ℕ) → 32 ≤ x → (names : List (List ℕ)) (f : FunctionData) → AreBlocksWorded (setting_of x names f) f.blocks → RefinesUnchecked x names f (classed f)
 classed_refines x wide names f worded =
     let s : Setting = setting_of x names f in
     let t : Setting = setting_of x names (classed f) in

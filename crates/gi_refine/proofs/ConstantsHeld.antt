@@ -16,7 +16,7 @@ use Rattle.gi_mir.specs.declared.operand.Operand.TheVariants as operand
 use Rattle.gi_meaning.specs.Argument.{Argument}
 use Rattle.gi_meaning.specs.State.{World, State, Outside, outside_of, Place, Virtual, Physical, put}
 use Rattle.gi_meaning.specs.Meaning.{meaning_of}
-use Rattle.gi_meaning.specs.Act.{Answer, Results, Leaves, Returns, Asks, Breaks}
+use Rattle.gi_meaning.specs.Act.{Answer, Results, Leaves, Returns, Asks, Undefined}
 use Rattle.gi_meaning.specs.Runs.{Setting, arguments_of, places_of, written_places, put_all, Progress, On, going_on, progress_of, StepsFrom, Steps, phis_of, after_phis, value_at, from_block, put_value, joined}
 use Rattle.gi_refine.specs.Constants.{is_virtual, writes, is_constant_of, keeps_constant, all_keep_constant, no_phi_writes, only_constant, HoldsOnly}
 use Rattle.gi_refine.specs.Invariant.{GoesOnWith, AllKeep, BlockKeeps}
@@ -53,7 +53,7 @@ progress_holds r value state ps (Results results outside) h holds =
 progress_holds r value state ps (Leaves block) h holds = holds
 progress_holds r value state ps (Returns words) h holds = tt
 progress_holds r value state ps (Asks callee words) h holds = tt
-progress_holds r value state ps Breaks h holds = tt
+progress_holds r value state ps Undefined h holds = tt
 
 other_holds : (s : Setting) (w : World) (r value : ℕ) (i : InstrData) → writes r (written_places (meaning_of i.flags i.op) i.operands) ≡ false → (state : State) → HoldsOnly r value state
     → (arguments : Option (List Argument)) (p : Progress) → StepsFrom s w i state arguments p → GoesOnWith (HoldsOnly r value) p

@@ -7,16 +7,19 @@ use Rattle.gi_llt.specs.Llt.{width_of}
 use Rattle.gi_mir.specs.Data.{InstrData, BlockData, FunctionData}
 use Rattle.gi_mir.specs.declared.operand.MemOp.{MemOp}
 use Rattle.gi_meaning.specs.Argument.{Argument, Value, Number}
-use Rattle.gi_meaning.specs.Given.{Given, Exactly, LowBits, Undefined}
+use Rattle.gi_meaning.specs.Given.{Given, Exactly, LowBits}
+use Rattle.gi_meaning.specs.Given as a_given
 use Rattle.gi_meaning.specs.Machine.{is_immediate}
 use Rattle.gi_meaning.specs.Memory.{loaded, is_aligned}
-use Rattle.gi_meaning.specs.State.{World, IsWorld, State, Outside, outside_of, start, Outcome, Going, Fails}
+use Rattle.gi_meaning.specs.State.{World, IsWorld, State, Outside, outside_of, start, Outcome, Going}
+use Rattle.gi_meaning.specs.State as an_outcome
 use Rattle.gi_meaning.specs.Meaning.{Meaning, Copying, Generic, Machine, Loading, Storing, MachineLoading, MachineStoring, Jumping, Branching, MachineBranching, Calling, Returning, Nothing, Joining, meaning_of}
-use Rattle.gi_meaning.specs.Act.{Answer, Results, Returns, Breaks, Answers, AnswersWords, all_fitted, AllReadAs, alignment, copy, generic_load, machine_load, StoresThere, Stores, GenericStores, MachineStores, jump, branch, machine_branch, returned, Act}
+use Rattle.gi_meaning.specs.Act.{Answer, Results, Returns, Answers, AnswersWords, all_fitted, AllReadAs, alignment, copy, generic_load, machine_load, StoresThere, Stores, GenericStores, MachineStores, jump, branch, machine_branch, returned, Act}
+use Rattle.gi_meaning.specs.Act as an_answer
 use Rattle.gi_meaning.specs.Runs.{Setting, setting_of, arguments_of, written_places, width_of_place, Progress, On, Left, Over, progress_of, StepsFrom, phis_of, after_phis, joined, is_among, Entering, Follows, RunsAfterPhis, RunsBlock, Enters}
 use Rattle.gi_refine.specs.Evaluation.{exact, exact_words, are_whole, store_there, store_at, generic_store, machine_store, answered, progress_by, step_from, step_of, then_on, steps_of, followed_by, after_phis_of, block_of_run, entered, outcome_of}
 use Rattle.gi_refine.specs.Outcomes.{ComesTo}
-use Rattle.gi_refine.specs.Refinement.{IsRefinement}
+use Rattle.gi_refine.specs.Refinement.{RefinesUnchecked}
 use Rattle.gi_refine.proofs.Basics.{some_is}
 use Rattle.gi_refine.proofs.Doing.{ActsSo, Does, does_from, DoesAll, does_none, does_next, does_leave, does_end}
 
@@ -40,16 +43,16 @@ exact_so (Exactly results) outside a h =
     let same : a ≡ Results results outside = some_is (Results results outside) a h in
     record { can = (results, refl, same); only = λ other given. given.2 ∙ ap (λ rs. Results rs outside) given.1 ∙ sym same }
 exact_so (LowBits known width value) outside a h = absurd (none-some a h)
-exact_so Undefined outside a h =
-    let same : a ≡ Breaks = some_is Breaks a h in record { can = same; only = λ other given. given ∙ sym same }
+exact_so a_given.Undefined outside a h =
+    let same : a ≡ an_answer.Undefined = some_is an_answer.Undefined a h in record { can = same; only = λ other given. given ∙ sym same }
 
 exact_words_so : (x : ℕ) (widths : List ℕ) (g : Given) (outside : Outside) (a : Answer) → exact_words x widths g outside ≡ Some a → Only Answer (AnswersWords x widths g outside) a
 exact_words_so x widths (Exactly words) outside a h =
     let same : a ≡ Results (all_fitted x widths words) outside = some_is (Results (all_fitted x widths words) outside) a h in
     record { can = (words, refl, same); only = λ other given. given.2 ∙ ap (λ ws. Results (all_fitted x widths ws) outside) given.1 ∙ sym same }
 exact_words_so x widths (LowBits known width value) outside a h = absurd (none-some a h)
-exact_words_so x widths Undefined outside a h =
-    let same : a ≡ Breaks = some_is Breaks a h in record { can = same; only = λ other given. given ∙ sym same }
+exact_words_so x widths a_given.Undefined outside a h =
+    let same : a ≡ an_answer.Undefined = some_is an_answer.Undefined a h in record { can = same; only = λ other given. given ∙ sym same }
 
 -- ══ Words that are read ══
 
@@ -97,25 +100,25 @@ store_there_so (Some old) x bytes address value outside = record { can = refl; o
 
 store_at_so : (x align bytes address value : ℕ) (outside : Outside) → Only Answer (Stores x align bytes address value outside) (store_at x align bytes address value outside)
 store_at_so x align bytes address value outside =
-    let so = of_two Answer (is_aligned align address) (StoresThere (loaded x bytes outside.memory address) x bytes address value outside) (λ other. other ≡ Breaks)
-    (store_there (loaded x bytes outside.memory address) x bytes address value outside) Breaks
-    (store_there_so (loaded x bytes outside.memory address) x bytes address value outside) (named Answer Breaks Breaks refl) in
+    let so = of_two Answer (is_aligned align address) (StoresThere (loaded x bytes outside.memory address) x bytes address value outside) (λ other. other ≡ an_answer.Undefined)
+    (store_there (loaded x bytes outside.memory address) x bytes address value outside) an_answer.Undefined
+    (store_there_so (loaded x bytes outside.memory address) x bytes address value outside) (named Answer an_answer.Undefined an_answer.Undefined refl) in
     record { can = so.can; only = so.only }
 
 generic_store_so : (x : ℕ) (mem : Option MemOp) (arguments : List Argument) (outside : Outside) → Only Answer (GenericStores x mem arguments outside) (generic_store x mem arguments outside)
 generic_store_so x (Some mem) (Value n value ∷ Value l address ∷ []) outside =
-    let so = of_two Answer mem.load (λ other. other ≡ Breaks) (Stores x (alignment x mem) (width_of x mem.ty / 8) address value outside)
-    Breaks (store_at x (alignment x mem) (width_of x mem.ty / 8) address value outside)
-    (named Answer Breaks Breaks refl) (store_at_so x (alignment x mem) (width_of x mem.ty / 8) address value outside) in
+    let so = of_two Answer mem.load (λ other. other ≡ an_answer.Undefined) (Stores x (alignment x mem) (width_of x mem.ty / 8) address value outside)
+    an_answer.Undefined (store_at x (alignment x mem) (width_of x mem.ty / 8) address value outside)
+    (named Answer an_answer.Undefined an_answer.Undefined refl) (store_at_so x (alignment x mem) (width_of x mem.ty / 8) address value outside) in
     record { can = so.can; only = so.only }
 generic_store_so x _ _ outside = record { can = refl; only = λ other h. h }
 
 machine_store_so : (x : ℕ) (exists : ℕ → Bool) (bytes : ℕ) (arguments : List Argument) (outside : Outside)
     → Only Answer (MachineStores x exists bytes arguments outside) (machine_store x exists bytes arguments outside)
 machine_store_so x exists bytes (Value n value ∷ Value l base ∷ Number offset ∷ []) outside =
-    let so = of_two Answer (exists x && is_immediate offset) (Stores x bytes bytes (wrapped x (base + unsigned x offset)) value outside) (λ other. other ≡ Breaks)
-    (store_at x bytes bytes (wrapped x (base + unsigned x offset)) value outside) Breaks
-    (store_at_so x bytes bytes (wrapped x (base + unsigned x offset)) value outside) (named Answer Breaks Breaks refl) in
+    let so = of_two Answer (exists x && is_immediate offset) (Stores x bytes bytes (wrapped x (base + unsigned x offset)) value outside) (λ other. other ≡ an_answer.Undefined)
+    (store_at x bytes bytes (wrapped x (base + unsigned x offset)) value outside) an_answer.Undefined
+    (store_at_so x bytes bytes (wrapped x (base + unsigned x offset)) value outside) (named Answer an_answer.Undefined an_answer.Undefined refl) in
     record { can = so.can; only = so.only }
 machine_store_so x exists bytes _ outside = record { can = refl; only = λ other h. h }
 
@@ -149,20 +152,20 @@ one_way x w (MachineBranching test) mem widths arguments outside a h =
 one_way x w Calling mem widths arguments outside a h = absurd (none-some a h)
 one_way x w Returning mem widths arguments outside a h = named Answer (Returns (returned arguments)) a (some_is (Returns (returned arguments)) a h)
 one_way x w Nothing mem widths arguments outside a h = named Answer (Results [] outside) a (some_is (Results [] outside) a h)
-one_way x w Joining mem widths arguments outside a h = named Answer Breaks a (some_is Breaks a h)
+one_way x w Joining mem widths arguments outside a h = named Answer an_answer.Undefined a (some_is an_answer.Undefined a h)
 
 pub answered_so : (x : ℕ) (w : World) (m : Meaning) (mem : Option MemOp) (widths : List ℕ) (arguments : List Argument) (outside : Outside) (a : Answer)
     → answered x m mem widths arguments outside ≡ Some a → ActsSo x w m mem widths arguments outside a
 answered_so x w m mem widths arguments outside a h =
     let so : Only Answer (Act x w m mem widths arguments outside) a = one_way x w m mem widths arguments outside a h in record { can = so.can; only = so.only }
 
--- without a value for each register that is read a run fails
-fails_so : (s : Setting) (w : World) (i : ℕ × InstrData) (state : State) (p : Progress) → arguments_of s w state i.1.operands ≡ None → p ≡ Over Fails → Does s w i state p
-fails_so s w i state p none fails = record {
-  can = subst (λ arguments. StepsFrom s w i.1 state arguments p) (sym none) fails;
+-- without a value for each register that is read a run is undefined
+undefined_so : (s : Setting) (w : World) (i : ℕ × InstrData) (state : State) (p : Progress) → arguments_of s w state i.1.operands ≡ None → p ≡ Over an_outcome.Undefined → Does s w i state p
+undefined_so s w i state p none undefined = record {
+  can = subst (λ arguments. StepsFrom s w i.1 state arguments p) (sym none) undefined;
   only = λ other step.
-      let failed : other ≡ Over Fails = subst (λ arguments. StepsFrom s w i.1 state arguments other) none step in
-      failed ∙ sym fails;
+      let other_undefined : other ≡ Over an_outcome.Undefined = subst (λ arguments. StepsFrom s w i.1 state arguments other) none step in
+      other_undefined ∙ sym undefined;
 }
 
 pub step_so : (s : Setting) (w : World) (i : ℕ × InstrData) (state : State) (p : Progress) → step_of s w i.1 state ≡ Some p → Does s w i state p
@@ -181,7 +184,7 @@ step_so s w i state p h = from (arguments_of s w state i.1.operands) refl h
         (some_is (progress_of state (written_places m i.1.operands) a) p there)
 
     from : (arguments : Option (List Argument)) → arguments_of s w state i.1.operands ≡ arguments → step_from s i.1 state arguments ≡ Some p → Does s w i state p
-    from None none there = fails_so s w i state p none (some_is (Over Fails) p there)
+    from None none there = undefined_so s w i state p none (some_is (Over an_outcome.Undefined) p there)
     from (Some arguments) read there = by arguments read _ refl there
 
 steps_next : (s : Setting) (w : World) (i : ℕ × InstrData) (is : List (ℕ × InstrData)) (state : State) (first : Option Progress) (p : Progress)
@@ -204,9 +207,9 @@ record EvaluatesTo (enters : Entering) (worked : Option ℕ → ℕ → State �
   by : (from : Option ℕ) (b : ℕ) (state : State) (o : Outcome) → worked from b state ≡ Some o → Only Outcome (enters from b state) o
 
 falls_so : (enters : Entering) (worked : Option ℕ → ℕ → State → Option Outcome) → EvaluatesTo enters worked → (among : Bool) (b : ℕ) (state : State) (o : Outcome)
-    → cond among (worked (Some b) (b + 1) state) (Some Fails) ≡ Some o → Only Outcome (λ other. cond among (enters (Some b) (b + 1) state other) (other ≡ Fails)) o
+    → cond among (worked (Some b) (b + 1) state) (Some an_outcome.Undefined) ≡ Some o → Only Outcome (λ other. cond among (enters (Some b) (b + 1) state other) (other ≡ an_outcome.Undefined)) o
 falls_so enters worked so true b state o h = so.by (Some b) (b + 1) state o h
-falls_so enters worked so false b state o h = named Outcome Fails o (some_is Fails o h)
+falls_so enters worked so false b state o h = named Outcome an_outcome.Undefined o (some_is an_outcome.Undefined o h)
 
 follows_so : (enters : Entering) (worked : Option ℕ → ℕ → State → Option Outcome) → EvaluatesTo enters worked → (b : ℕ) (successors : List ℕ) (p : Progress) (o : Outcome)
     → followed_by b successors worked (Some p) ≡ Some o → Only Outcome (Follows b successors enters p) o
@@ -227,12 +230,12 @@ body_so s w enters worked so b block state o (Some p) is h =
 
 phis_so : (s : Setting) (w : World) (enters : Entering) (worked : Option ℕ → ℕ → State → Option Outcome) → EvaluatesTo enters worked → (b : ℕ) (block : BlockData) (state : Option State) (o : Outcome)
     → after_phis_of s w b block worked state ≡ Some o → Only Outcome (RunsAfterPhis s w b block enters state) o
-phis_so s w enters worked so b block None o h = named Outcome Fails o (some_is Fails o h)
+phis_so s w enters worked so b block None o h = named Outcome an_outcome.Undefined o (some_is an_outcome.Undefined o h)
 phis_so s w enters worked so b block (Some state) o h = body_so s w enters worked so b block state o (steps_of s w (after_phis block.instrs) state) refl h
 
 block_so : (s : Setting) (w : World) (enters : Entering) (worked : Option ℕ → ℕ → State → Option Outcome) → EvaluatesTo enters worked → (block : Option BlockData)
     → (from : Option ℕ) (b : ℕ) (state : State) (o : Outcome) → block_of_run s w worked block from b state ≡ Some o → Only Outcome (RunsBlock s w block enters from b state) o
-block_so s w enters worked so None from b state o h = named Outcome Fails o (some_is Fails o h)
+block_so s w enters worked so None from b state o h = named Outcome an_outcome.Undefined o (some_is an_outcome.Undefined o h)
 block_so s w enters worked so (Some block) from b state o h = phis_so s w enters worked so b block (joined state from (phis_of block.instrs)) o h
 
 entered_so : (s : Setting) (w : World) (blocks : List BlockData) (n : ℕ) → EvaluatesTo (Enters s w blocks n) (entered s w blocks n)
@@ -249,10 +252,10 @@ outcome_so x names f w n o h =
 
 -- functions that come to different outcomes, of which the old one's isn't undefined, aren't a refinement
 pub refutes : (x : ℕ) (names : List (List ℕ)) (f g : FunctionData) (w : World) → IsWorld x w → (n : ℕ) (o o' : Outcome) → outcome_of x names f w n ≡ Some o → outcome_of x names g w n ≡ Some o'
-    → (o' ≡ o → ⊥) → (Fails ≡ o → ⊥) → IsRefinement x names f g → ⊥
+    → (o' ≡ o → ⊥) → (an_outcome.Undefined ≡ o → ⊥) → RefinesUnchecked x names f g → ⊥
 refutes x names f g w is_world n o o' old new apart defined refines =
     let old_so : ComesTo x names f w n o = outcome_so x names f w n o old in
     ⊎_elim
     (λ ran. apart (old_so.only o' ran))
-    (λ fails. defined (old_so.only Fails fails))
+    (λ undefined. defined (old_so.only an_outcome.Undefined undefined))
     (refines.runs w is_world n o' ((outcome_so x names g w n o' new).can))

@@ -17,7 +17,7 @@ use Rattle.gi_meaning.specs.Given.{one}
 use Rattle.gi_meaning.specs.Generic.{constant}
 use Rattle.gi_meaning.specs.State.{World, IsWorld, State, outside_of, Place, Virtual, Physical, put}
 use Rattle.gi_meaning.specs.Meaning.{Meaning, Copying, Generic, Jumping, Branching, MachineBranching, Returning, Nothing, meaning_of}
-use Rattle.gi_meaning.specs.Act.{Answer, Results, Leaves, Returns, Asks, Breaks, Act, Answers}
+use Rattle.gi_meaning.specs.Act.{Answer, Results, Leaves, Returns, Asks, Undefined, Act, Answers}
 use Rattle.gi_meaning.specs.Runs.{Setting, setting_of, arguments_of, places_of, written_places, width_of_place, put_all, Progress, going_on, progress_of, StepsFrom, Steps, phis_of, after_phis, entry_for, value_at, from_block, put_value, joined}
 use Rattle.gi_refine.specs.Fitting.{IsFit, always_fits, is_fitting_constant, keeps_fit, all_keep_fit, uses_have, phi_fits, phis_fit, blocks_fit}
 use Rattle.gi_refine.specs.Invariant.{GoesOnWith, AllKeep, BlockKeeps}
@@ -59,7 +59,7 @@ progress_fit s state ps (Results results outside) fits fit =
 progress_fit s state ps (Leaves block) fits fit = fit
 progress_fit s state ps (Returns words) fits fit = tt
 progress_fit s state ps (Asks callee words) fits fit = tt
-progress_fit s state ps Breaks fits fit = tt
+progress_fit s state ps Undefined fits fit = tt
 
 -- what an instruction does from arguments that fit
 abbrev ActsFit : (s : Setting) (w : World) (i : InstrData) → Type 0

@@ -5,7 +5,7 @@ use Rattle.gi_mir.specs.declared.operand.MemOp.{MemOp}
 use Rattle.gi_mir.specs.declared.operand.Operand.{Operand}
 use Rattle.gi_mir.specs.declared.operand.Operand.TheVariants as operand
 use Rattle.gi_meaning.specs.Argument.{Argument, Value, Implicit}
-use Rattle.gi_meaning.specs.State.{World, State, outside_of, Fails, Place, Virtual, Physical, word_in, put}
+use Rattle.gi_meaning.specs.State.{World, State, outside_of, Undefined, Place, Virtual, Physical, word_in, put}
 use Rattle.gi_meaning.specs.Meaning.{Meaning, Copying, Calling, Nothing, meaning_of, is_joining}
 use Rattle.gi_meaning.specs.Act.{Answer, Act, clobbered, is_result_register}
 use Rattle.gi_meaning.specs.Runs.{Setting, argument_of, arguments_of, joined_lists, places_of, result_places, written_places, width_of_place, progress_of, Progress, Over, StepsFrom, Steps, is_phi, phis_of, after_phis, entry_for, value_at, from_block, put_value, joined}
@@ -73,7 +73,7 @@ kept_meaning rename i j kept = ap₂ meaning_of kept.flags kept.op
 
 -- a step by what it knows of its instruction
 abbrev StepsBy : Setting → World → Meaning → Option MemOp → List Place → State → Option (List Argument) → Progress → Type 0
-StepsBy s w m mem places state None p = p ≡ Over Fails
+StepsBy s w m mem places state None p = p ≡ Over Undefined
 StepsBy s w m mem places state (Some arguments) p =
     (answer : Answer) × Act s.x w m mem (map (width_of_place s) places) arguments (outside_of state) answer × (p ≡ progress_of state places answer)
 
@@ -200,7 +200,7 @@ pub kept_followed : (x : ℕ) (names : List (List ℕ)) (width width' : ℕ → 
 kept_followed x names width width' w before hidden exit exits rename i j kept seen has = record {
   by = λ old new related p' run. ⊎_elim
       (λ stood. inl (stood.0, alone (setting x names width) w i old stood.0 stood.1, stood.2))
-      (λ fails. inr (alone (setting x names width) w i old (Over Fails) fails))
+      (λ undefined. inr (alone (setting x names width) w i old (Over Undefined) undefined))
       (kept_step_stands x names width width' w hidden exit exits rename i.1 j.1 kept seen old new (has old new related).0 (has old new related).1 p'
       (alone_is (setting x names width') w j new p' run));
 }

@@ -5,7 +5,7 @@ pub mod ConstantsHeld
 pub mod Covering
 pub mod Doing
 pub mod Evaluating
-pub mod Failing
+pub mod UndefinedRuns
 pub mod Fitted
 pub mod FittedSteps
 pub mod Invariants

@@ -10,7 +10,7 @@ use Rattle.gi_refine.specs.Agreement.{Agree, AgreeAt, AgreeEntering, all_shown}
 use Rattle.gi_refine.specs.Kept.{AreKept, AllSeenAs, UsesHold}
 use Rattle.gi_refine.specs.OnePlace.{OnePlace, only_virtual, BlockStays, StaysAt, RewritesOnePlace}
 use Rattle.gi_refine.specs.Reached.{IsReached, WhereReached}
-use Rattle.gi_refine.specs.Refinement.{IsRefinement}
+use Rattle.gi_refine.specs.Refinement.{RefinesUnchecked}
 use Rattle.gi_refine.specs.Simulation.{IsFollowed}
 use Rattle.gi_refine.proofs.Keeping.{agree_but, all_shown_less, kept_followed, phis_kept, bodies_kept, phis_seen, bodies_seen, phis_stand}
 use Rattle.gi_refine.proofs.Reaching.{WhereLeft, left_before, followed_where, followed_within, nothing_followed, FollowsWhere, PlaceFollowsWhere, refined_where_reached}
@@ -150,7 +150,7 @@ place_rewritten x names f g p rewrites w is_world = record {
 
 -- ══ The whole function ══
 
-pub one_place_refines : (x : ℕ) (names : List (List ℕ)) (f g : FunctionData) (p : OnePlace) → RewritesOnePlace x names f g p → IsRefinement x names f g
+pub one_place_refines : (x : ℕ) (names : List (List ℕ)) (f g : FunctionData) (p : OnePlace) → RewritesOnePlace x names f g p → RefinesUnchecked x names f g
 one_place_refines x names f g p rewrites =
     let s : Setting = setting_of x names f in
     let t : Setting = setting_of x names g in

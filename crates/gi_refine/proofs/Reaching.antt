@@ -4,7 +4,7 @@ use Rattle.gi_mir.specs.Data.{InstrData, BlockData, FunctionData}
 use Rattle.gi_meaning.specs.State.{World, IsWorld, State, start}
 use Rattle.gi_meaning.specs.Runs.{Setting, setting_of, Progress, On, Left, Over, Executes, phis_of, after_phis, joined, is_among}
 use Rattle.gi_refine.specs.Reached.{GoesTo, Arrives, Reaches, WhereReached}
-use Rattle.gi_refine.specs.Refinement.{IsRefinement}
+use Rattle.gi_refine.specs.Refinement.{RefinesUnchecked}
 use Rattle.gi_refine.specs.Simulation.{Stands, IsFollowed, PhisStand, IsBlockFollowed, PlaceFollowed}
 use Rattle.gi_refine.proofs.Basics.{some_is}
 use Rattle.gi_refine.proofs.Simulating.{join, refined_by_following}
@@ -49,7 +49,7 @@ pub followed_where : (s t : Setting) (w : World) (blocks : List BlockData) (b : 
 followed_where s t w blocks b done before after exit xs ys followed = record {
   by = λ old new related p' run. ⊎_elim
       (λ ran. inl (ran.0, ran.1, stands_where s w blocks b (done ++ xs) after exit ran.0 p' (reaches_on s w blocks b done xs old ran.0 related.reached ran.1) ran.2))
-      (λ fails. inr fails)
+      (λ undefined. inr undefined)
       (followed.by old new related p' run);
 }
 
@@ -72,7 +72,7 @@ pub followed_within : (s t : Setting) (w : World) (before before' after after' :
 followed_within s t w before before' after after' exit exit' xs ys first then leaves followed = record {
   by = λ old new related p' run. ⊎_elim
       (λ ran. inl (ran.0, ran.1, stands_within after after' exit exit' ran.0 p' then leaves ran.2))
-      (λ fails. inr fails)
+      (λ undefined. inr undefined)
       (followed.by old new (first old new related) p' run);
 }
 
@@ -185,7 +185,7 @@ pub refined_where_reached : (x : ℕ) (names : List (List ℕ)) (f g : FunctionD
     → ((w : World) → IsWorld x w → entry w None 0 (start w) (start w))
     → ((w : World) → IsWorld x w → (b : ℕ) → PlaceFollowsWhere (setting_of x names f) (setting_of x names g) w f.blocks (entry w) (middle w b) (after w b) (exit w b) b (slice_get f.blocks b) (slice_get g.blocks b))
     → ((w : World) → IsWorld x w → (from : Option ℕ) (b : ℕ) (old new : State) → entry w from b old new → (new.memory ≡ old.memory) × (new.taken ≡ old.taken))
-    → IsRefinement x names f g
+    → RefinesUnchecked x names f g
 refined_where_reached x names f g entry middle after exit starts places outside =
     refined_by_following x names f g (λ w. WhereEntered (setting_of x names f) w f.blocks (entry w)) (λ w b. WhereReached (setting_of x names f) w f.blocks b [] (middle w b))
     (λ w b. WhereReached (setting_of x names f) w f.blocks b (body_of (slice_get f.blocks b)) (after w b))

@@ -8,7 +8,7 @@ use Rattle.gi_meaning.specs.Runs.{Setting, setting_of, written_places, after_phi
 use Rattle.gi_refine.specs.Agreement.{Agree, AgreeAt, AgreeEntering, all_shown}
 use Rattle.gi_refine.specs.Kept.{AreKept, AllSeenAs, PhisHold}
 use Rattle.gi_refine.specs.Reached.{WhereReached}
-use Rattle.gi_refine.specs.Refinement.{IsRefinement}
+use Rattle.gi_refine.specs.Refinement.{RefinesUnchecked}
 use Rattle.gi_refine.specs.Rewriting.{Piece, Kept, Changed, old_of, new_of, all_old, all_new, Covers, is_target, Stays, PieceFollows, PiecesFollow, hidden_after, PhisFollow, shown_by_phis, BlockRewritten, RewrittenAt, IsRewritten}
 use Rattle.gi_refine.specs.Simulation.{Stands, IsFollowed}
 use Rattle.gi_refine.proofs.Agreeing.{alone_is}
@@ -48,7 +48,7 @@ to_targets : (s t : Setting) (w : World) (before after : State → State → Typ
 to_targets s t w before after exit i j followed = record {
   by = λ old new related p' run. ⊎_elim
       (λ ran. inl (ran.0, ran.1, exits_in (λ c. is_target c i.1.operands ≡ true) after exit ran.0 p' (step_target s w i.1 old ran.0 (alone_is s w i old ran.0 ran.1)) ran.2))
-      (λ fails. inr fails)
+      (λ undefined. inr undefined)
       (followed.by old new related p' run);
 }
 
@@ -168,7 +168,7 @@ kept_phis_follow x names f g w b rename entry middle old new is_world kept seen 
 
 -- ══ The whole function ══
 
-pub rewriting_refines : (x : ℕ) (names : List (List ℕ)) (f g : FunctionData) → IsRewritten x names f g → IsRefinement x names f g
+pub rewriting_refines : (x : ℕ) (names : List (List ℕ)) (f g : FunctionData) → IsRewritten x names f g → RefinesUnchecked x names f g
 rewriting_refines x names f g rewritten =
     let s : Setting = setting_of x names f in
     let t : Setting = setting_of x names g in

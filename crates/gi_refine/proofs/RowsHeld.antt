@@ -7,9 +7,9 @@ use Rattle.gi_llt.specs.declared.Llt.{Llt}
 use Rattle.gi_mir.specs.Data.{InstrData, BlockData, FunctionData}
 use Rattle.gi_meaning.specs.InRow.{type_in, is_in_row, nowhere, checked_pair, checked_block, checked_blocks, are_in_rows}
 use Rattle.gi_meaning.specs.Runs.{setting_of, Enters, Runs, RunsUnchecked, Allows}
-use Rattle.gi_meaning.specs.State.{World, IsWorld, Outcome, Fails, start}
-use Rattle.gi_refine.specs.Refinement.{IsRefinement}
-use Rattle.gi_refine.proofs.Failing.{may_from_fails}
+use Rattle.gi_meaning.specs.State.{World, IsWorld, Outcome, Undefined, start}
+use Rattle.gi_refine.specs.Refinement.{RefinesUnchecked}
+use Rattle.gi_refine.proofs.UndefinedRuns.{may_from_undefined}
 
 instr_stays : (i : InstrData) (b : Bool) → b ≡ true → cond b i (nowhere i) ≡ i
 instr_stays i b is = ap (λ t. cond t i (nowhere i)) is
@@ -37,9 +37,9 @@ unchecked x names f h w n outcome run = subst (λ blocks. Enters (setting_of x n
 pub checked : (x : ℕ) (names : List (List ℕ)) (f : FunctionData) → are_in_rows x f ≡ true → (w : World) (n : ℕ) (outcome : Outcome) → RunsUnchecked x names f w n outcome → Runs x names f w n outcome
 checked x names f h w n outcome run = subst (λ blocks. Enters (setting_of x names f) w blocks n None 0 (start w) outcome) (sym (checked_stay x f h)) run
 
-pub allowed_in_rows : (x : ℕ) (names : List (List ℕ)) (f g : FunctionData) → are_in_rows x f ≡ true → are_in_rows x g ≡ true → IsRefinement x names f g
+pub allowed_in_rows : (x : ℕ) (names : List (List ℕ)) (f g : FunctionData) → are_in_rows x f ≡ true → are_in_rows x g ≡ true → RefinesUnchecked x names f g
     → (w : World) → IsWorld x w → (n : ℕ) (outcome : Outcome) → Runs x names g w n outcome → Allows x names f w n outcome
 allowed_in_rows x names f g old new refines w is_world n outcome run = ⊎_elim
     (λ ran. inl (checked x names f old w n outcome ran))
-    (λ fails. inr (may_from_fails x names f w n (checked x names f old w n Fails fails)))
+    (λ undefined. inr (may_from_undefined x names f w n (checked x names f old w n Undefined undefined)))
     (refines.runs w is_world n outcome (unchecked x names g new w n outcome run))

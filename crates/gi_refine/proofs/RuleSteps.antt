@@ -3,9 +3,11 @@ use Rattle.std.proofs.Common.{◌≡◌, ℕ, ◌^◌, ◌%◌, ◌<◌, ◌≤�
 use Rattle.std.proofs.lemmas.Bool.{eq-eqb, ltb-false, true≢false}
 use Rattle.std.proofs.Math.Nat.{mod-one}
 use Rattle.gi_meaning.specs.Argument.{Argument, Value}
-use Rattle.gi_meaning.specs.Given.{Given, Exactly, LowBits, Undefined, IsGiven, one, in_low_bits, unless_broken}
+use Rattle.gi_meaning.specs.Given.{Given, Exactly, LowBits, IsGiven, one, in_low_bits, unless_broken}
+use Rattle.gi_meaning.specs.Given as a_given
 use Rattle.gi_meaning.specs.State.{World, Outside}
-use Rattle.gi_meaning.specs.Act.{Answer, Results, Breaks, Answers, AnswersWords, all_fitted, IsWordOf}
+use Rattle.gi_meaning.specs.Act.{Answer, Results, Answers, AnswersWords, all_fitted, IsWordOf}
+use Rattle.gi_meaning.specs.Act as an_answer
 use Rattle.gi_refine.specs.Values.{Environment, appended, answered, Then, Holds, Defines, StandAt}
 use Rattle.gi_refine.specs.ValueRules.{constant}
 use Rattle.gi_refine.proofs.Basics.{not_below_itself}
@@ -14,7 +16,7 @@ use Rattle.gi_refine.proofs.Basics.{not_below_itself}
 
 -- an operation may answer what is given
 pub answers_given : (given : Given) (outside : Outside) (results : List ℕ) → IsGiven given results → Answers given outside (Results results outside)
-answers_given Undefined outside results h = absurd h
+answers_given a_given.Undefined outside results h = absurd h
 answers_given (Exactly given) outside results h = (results, h, refl)
 answers_given (LowBits known width value) outside results h = (results, h, refl)
 
@@ -74,8 +76,8 @@ pub record OneOf (known value : ℕ) (outside : Outside) (answer : Answer) : Typ
   pub is : answer ≡ Results (result ∷ []) outside
 
 -- a value in a place of more bits, or in one of as many, or else what is undefined
-given_low_bits : (less same : Bool) (known width value : ℕ) (outside : Outside) (answer : Answer) → (less ≡ false → same ≡ false → answer ≡ Breaks → ⊥)
-    → Answers (cond less (LowBits known width value) (cond same (one value) Undefined)) outside answer → OneOf known value outside answer
+given_low_bits : (less same : Bool) (known width value : ℕ) (outside : Outside) (answer : Answer) → (less ≡ false → same ≡ false → answer ≡ an_answer.Undefined → ⊥)
+    → Answers (cond less (LowBits known width value) (cond same (one value) a_given.Undefined)) outside answer → OneOf known value outside answer
 given_low_bits true same known width value outside answer defined h = record { result = h.1.0; low = h.1.2; is = h.2 ∙ ap (λ rs. Results rs outside) h.1.3 }
 given_low_bits false true known width value outside answer defined h = record { result = value; low = refl; is = h.2 ∙ ap (λ rs. Results rs outside) h.1 }
 given_low_bits false false known width value outside answer defined h = absurd (defined refl refl h)
@@ -89,12 +91,12 @@ not_within known width within less same =
 
 pub from_low_bits : (known width value : ℕ) (outside : Outside) (answer : Answer) → known ≤ width → Answers (in_low_bits known width value) outside answer → OneOf known value outside answer
 from_low_bits known width value outside answer within h =
-    given_low_bits (nat_lt known width) (known == width) known width value outside answer (λ less same breaks. not_within known width within less same) h
+    given_low_bits (nat_lt known width) (known == width) known width value outside answer (λ less same undefined. not_within known width within less same) h
 
 -- the same of an answer that isn't undefined
 pub low_of_results : (known width value : ℕ) (outside : Outside) (results : List ℕ) → Answers (in_low_bits known width value) outside (Results results outside) → OneOf known value outside (Results results outside)
 low_of_results known width value outside results h =
-    given_low_bits (nat_lt known width) (known == width) known width value outside (Results results outside) (λ less same breaks. cc) h
+    given_low_bits (nat_lt known width) (known == width) known width value outside (Results results outside) (λ less same undefined. cc) h
 
 -- the rest of a run after one result
 pub after_one : (v n : ℕ) (outside : Outside) (answer : Answer) (env : Environment) (rest : Environment → Option Environment → Type 0) (made : Option Environment)
@@ -116,7 +118,7 @@ same_results given outside n env env' made (v ∷ u ∷ results) h more = GivesN
 
 pub same_given : (given : Given) (outside : Outside) (n : ℕ) (env env' : Environment) (answer : Answer) (made : Option Environment) → Answers given outside answer
     → Then (answered env' (n ∷ []) answer) (λ e m. m ≡ Some e) made → SameGiven given outside n env env' made
-same_given Undefined outside n env env' answer made h more = GivesNone (subst (λ a. Then (answered env' (n ∷ []) a) (λ e m. m ≡ Some e) made) h more) Breaks refl refl
+same_given a_given.Undefined outside n env env' answer made h more = GivesNone (subst (λ a. Then (answered env' (n ∷ []) a) (λ e m. m ≡ Some e) made) h more) an_answer.Undefined refl refl
 same_given (Exactly results) outside n env env' answer made h more =
     same_results (Exactly results) outside n env env' made h.0 (answers_given (Exactly results) outside h.0 h.1) (subst (λ a. Then (answered env' (n ∷ []) a) (λ e m. m ≡ Some e) made) h.2 more)
 same_given (LowBits known width value) outside n env env' answer made h more =

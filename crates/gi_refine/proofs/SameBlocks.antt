@@ -10,7 +10,7 @@ use Rattle.gi_meaning.specs.Runs.{Setting, setting_of, width_of_kind, phis_of, a
 use Rattle.gi_refine.specs.Agreement.{Agree, AgreeAt, AgreeEntering}
 use Rattle.gi_refine.specs.Kept.{AreKept}
 use Rattle.gi_refine.specs.OnePlace.{only_virtual, StaysAt}
-use Rattle.gi_refine.specs.Refinement.{IsRefinement}
+use Rattle.gi_refine.specs.Refinement.{RefinesUnchecked}
 use Rattle.gi_refine.specs.Replacing.{IsSameBlock, AreSameBlocks, any_touches, touches}
 use Rattle.gi_refine.proofs.OnePlaceFollows.{option_stays}
 use Rattle.gi_refine.proofs.Reaching.{refined_where_reached}
@@ -66,7 +66,7 @@ places_stay x names f g widths b zero (d ∷ bs) (c ∷ cs) same = record {
 
 -- ══ The whole function ══
 
-pub same_blocks_refine : (x : ℕ) (names : List (List ℕ)) (f g : FunctionData) → AreSameBlocks f g → IsRefinement x names f g
+pub same_blocks_refine : (x : ℕ) (names : List (List ℕ)) (f g : FunctionData) → AreSameBlocks f g → RefinesUnchecked x names f g
 same_blocks_refine x names f g same =
     let s : Setting = setting_of x names f in
     let t : Setting = setting_of x names g in

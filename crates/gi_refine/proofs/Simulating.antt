@@ -1,9 +1,9 @@
 -- What follows piece by piece follows as a whole.
 use Rattle.std.proofs.Common.{◌≡◌, ℕ, zero, suc, ◌+◌, Bool, true, false, cond, List, [], ◌∷◌, ◌++◌, Option, Some, None, slice_get, ◌⊎◌, inl, inr, ⊎_elim, refl, sym, ap₂, ◌∙◌, subst}
 use Rattle.gi_mir.specs.Data.{InstrData, BlockData, FunctionData}
-use Rattle.gi_meaning.specs.State.{World, IsWorld, State, start, Outcome, Going, Fails}
+use Rattle.gi_meaning.specs.State.{World, IsWorld, State, start, Outcome, Going, Undefined}
 use Rattle.gi_meaning.specs.Runs.{Setting, setting_of, Steps, Progress, On, Left, Over, After, Executes, phis_of, joined, is_among, Follows, RunsAfterPhis, RunsBlock, Enters}
-use Rattle.gi_refine.specs.Refinement.{IsRefinement}
+use Rattle.gi_refine.specs.Refinement.{RefinesUnchecked}
 use Rattle.gi_refine.specs.Simulation.{Stands, IsFollowed, PhisStand, IsBlockFollowed, RunsFrom, RunsThrough, PlaceFollowed, AreFollowed}
 
 -- ══ Lists of instructions one after the other ══
@@ -41,10 +41,10 @@ join s w (x ∷ xs) ys state between p first second =
 -- how the second list goes on where the first one stands
 second_follows : (s s' : Setting) (w : World) (middle after : State → State → Type 0) (exit : ℕ → State → State → Type 0) (xs ys ys' : List (ℕ × InstrData)) (state : State)
     → IsFollowed s s' w middle after exit ys ys' → (q q' p' : Progress) → Executes s w xs state q → Stands middle exit q q' → After q' (Executes s' w ys') p'
-    → ((p : Progress) × Executes s w (xs ++ ys) state p × Stands after exit p p') ⊎ Executes s w (xs ++ ys) state (Over Fails)
+    → ((p : Progress) × Executes s w (xs ++ ys) state p × Stands after exit p p') ⊎ Executes s w (xs ++ ys) state (Over Undefined)
 second_follows s s' w middle after exit xs ys ys' state follows (On old) (On new) p' ran stands rest = ⊎_elim
     (λ more. inl (more.0, join s w xs ys state (On old) more.0 ran more.1, more.2))
-    (λ fails. inr (join s w xs ys state (On old) (Over Fails) ran fails))
+    (λ undefined. inr (join s w xs ys state (On old) (Over Undefined) ran undefined))
     (follows.by old new stands p' rest)
 second_follows s s' w middle after exit xs ys ys' state follows (On old) (Left c new) p' ran stands rest = absurd stands
 second_follows s s' w middle after exit xs ys ys' state follows (On old) (Over o) p' ran stands rest = absurd stands
@@ -65,25 +65,25 @@ followed_on s s' w before middle after exit xs xs' ys ys' first second = record 
       let parts : Split s' w xs' ys' state' p' = split s' w xs' ys' state' p' run in
       ⊎_elim
       (λ ran. second_follows s s' w middle after exit xs ys ys' state second ran.0 parts.between p' ran.1 ran.2 parts.second)
-      (λ fails. inr (join s w xs ys state (Over Fails) (Over Fails) fails refl))
+      (λ undefined. inr (join s w xs ys state (Over Undefined) (Over Undefined) undefined refl))
       (first.by state state' related parts.between parts.first);
 }
 
 -- ══ Blocks ══
 
--- entering the new block from related states is entering the old one, or the old one fails
+-- entering the new block from related states is entering the old one, or the old one is undefined
 record Entered (entry : Option ℕ → ℕ → State → State → Type 0) (enters enters' : Option ℕ → ℕ → State → Outcome → Type 0) : Type 0 where
-  by : (from : Option ℕ) (b : ℕ) (state state' : State) (o : Outcome) → entry from b state state' → enters' from b state' o → enters from b state o ⊎ enters from b state Fails
+  by : (from : Option ℕ) (b : ℕ) (state state' : State) (o : Outcome) → entry from b state state' → enters' from b state' o → enters from b state o ⊎ enters from b state Undefined
 
 falls_on : (entry : Option ℕ → ℕ → State → State → Type 0) (enters enters' : Option ℕ → ℕ → State → Outcome → Type 0) → Entered entry enters enters'
-    → (test : Bool) (from : Option ℕ) (b : ℕ) (state state' : State) (o : Outcome) → (test ≡ true → entry from b state state') → cond test (enters' from b state' o) (o ≡ Fails)
-    → cond test (enters from b state o) (o ≡ Fails) ⊎ cond test (enters from b state Fails) (Fails ≡ Fails)
+    → (test : Bool) (from : Option ℕ) (b : ℕ) (state state' : State) (o : Outcome) → (test ≡ true → entry from b state state') → cond test (enters' from b state' o) (o ≡ Undefined)
+    → cond test (enters from b state o) (o ≡ Undefined) ⊎ cond test (enters from b state Undefined) (Undefined ≡ Undefined)
 falls_on entry enters enters' on true from b state state' o related run = on.by from b state state' o (related refl) run
 falls_on entry enters enters' on false from b state state' o related run = inl run
 
 ends : (s s' : Setting) (w : World) (entry : Option ℕ → ℕ → State → State → Type 0) (middle after : State → State → Type 0) (exit : ℕ → State → State → Type 0) (b : ℕ) (old new : BlockData)
     → IsBlockFollowed s s' w entry middle after exit b old new → (enters enters' : Option ℕ → ℕ → State → Outcome → Type 0) → Entered entry enters enters'
-    → (p p' : Progress) (o : Outcome) → Stands after exit p p' → Follows b old.successors enters' p' o → Follows b old.successors enters p o ⊎ Follows b old.successors enters p Fails
+    → (p p' : Progress) (o : Outcome) → Stands after exit p p' → Follows b old.successors enters' p' o → Follows b old.successors enters p o ⊎ Follows b old.successors enters p Undefined
 ends s s' w entry middle after exit b old new followed enters enters' on (On σ) (On σ') o stands run =
     falls_on entry enters enters' on (is_among (b + 1) old.successors) (Some b) (b + 1) σ σ' o (λ among. followed.falls among σ σ' stands) run
 ends s s' w entry middle after exit b old new followed enters enters' on (On σ) (Left c σ') o stands run = absurd stands
@@ -99,14 +99,14 @@ ends s s' w entry middle after exit b old new followed enters enters' on (Over q
 -- what a block does from related states at its entry
 runs_on : (s s' : Setting) (w : World) (entry : Option ℕ → ℕ → State → State → Type 0) (middle after : State → State → Type 0) (exit : ℕ → State → State → Type 0) (b : ℕ) (old new : BlockData)
     → IsBlockFollowed s s' w entry middle after exit b old new → (σ σ' : Option State) (p' : Progress) → PhisStand middle σ σ' → RunsFrom s' w new σ' p'
-    → ((p : Progress) × RunsFrom s w old σ p × Stands after exit p p') ⊎ RunsFrom s w old σ (Over Fails)
+    → ((p : Progress) × RunsFrom s w old σ p × Stands after exit p p') ⊎ RunsFrom s w old σ (Over Undefined)
 runs_on s s' w entry middle after exit b old new followed None σ' p' stands run = inr refl
 runs_on s s' w entry middle after exit b old new followed (Some σ) None p' stands run = absurd stands
 runs_on s s' w entry middle after exit b old new followed (Some σ) (Some σ') p' stands run = followed.body.by σ σ' stands p' run
 
 pub block_on : (s s' : Setting) (w : World) (entry : Option ℕ → ℕ → State → State → Type 0) (middle after : State → State → Type 0) (exit : ℕ → State → State → Type 0) (b : ℕ) (old new : BlockData)
     → IsBlockFollowed s s' w entry middle after exit b old new → (from : Option ℕ) (state state' : State) → entry from b state state' → (p' : Progress) → RunsThrough s' w new from state' p'
-    → ((p : Progress) × RunsThrough s w old from state p × Stands after exit p p') ⊎ RunsThrough s w old from state (Over Fails)
+    → ((p : Progress) × RunsThrough s w old from state p × Stands after exit p p') ⊎ RunsThrough s w old from state (Over Undefined)
 block_on s s' w entry middle after exit b old new followed from state state' related p' run =
     runs_on s s' w entry middle after exit b old new followed (joined state from (phis_of old.instrs)) (joined state' from (phis_of new.instrs)) p' (followed.phis from state state' related) run
 
@@ -114,21 +114,21 @@ block_on s s' w entry middle after exit b old new followed from state state' rel
 body_on : (s s' : Setting) (w : World) (entry : Option ℕ → ℕ → State → State → Type 0) (middle after : State → State → Type 0) (exit : ℕ → State → State → Type 0) (b : ℕ) (old new : BlockData)
     → IsBlockFollowed s s' w entry middle after exit b old new → (enters enters' : Option ℕ → ℕ → State → Outcome → Type 0) → Entered entry enters enters'
     → (σ σ' : Option State) (o : Outcome) → PhisStand middle σ σ' → RunsAfterPhis s' w b new enters' σ' o
-    → RunsAfterPhis s w b old enters σ o ⊎ RunsAfterPhis s w b old enters σ Fails
+    → RunsAfterPhis s w b old enters σ o ⊎ RunsAfterPhis s w b old enters σ Undefined
 body_on s s' w entry middle after exit b old new followed enters enters' on None σ' o stands run = inr refl
 body_on s s' w entry middle after exit b old new followed enters enters' on (Some σ) None o stands run = absurd stands
 body_on s s' w entry middle after exit b old new followed enters enters' on (Some σ) (Some σ') o stands run =
     let tail : Follows b old.successors enters' run.0 o = subst (λ t. Follows b t enters' run.0 o) followed.successors run.2 in
     ⊎_elim
-    (λ ran. ⊎_elim (λ more. inl (ran.0, ran.1, more)) (λ fails. inr (ran.0, ran.1, fails))
+    (λ ran. ⊎_elim (λ more. inl (ran.0, ran.1, more)) (λ undefined. inr (ran.0, ran.1, undefined))
     (ends s s' w entry middle after exit b old new followed enters enters' on ran.0 run.0 o ran.2 tail))
-    (λ fails. inr (Over Fails, fails, refl))
+    (λ undefined. inr (Over Undefined, undefined, refl))
     (followed.body.by σ σ' stands run.0 run.1)
 
 place_on : (s s' : Setting) (w : World) (entry : Option ℕ → ℕ → State → State → Type 0) (middle after : State → State → Type 0) (exit : ℕ → State → State → Type 0) (b : ℕ) (old new : Option BlockData)
     → PlaceFollowed s s' w entry middle after exit b old new → (enters enters' : Option ℕ → ℕ → State → Outcome → Type 0) → Entered entry enters enters'
     → (from : Option ℕ) (state state' : State) (o : Outcome) → entry from b state state' → RunsBlock s' w new enters' from b state' o
-    → RunsBlock s w old enters from b state o ⊎ RunsBlock s w old enters from b state Fails
+    → RunsBlock s w old enters from b state o ⊎ RunsBlock s w old enters from b state Undefined
 place_on s s' w entry middle after exit b None new followed enters enters' on from state state' o related run = inr refl
 place_on s s' w entry middle after exit b (Some old) None followed enters enters' on from state state' o related run = absurd followed
 place_on s s' w entry middle after exit b (Some old) (Some new) followed enters enters' on from state state' o related run =
@@ -154,7 +154,7 @@ pub refined_by_following : (x : ℕ) (names : List (List ℕ)) (old new : Functi
     (middle after : World → ℕ → State → State → Type 0) (exit : World → ℕ → ℕ → State → State → Type 0)
     → ((w : World) → IsWorld x w → entry w None 0 (start w) (start w))
     → ((w : World) → IsWorld x w → AreFollowed (setting_of x names old) (setting_of x names new) w (entry w) (middle w) (after w) (exit w) old.blocks new.blocks)
-    → IsRefinement x names old new
+    → RefinesUnchecked x names old new
 refined_by_following x names old new entry middle after exit starts followed = record {
   runs = λ w is_world n o run.
       (enters_on (setting_of x names old) (setting_of x names new) w (entry w) (middle w) (after w) (exit w) old.blocks new.blocks (followed w is_world) n).by

@@ -6,7 +6,7 @@ use Rattle.gi_mir.specs.declared.operand.Operand.{Operand}
 use Rattle.gi_mir.specs.declared.operand.Operand.TheVariants as operand
 use Rattle.gi_meaning.specs.Argument.{Argument, Value, Number}
 use Rattle.gi_meaning.specs.Meaning.{meaning_of}
-use Rattle.gi_meaning.specs.Act.{Answer, Results, Leaves, Returns, Asks, Breaks}
+use Rattle.gi_meaning.specs.Act.{Answer, Results, Leaves, Returns, Asks, Undefined}
 use Rattle.gi_meaning.specs.Runs.{argument_of, arguments_of, joined_lists, written_places, width_of_place, put_all, Progress, On, Left, Over, going_on, progress_of, StepsFrom}
 use Rattle.gi_refine.specs.Agreement.{setting}
 use Rattle.gi_refine.proofs.Basics.{value_holds, word_holds}
@@ -48,7 +48,7 @@ progress_sized x state ps (Results results outside) h sized =
 progress_sized x state ps (Leaves c) h sized = sized
 progress_sized x state ps (Returns words) h sized = tt
 progress_sized x state ps (Asks callee words) h sized = tt
-progress_sized x state ps Breaks h sized = tt
+progress_sized x state ps Undefined h sized = tt
 
 -- ══ Reading ══
 

@@ -18,7 +18,7 @@ use Rattle.gi_meaning.specs.Memory.{Memory, above, with_byte, loaded, stored, wi
 use Rattle.gi_meaning.specs.Routine.{has_routine, InTwoWords}
 use Rattle.gi_meaning.specs.Act.{Answer, Results, Leaves, Answers, AnswersWords, all_fitted, copied, copy, extended, from_loaded, load, machine_load, StoresThere, Stores, MachineStores, jump, machine_branch, LeavesFree, CallsGlobal, Calls, Act, AllReadAs, has_operands, result_registers, result_word, result_words, passed, words_of}
 use Rattle.gi_refine.proofs.Basics.{value_holds}
-use Rattle.gi_refine.proofs.Targets.{or_breaks}
+use Rattle.gi_refine.proofs.Targets.{or_undefined}
 use Rattle.gi_refine.specs.Worded.{is_implicit_definition, may_have_words}
 use Rattle.gi_meaning.specs.State.{Event, World, IsWorld, Outside, AreWords, AreBytes, AreEvents}
 use Rattle.gi_meaning.proofs.Numbers.{unsigned_below}
@@ -146,12 +146,12 @@ stores_there_sized x bytes address value (Some old) outside a are_bytes h = subs
 
 stores_sized : (x align bytes address value : ℕ) (outside : Outside) (a : Answer) → AreBytes outside.memory → Stores x align bytes address value outside a → IsAnswerSized x a
 stores_sized x align bytes address value outside a are_bytes h =
-    or_breaks (IsAnswerSized x) tt (is_aligned align address) (StoresThere (loaded x bytes outside.memory address) x bytes address value outside a) a
+    or_undefined (IsAnswerSized x) tt (is_aligned align address) (StoresThere (loaded x bytes outside.memory address) x bytes address value outside a) a
     (stores_there_sized x bytes address value (loaded x bytes outside.memory address) outside a are_bytes) h
 
 machine_stores_sized : (x : ℕ) (exists : ℕ → Bool) (bytes : ℕ) (arguments : List Argument) (outside : Outside) (a : Answer) → AreBytes outside.memory → MachineStores x exists bytes arguments outside a → IsAnswerSized x a
 machine_stores_sized x exists bytes (Value n value ∷ Value l base ∷ Number offset ∷ []) outside a are_bytes h =
-    or_breaks (IsAnswerSized x) tt (exists x && is_immediate offset) (Stores x bytes bytes _ value outside a) a (stores_sized x bytes bytes _ value outside a are_bytes) h
+    or_undefined (IsAnswerSized x) tt (exists x && is_immediate offset) (Stores x bytes bytes _ value outside a) a (stores_sized x bytes bytes _ value outside a are_bytes) h
 machine_stores_sized x exists bytes _ outside a are_bytes h = subst (IsAnswerSized x) (sym h) tt
 
 -- ══ Branches and calls ══
@@ -215,7 +215,7 @@ calls_sized : (x : ℕ) (w : World) → IsWorld x w → (arguments : List Argume
 calls_sized x w is_world (Symbol Call callee address ∷ rest) outside a are_bytes h =
     calls_global_sized x w is_world callee (words_of (passed rest)) (length (result_registers rest)) outside a h
 calls_sized x w is_world (Called Call routine ∷ rest) outside a are_bytes h =
-    or_breaks (IsAnswerSized x) tt (has_operands (passed rest) && has_routine x routine) _ a
+    or_undefined (IsAnswerSized x) tt (has_operands (passed rest) && has_routine x routine) _ a
     (λ answered. leaves_free_sized x (result_words answered.0 (result_registers rest)) outside a
     (result_words_small x answered.0 (result_registers rest) (two_words_small x _ answered.0 answered.1)) are_bytes answered.2) h
 calls_sized x w is_world (Symbol Plain callee address ∷ rest) outside a are_bytes h = subst (IsAnswerSized x) (sym h) tt

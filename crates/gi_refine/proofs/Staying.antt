@@ -10,7 +10,7 @@ use Rattle.gi_meaning.specs.State.{State}
 use Rattle.gi_meaning.specs.Runs.{Setting, setting_of, is_phi, phis_of, after_phis, from_block}
 use Rattle.gi_refine.specs.Kept.{reused_operand, reused, without_kind, IsKept, AreKept, AreSeenAs, AllSeenAs, HasSameValue, UsesHold, EntryHolds, EntriesHold, PhisHold, BodyHolds}
 use Rattle.gi_refine.specs.OnePlace.{OnePlace, only_virtual, StaysAt, RewritesOnePlace}
-use Rattle.gi_refine.specs.Refinement.{IsRefinement}
+use Rattle.gi_refine.specs.Refinement.{RefinesUnchecked}
 use Rattle.gi_refine.specs.Replacing.{touches, any_touches, all_reused, Replacement, IsReplaced}
 use Rattle.gi_refine.proofs.OnePlaceFollows.{one_place_refines}
 
@@ -241,5 +241,5 @@ replaced_in_place x names f g r replaced =
       follows = replaced.follows;
     }
 
-pub replacement_refines : (x : ℕ) (names : List (List ℕ)) (f g : FunctionData) (r : Replacement) → IsReplaced x names f g r → IsRefinement x names f g
+pub replacement_refines : (x : ℕ) (names : List (List ℕ)) (f g : FunctionData) (r : Replacement) → IsReplaced x names f g r → RefinesUnchecked x names f g
 replacement_refines x names f g r replaced = one_place_refines x names f g (place_of_replacement r) (replaced_in_place x names f g r replaced)

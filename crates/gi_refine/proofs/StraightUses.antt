@@ -10,7 +10,7 @@ use Rattle.gi_refine.specs.Agreement.{AgreeAt}
 use Rattle.gi_refine.specs.Examples.{block_of, one_block}
 use Rattle.gi_refine.specs.Lifting.{Placing}
 use Rattle.gi_refine.specs.OnePlace.{only_virtual}
-use Rattle.gi_refine.specs.Refinement.{IsRefinement}
+use Rattle.gi_refine.specs.Refinement.{RefinesUnchecked}
 use Rattle.gi_refine.specs.Replacing.{any_touches}
 use Rattle.gi_refine.specs.RuleUse.{IsRuleUse}
 use Rattle.gi_refine.specs.Values.{Rule}
@@ -44,7 +44,7 @@ pub record StraightUse (x : ℕ) (names : List (List ℕ)) (before old new after
   pub kinds : (q : ℕ) → hidden q ≡ false → kind_in_instrs q new ≡ kind_in_instrs q old
 
 pub straight_refines : (x : ℕ) (names : List (List ℕ)) (before old new after : List (ℕ × InstrData)) (hidden : ℕ → Bool) (rule : World → Rule) (placing : Placing)
-    → StraightUse x names before old new after hidden rule placing → IsRefinement x names (one_block (before ++ (old ++ after))) (one_block (before ++ (new ++ after)))
+    → StraightUse x names before old new after hidden rule placing → RefinesUnchecked x names (one_block (before ++ (old ++ after))) (one_block (before ++ (new ++ after)))
 straight_refines x names before old new after hidden rule placing use_here =
     let f : FunctionData = one_block (before ++ (old ++ after)) in
     let g : FunctionData = one_block (before ++ (new ++ after)) in

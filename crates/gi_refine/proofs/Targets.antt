@@ -7,13 +7,15 @@ use Rattle.gi_mir.specs.declared.operand.Operand.{Operand}
 use Rattle.gi_mir.specs.declared.operand.Operand.TheVariants as operand
 use Rattle.gi_mir.specs.declared.operand.SymbolFlag.TheVariants.{Plain, Call, Hi, Lo}
 use Rattle.gi_meaning.specs.Argument.{Argument, Value, Symbol, Called, To, Number}
-use Rattle.gi_meaning.specs.Given.{Given, Exactly, LowBits, Undefined}
+use Rattle.gi_meaning.specs.Given.{Given, Exactly, LowBits}
+use Rattle.gi_meaning.specs.Given as a_given
 use Rattle.gi_meaning.specs.Memory.{is_aligned, loaded}
 use Rattle.gi_meaning.specs.State.{World, State, Outside, outside_of, Place}
 use Rattle.gi_meaning.specs.Machine.{is_immediate}
 use Rattle.gi_meaning.specs.Meaning.{Meaning, Copying, Generic, Machine, Loading, Storing, MachineLoading, MachineStoring, Jumping, Branching, MachineBranching, Calling, Returning, Nothing, Joining, meaning_of}
 use Rattle.gi_meaning.specs.Routine.{has_routine}
-use Rattle.gi_meaning.specs.Act.{Answer, Results, Leaves, Returns, Asks, Breaks, Answers, AnswersWords, ReadsAs, AllReadAs, copy, generic_load, machine_load, StoresThere, Stores, GenericStores, MachineStores, jump, branch, machine_branch, CallsGlobal, Calls, Act, has_operands, result_registers, passed, words_of, alignment}
+use Rattle.gi_meaning.specs.Act.{Answer, Results, Leaves, Returns, Asks, Answers, AnswersWords, ReadsAs, AllReadAs, copy, generic_load, machine_load, StoresThere, Stores, GenericStores, MachineStores, jump, branch, machine_branch, CallsGlobal, Calls, Act, has_operands, result_registers, passed, words_of, alignment}
+use Rattle.gi_meaning.specs.Act as an_answer
 use Rattle.gi_meaning.specs.Runs.{Setting, argument_of, arguments_of, joined_lists, written_places, width_of_place, put_all, Progress, Left, going_on, progress_of, StepsFrom, Steps}
 use Rattle.gi_refine.specs.Rewriting.{is_target}
 
@@ -35,7 +37,7 @@ progress_in P state ps (Results results outside) h = going_in P (put_all (record
 progress_in P state ps (Leaves c) h = h
 progress_in P state ps (Returns words) h = tt
 progress_in P state ps (Asks callee words) h = tt
-progress_in P state ps Breaks h = tt
+progress_in P state ps an_answer.Undefined h = tt
 
 -- ══ Targets among arguments ══
 
@@ -90,46 +92,46 @@ arguments_target s w state c (o ∷ os) h = ⊎_elim
 -- ══ Answers ══
 
 answers_in : (P : ℕ → Type 0) (g : Given) (outside : Outside) (a : Answer) → Answers g outside a → LeavesIn P a
-answers_in P Undefined outside a h = subst (LeavesIn P) (sym h) tt
+answers_in P a_given.Undefined outside a h = subst (LeavesIn P) (sym h) tt
 answers_in P (Exactly results) outside a h = subst (LeavesIn P) (sym h.2) tt
 answers_in P (LowBits known width value) outside a h = subst (LeavesIn P) (sym h.2) tt
 
 words_in : (P : ℕ → Type 0) (x : ℕ) (widths : List ℕ) (g : Given) (outside : Outside) (a : Answer) → AnswersWords x widths g outside a → LeavesIn P a
-words_in P x widths Undefined outside a h = subst (LeavesIn P) (sym h) tt
+words_in P x widths a_given.Undefined outside a h = subst (LeavesIn P) (sym h) tt
 words_in P x widths (Exactly results) outside a h = subst (LeavesIn P) (sym h.2) tt
 words_in P x widths (LowBits known width value) outside a h = subst (LeavesIn P) (sym h.2) tt
 
 -- one of two, or undefined
-pub or_breaks : (Q : Answer → Type 0) → Q Breaks → (b : Bool) (T : Type 0) (a : Answer) → (T → Q a) → cond b T (a ≡ Breaks) → Q a
-or_breaks Q breaks true T a f h = f h
-or_breaks Q breaks false T a f h = subst Q (sym h) breaks
+pub or_undefined : (Q : Answer → Type 0) → Q an_answer.Undefined → (b : Bool) (T : Type 0) (a : Answer) → (T → Q a) → cond b T (a ≡ an_answer.Undefined) → Q a
+or_undefined Q undefined true T a f h = f h
+or_undefined Q undefined false T a f h = subst Q (sym h) undefined
 
-pub breaks_or : (Q : Answer → Type 0) → Q Breaks → (b : Bool) (T : Type 0) (a : Answer) → (T → Q a) → cond b (a ≡ Breaks) T → Q a
-breaks_or Q breaks true T a f h = subst Q (sym h) breaks
-breaks_or Q breaks false T a f h = f h
+pub undefined_or : (Q : Answer → Type 0) → Q an_answer.Undefined → (b : Bool) (T : Type 0) (a : Answer) → (T → Q a) → cond b (a ≡ an_answer.Undefined) T → Q a
+undefined_or Q undefined true T a f h = subst Q (sym h) undefined
+undefined_or Q undefined false T a f h = f h
 
 -- a store has no results, or is undefined
-stores_there_have : (Q : Answer → Type 0) → Q Breaks → ((outside : Outside) → Q (Results [] outside)) → (o : Option ℕ) (x bytes address value : ℕ) (outside : Outside) (a : Answer)
+stores_there_have : (Q : Answer → Type 0) → Q an_answer.Undefined → ((outside : Outside) → Q (Results [] outside)) → (o : Option ℕ) (x bytes address value : ℕ) (outside : Outside) (a : Answer)
     → StoresThere o x bytes address value outside a → Q a
-stores_there_have Q breaks stores None x bytes address value outside a h = subst Q (sym h) breaks
-stores_there_have Q breaks stores (Some v) x bytes address value outside a h = subst Q (sym h) (stores _)
+stores_there_have Q undefined stores None x bytes address value outside a h = subst Q (sym h) undefined
+stores_there_have Q undefined stores (Some v) x bytes address value outside a h = subst Q (sym h) (stores _)
 
-stores_have : (Q : Answer → Type 0) → Q Breaks → ((outside : Outside) → Q (Results [] outside)) → (x align bytes address value : ℕ) (outside : Outside) (a : Answer) → Stores x align bytes address value outside a → Q a
-stores_have Q breaks stores x align bytes address value outside a h =
-    or_breaks Q breaks (is_aligned align address) (StoresThere (loaded x bytes outside.memory address) x bytes address value outside a) a
-    (stores_there_have Q breaks stores (loaded x bytes outside.memory address) x bytes address value outside a) h
+stores_have : (Q : Answer → Type 0) → Q an_answer.Undefined → ((outside : Outside) → Q (Results [] outside)) → (x align bytes address value : ℕ) (outside : Outside) (a : Answer) → Stores x align bytes address value outside a → Q a
+stores_have Q undefined stores x align bytes address value outside a h =
+    or_undefined Q undefined (is_aligned align address) (StoresThere (loaded x bytes outside.memory address) x bytes address value outside a) a
+    (stores_there_have Q undefined stores (loaded x bytes outside.memory address) x bytes address value outside a) h
 
-generic_stores_have : (Q : Answer → Type 0) → Q Breaks → ((outside : Outside) → Q (Results [] outside)) → (x : ℕ) (mem : Option MemOp) (arguments : List Argument) (outside : Outside) (a : Answer)
+generic_stores_have : (Q : Answer → Type 0) → Q an_answer.Undefined → ((outside : Outside) → Q (Results [] outside)) → (x : ℕ) (mem : Option MemOp) (arguments : List Argument) (outside : Outside) (a : Answer)
     → GenericStores x mem arguments outside a → Q a
-generic_stores_have Q breaks stores x (Some mem) (Value n value ∷ Value l address ∷ []) outside a h =
-    breaks_or Q breaks mem.load (Stores x (alignment x mem) _ address value outside a) a (stores_have Q breaks stores x (alignment x mem) _ address value outside a) h
-generic_stores_have Q breaks stores x _ _ outside a h = subst Q (sym h) breaks
+generic_stores_have Q undefined stores x (Some mem) (Value n value ∷ Value l address ∷ []) outside a h =
+    undefined_or Q undefined mem.load (Stores x (alignment x mem) _ address value outside a) a (stores_have Q undefined stores x (alignment x mem) _ address value outside a) h
+generic_stores_have Q undefined stores x _ _ outside a h = subst Q (sym h) undefined
 
-pub machine_stores_have : (Q : Answer → Type 0) → Q Breaks → ((outside : Outside) → Q (Results [] outside)) → (x : ℕ) (exists : ℕ → Bool) (bytes : ℕ) (arguments : List Argument) (outside : Outside) (a : Answer)
+pub machine_stores_have : (Q : Answer → Type 0) → Q an_answer.Undefined → ((outside : Outside) → Q (Results [] outside)) → (x : ℕ) (exists : ℕ → Bool) (bytes : ℕ) (arguments : List Argument) (outside : Outside) (a : Answer)
     → MachineStores x exists bytes arguments outside a → Q a
-machine_stores_have Q breaks stores x exists bytes (Value n value ∷ Value l base ∷ Number offset ∷ []) outside a h =
-    or_breaks Q breaks (exists x && is_immediate offset) (Stores x bytes bytes _ value outside a) a (stores_have Q breaks stores x bytes bytes _ value outside a) h
-machine_stores_have Q breaks stores x exists bytes _ outside a h = subst Q (sym h) breaks
+machine_stores_have Q undefined stores x exists bytes (Value n value ∷ Value l base ∷ Number offset ∷ []) outside a h =
+    or_undefined Q undefined (exists x && is_immediate offset) (Stores x bytes bytes _ value outside a) a (stores_have Q undefined stores x bytes bytes _ value outside a) h
+machine_stores_have Q undefined stores x exists bytes _ outside a h = subst Q (sym h) undefined
 
 jump_in : (arguments : List Argument) → LeavesIn (λ c. is_aimed c arguments ≡ true) (jump arguments)
 jump_in (To b ∷ []) = or_left (b == b) false (eq-eqb b b refl)
@@ -157,7 +159,7 @@ global_in P x w callee words results outside a = ⊎_elim (λ event. subst (Leav
 calls_in : (P : ℕ → Type 0) (x : ℕ) (w : World) (arguments : List Argument) (outside : Outside) (a : Answer) → Calls x w arguments outside a → LeavesIn P a
 calls_in P x w (Symbol Call callee address ∷ rest) outside a h = global_in P x w callee (words_of (passed rest)) (length (result_registers rest)) outside a h
 calls_in P x w (Called Call routine ∷ rest) outside a h =
-    or_breaks (LeavesIn P) tt (has_operands (passed rest) && has_routine x routine) _ a
+    or_undefined (LeavesIn P) tt (has_operands (passed rest) && has_routine x routine) _ a
     (λ answered. subst (LeavesIn P) (sym answered.2.3) tt) h
 calls_in P x w (Symbol Plain callee address ∷ rest) outside a h = subst (LeavesIn P) (sym h) tt
 calls_in P x w (Symbol Hi callee address ∷ rest) outside a h = subst (LeavesIn P) (sym h) tt
@@ -194,7 +196,7 @@ leaves_more P Q f (Results results outside) h = tt
 leaves_more P Q f (Leaves c) h = f c h
 leaves_more P Q f (Returns words) h = tt
 leaves_more P Q f (Asks callee words) h = tt
-leaves_more P Q f Breaks h = tt
+leaves_more P Q f an_answer.Undefined h = tt
 
 act_in : (x : ℕ) (w : World) (m : Meaning) (mem : Option MemOp) (widths : List ℕ) (arguments : List Argument) (outside : Outside) (a : Answer)
     → Act x w m mem widths arguments outside a → LeavesIn (λ c. is_aimed c arguments ≡ true) a

@@ -1,7 +1,7 @@
 -- Registers that have one value after the old instructions of a rule.
 use Rattle.std.proofs.Common.{◌≡◌, ℕ, Bool, true, List, [], ◌∷◌, ◌++◌, map, Option, Some, None, slice_get, ⊎_elim, refl, sym, subst}
 use Rattle.gi_mir.specs.Data.{InstrData, BlockData}
-use Rattle.gi_meaning.specs.State.{World, State, outside_of, Fails}
+use Rattle.gi_meaning.specs.State.{World, State, outside_of, Undefined}
 use Rattle.gi_meaning.specs.Runs.{Setting, Progress, On, Left, Over, After, Executes}
 use Rattle.gi_refine.specs.Kept.{HasSameValue}
 use Rattle.gi_refine.specs.Reached.{IsEntered, IsReached}
@@ -27,7 +27,7 @@ all_same width values rs env reads (pair ∷ pairs) same = (
   all_same width values rs env reads pairs same.1,
 )
 
-on_not_over : (state : State) → On state ≡ Over Fails → ⊥
+on_not_over : (state : State) → On state ≡ Over Undefined → ⊥
 on_not_over state h = cc
 
 on_same : (a b : State) → On a ≡ On b → a ≡ b

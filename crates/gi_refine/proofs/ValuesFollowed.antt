@@ -1,9 +1,9 @@
--- A sound rule on values, placed on registers: what the new instructions do, the old do too, or they fail.
+-- A sound rule on values, placed on registers: what the new instructions do, the old do too, or they are undefined.
 use Rattle.std.proofs.Common.{◌≡◌, ℕ, ◌^◌, ◌<◌, Bool, true, false, cond, ◌==◌, not, ◌&&◌, ◌||◌, List, [], ◌∷◌, map, Option, Some, None, slice_get, ◌⊎◌, inl, inr, ⊎_elim, refl, sym, ap, ◌∙◌, subst, eqb-true}
 use Rattle.std.proofs.lemmas.Bool.{and_parts, or_parts, or_cases, not-true}
 use Rattle.std.proofs.lemmas.Option.{same_Some}
 use Rattle.gi_mir.specs.Data.{InstrData}
-use Rattle.gi_meaning.specs.State.{World, State, Outside, outside_of, Fails, Place, Virtual, Physical}
+use Rattle.gi_meaning.specs.State.{World, State, Outside, outside_of, Undefined, Place, Virtual, Physical}
 use Rattle.gi_meaning.specs.Runs.{Setting, Progress, On, Over, Executes}
 use Rattle.gi_refine.specs.Agreement.{Agree, ValueStands, setting}
 use Rattle.gi_refine.specs.Kept.{HasSameValue}
@@ -100,8 +100,8 @@ agree_after x names width width' rule placing before after old new final final' 
 
 -- ══ The law ══
 
-old_fails : (s : Setting) (w : World) (is : List (ℕ × InstrData)) (state : State) (is_written : ℕ → Bool) (rs : List ℕ) → Backward s w (Executes s w is state) state is_written rs None → Executes s w is state (Over Fails)
-old_fails s w is state is_written rs back = subst (λ p. Executes s w is state p) back.settled back.run
+old_undefined : (s : Setting) (w : World) (is : List (ℕ × InstrData)) (state : State) (is_written : ℕ → Bool) (rs : List ℕ) → Backward s w (Executes s w is state) state is_written rs None → Executes s w is state (Over Undefined)
+old_undefined s w is state is_written rs back = subst (λ p. Executes s w is state p) back.settled back.run
 
 old_goes_on : (x : ℕ) (names : List (List ℕ)) (width width' : ℕ → ℕ) (w : World) (rule : Rule) (placing : Placing) (before after : Place → Bool) (exit : ℕ → State → State → Type 0) (is : List (ℕ × InstrData)) (old new : State)
     (env env' : Environment) (p' : Progress) → Agree (setting x names width) (setting x names width') before old new → ((p : Place) → after p ≡ false → left_hidden before rule placing p ≡ false) → Correspond rule.kept env env'
@@ -124,13 +124,13 @@ follow_made : (x : ℕ) (names : List (List ℕ)) (width width' : ℕ → ℕ) (
     → Backward (setting x names width) w (Executes (setting x names width) w is old) old (λ r. is_result r placing.old) (all_grown placing.inputs placing.old) m)
     → (made : Option Environment) → Settled width' new (λ r. is_result r placing.new) (all_grown placing.inputs placing.new) p' made
     → MayMake x w (outside_of old) rule env made
-    → ((p : Progress) × Executes (setting x names width) w is old p × Stands (Agree (setting x names width) (setting x names width') after) exit p p') ⊎ Executes (setting x names width) w is old (Over Fails)
+    → ((p : Progress) × Executes (setting x names width) w is old p × Stands (Agree (setting x names width) (setting x names width') after) exit p p') ⊎ Executes (setting x names width) w is old (Over Undefined)
 follow_made x names width width' w rule placing before after exit is old new env p' agree covered back None settled may =
-    inr (old_fails (setting x names width) w is old (λ r. is_result r placing.old) (all_grown placing.inputs placing.old) (back None may))
+    inr (old_undefined (setting x names width) w is old (λ r. is_result r placing.old) (all_grown placing.inputs placing.old) (back None may))
 follow_made x names width width' w rule placing before after exit is old new env p' agree covered back (Some env') settled may =
     ⊎_elim
     (λ made. inl (old_goes_on x names width width' w rule placing before after exit is old new made.0 env' p' agree covered made.2 (back (Some made.0) made.1) settled))
-    (λ breaks. inr (old_fails (setting x names width) w is old (λ r. is_result r placing.old) (all_grown placing.inputs placing.old) (back None breaks)))
+    (λ undefined. inr (old_undefined (setting x names width) w is old (λ r. is_result r placing.old) (all_grown placing.inputs placing.old) (back None undefined)))
     may
 
 -- a sound rule lifts to the instructions that show it

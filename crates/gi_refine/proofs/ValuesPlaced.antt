@@ -2,9 +2,11 @@
 use Rattle.std.proofs.Common.{◌≡◌, ℕ, Bool, true, false, cond, ◌==◌, not, ◌||◌, List, [], ◌∷◌, ◌++◌, map, Option, Some, None, refl, sym, ap, ◌∙◌, subst, eq-eqb}
 use Rattle.std.proofs.lemmas.Bool.{and_parts, eqb-false, ne_eqb, not-true, or_parts}
 use Rattle.gi_mir.specs.Data.{InstrData}
-use Rattle.gi_meaning.specs.State.{World, State, Outside, outside_of, Fails, Virtual, put}
+use Rattle.gi_meaning.specs.State.{World, State, Outside, outside_of, Virtual, put}
+use Rattle.gi_meaning.specs.State as an_outcome
 use Rattle.gi_meaning.specs.Meaning.{meaning_of}
-use Rattle.gi_meaning.specs.Act.{Answer, Results, Leaves, Returns, Asks, Breaks}
+use Rattle.gi_meaning.specs.Act.{Answer, Results, Leaves, Returns, Asks}
+use Rattle.gi_meaning.specs.Act as an_answer
 use Rattle.gi_meaning.specs.Runs.{Setting, put_all, Progress, On, Over, going_on, progress_of, After, Executes, is_among}
 use Rattle.gi_refine.specs.Values.{Environment, Operation, is_pure, are_pure, arguments_at, ActsFrom, appended, answered, Then, Makes}
 use Rattle.gi_refine.specs.Lifting.{Shows, grown, all_grown, AllShow, are_fresh, are_all_fresh, is_result, Reads}
@@ -21,7 +23,7 @@ pub record Became (width : ℕ → ℕ) (state : State) (is_written : ℕ → Bo
   pub outside : outside_of final ≡ outside_of state
 
 abbrev pub Settled : (width : ℕ → ℕ) (state : State) (is_written : ℕ → Bool) (registers : List ℕ) → Progress → Option Environment → Type 0
-Settled width state is_written registers p None = p ≡ Over Fails
+Settled width state is_written registers p None = p ≡ Over an_outcome.Undefined
 Settled width state is_written registers p (Some env) = (final : State) × (p ≡ On final) × Became width state is_written registers env final
 
 reads_put : (width : ℕ → ℕ) (values : ℕ → Option ℕ) (r v : ℕ) (rs : List ℕ) (env : Environment) → is_among r rs ≡ false → Reads width values rs env
@@ -73,7 +75,7 @@ settle_widths width results rs env state (Results values outside) fresh reads pl
 settle_widths width results rs env state (Leaves block) fresh reads plain = absurd plain
 settle_widths width results rs env state (Returns words) fresh reads plain = absurd plain
 settle_widths width results rs env state (Asks callee words) fresh reads plain = absurd plain
-settle_widths width results rs env state Breaks fresh reads plain = refl
+settle_widths width results rs env state an_answer.Undefined fresh reads plain = refl
 
 settle : (width : ℕ → ℕ) (results rs widths : List ℕ) (env : Environment) (state : State) (answer : Answer) → map width results ≡ widths → are_fresh rs results ≡ true → Reads width state.values rs env
     → IsPlain (outside_of state) answer
@@ -159,9 +161,9 @@ backward_next : (s : Setting) (w : World) (outside : Outside) (os : List Operati
     → Then m (Makes s.x w outside os) made
     → Backward s w (After next (Executes s w is)) state (λ r. written r || is_result r rss) (all_grown rs rss) made
 backward_next s w outside os rss is rs written state next None made settled here rest makes = record {
-  progress = Over Fails;
-  run = subst (λ q. After q (Executes s w is) (Over Fails)) (sym settled) refl;
-  settled = subst (λ m. Settled s.width state (λ r. written r || is_result r rss) (all_grown rs rss) (Over Fails) m) (sym makes) refl;
+  progress = Over an_outcome.Undefined;
+  run = subst (λ q. After q (Executes s w is) (Over an_outcome.Undefined)) (sym settled) refl;
+  settled = subst (λ m. Settled s.width state (λ r. written r || is_result r rss) (all_grown rs rss) (Over an_outcome.Undefined) m) (sym makes) refl;
 }
 backward_next s w outside os rss is rs written state next (Some env) made settled here rest makes =
     let became : Became s.width state written rs env settled.0 = settled.2 in

@@ -5,10 +5,13 @@ use Rattle.gi_mir.specs.declared.operand.MemOp.{MemOp}
 use Rattle.gi_mir.specs.declared.operand.Operand.{Operand}
 use Rattle.gi_mir.specs.declared.operand.Operand.TheVariants as operand
 use Rattle.gi_meaning.specs.Argument.{Argument, Value}
-use Rattle.gi_meaning.specs.Given.{Given, Exactly, LowBits, Undefined}
-use Rattle.gi_meaning.specs.State.{World, State, Outside, outside_of, Fails, Place, Virtual}
+use Rattle.gi_meaning.specs.Given.{Given, Exactly, LowBits}
+use Rattle.gi_meaning.specs.Given as a_given
+use Rattle.gi_meaning.specs.State.{World, State, Outside, outside_of, Place, Virtual}
+use Rattle.gi_meaning.specs.State as an_outcome
 use Rattle.gi_meaning.specs.Meaning.{Meaning, Copying, Generic, Machine, meaning_of, Loading, MachineLoading}
-use Rattle.gi_meaning.specs.Act.{Answer, Results, Breaks, Act, Answers, AnswersWords, copy, generic_load, machine_load}
+use Rattle.gi_meaning.specs.Act.{Answer, Results, Act, Answers, AnswersWords, copy, generic_load, machine_load}
+use Rattle.gi_meaning.specs.Act as an_answer
 use Rattle.gi_meaning.specs.Runs.{Setting, argument_of, arguments_of, joined_lists, places_of, written_places, width_of_place, Progress, Over, progress_of, StepsFrom, Steps}
 use Rattle.gi_refine.specs.Values.{Environment, Slot, At, Fixed, Operation, is_pure, argument_at, arguments_at, ActsFrom}
 use Rattle.gi_refine.specs.Lifting.{fixed_argument, ShowsSlot, ShowsSlots, ShowsOperands, Shows, Reads}
@@ -115,16 +118,16 @@ widths_of s (r ∷ results) = ap (λ ns. s.width r ∷ ns) (widths_of s results)
 -- results with what was outside before, or undefined
 abbrev pub IsPlain : Outside → Answer → Type 0
 IsPlain outside (Results results after) = after ≡ outside
-IsPlain outside Breaks = Unit {0}
+IsPlain outside an_answer.Undefined = Unit {0}
 IsPlain outside _ = ⊥
 
 pub answers_plain : (given : Given) (outside : Outside) (answer : Answer) → Answers given outside answer → IsPlain outside answer
-answers_plain Undefined outside answer h = subst (IsPlain outside) (sym h) tt
+answers_plain a_given.Undefined outside answer h = subst (IsPlain outside) (sym h) tt
 answers_plain (Exactly results) outside answer h = subst (IsPlain outside) (sym h.2) refl
 answers_plain (LowBits known width value) outside answer h = subst (IsPlain outside) (sym h.2) refl
 
 pub words_plain : (x : ℕ) (widths : List ℕ) (given : Given) (outside : Outside) (answer : Answer) → AnswersWords x widths given outside answer → IsPlain outside answer
-words_plain x widths Undefined outside answer h = subst (IsPlain outside) (sym h) tt
+words_plain x widths a_given.Undefined outside answer h = subst (IsPlain outside) (sym h) tt
 words_plain x widths (Exactly results) outside answer h = subst (IsPlain outside) (sym h.2) refl
 words_plain x widths (LowBits known width value) outside answer h = subst (IsPlain outside) (sym h.2) refl
 
@@ -147,7 +150,7 @@ acts_plain x w o outside (Some arguments) answer h act = pure_plain x w (meaning
 
 -- a step by its parts
 abbrev Stepped : (s : Setting) (w : World) (m : Meaning) (mem : Option MemOp) (widths : List ℕ) (places : List Place) (state : State) → Option (List Argument) → Progress → Type 0
-Stepped s w m mem widths places state None p = p ≡ Over Fails
+Stepped s w m mem widths places state None p = p ≡ Over an_outcome.Undefined
 Stepped s w m mem widths places state (Some arguments) p =
     (answer : Answer) × Act s.x w m mem widths arguments (outside_of state) answer × (p ≡ progress_of state places answer)
 
@@ -214,7 +217,7 @@ pub record Answering (s : Setting) (w : World) (o : Operation) (results : List �
 
 pub answering : (s : Setting) (w : World) (o : Operation) (results : List ℕ) (state : State) (arguments : Option (List Argument)) (p : Progress) → OperationSteps s w o results state arguments p
     → Answering s w o results state arguments p
-answering s w o results state None p h = record { answer = Breaks; acts = refl; made = h }
+answering s w o results state None p h = record { answer = an_answer.Undefined; acts = refl; made = h }
 answering s w o results state (Some arguments) p h = record { answer = h.0; acts = h.1; made = h.2 }
 
 pub stepping : (s : Setting) (w : World) (o : Operation) (results : List ℕ) (state : State) (arguments : Option (List Argument)) (answer : Answer) → ActsFrom s.x w o (outside_of state) arguments answer

@@ -1,4 +1,4 @@
--- Where an input has no value, the first old instruction, which takes it, fails.
+-- Where an input has no value, the first old instruction, which takes it, is undefined.
 use Rattle.std.proofs.Common.{◌≡◌, ℕ, suc, ◌+◌, Bool, true, false, ◌==◌, List, [], ◌∷◌, Option, Some, None, option_map, slice_get, ◌⊎◌, inl, inr, ⊎_elim, refl, sym, ap, ◌∙◌, subst, eqb-true, arith}
 use Rattle.std.proofs.lemmas.Bool.{or_cases}
 use Rattle.std.proofs.lemmas.Option.{same_Some}
@@ -6,7 +6,7 @@ use Rattle.gi_mir.specs.Data.{InstrData}
 use Rattle.gi_mir.specs.declared.operand.Operand.{Operand}
 use Rattle.gi_mir.specs.declared.operand.Operand.TheVariants as operand
 use Rattle.gi_meaning.specs.Argument.{Argument, Value}
-use Rattle.gi_meaning.specs.State.{World, State, Fails, Place}
+use Rattle.gi_meaning.specs.State.{World, State, Undefined, Place}
 use Rattle.gi_meaning.specs.Runs.{Setting, argument_of, arguments_of, joined_lists, StepsFrom, Progress, Over, After, Executes}
 use Rattle.gi_refine.specs.Agreement.{Agree, setting}
 use Rattle.gi_refine.specs.Simulation.{IsFollowed}
@@ -59,7 +59,7 @@ read_or_missing slots width values place (r ∷ rs) there =
     (λ none. inr (missing_here slots values place r rs there.0 none (takes place slots) refl))
     (value_or_none (values r))
 
--- ══ The first instruction fails ══
+-- ══ The first instruction is undefined ══
 
 joined_none : (arguments : Option (List Argument)) → joined_lists arguments None ≡ None
 joined_none None = refl
@@ -95,37 +95,37 @@ first_missing : (s : Setting) (w : World) (state : State) (rs results : List ℕ
 first_missing s w state rs results o i shows m =
     operands_missing s w state rs m.at m.register m.here m.none results o.slots i.operands (subst (λ k. takes k o.slots ≡ true) (omega arith) m.taken) shows.operands
 
-missing_fails : (s : Setting) (w : World) (state : State) (rss : List (List ℕ)) (os : List Operation) (is : List (ℕ × InstrData)) (rs : List ℕ) → AllShow s w rs rss os is
-    → Missing (first_slots os) state.values 0 rs → Executes s w is state (Over Fails)
-missing_fails s w state [] [] is rs shown m = let no : false ≡ true = m.taken in cc
-missing_fails s w state [] (o ∷ os) is rs shown m = absurd shown
-missing_fails s w state (results ∷ rss) [] is rs shown m = absurd shown
-missing_fails s w state (results ∷ rss) (o ∷ os) [] rs shown m = absurd shown
-missing_fails s w state (results ∷ rss) (o ∷ os) (i ∷ is) rs shown m =
-    (Over Fails, subst (λ a. StepsFrom s w i.1 state a (Over Fails)) (sym (first_missing s w state rs results o i.1 shown.0 m)) refl, refl)
+missing_undefined : (s : Setting) (w : World) (state : State) (rss : List (List ℕ)) (os : List Operation) (is : List (ℕ × InstrData)) (rs : List ℕ) → AllShow s w rs rss os is
+    → Missing (first_slots os) state.values 0 rs → Executes s w is state (Over Undefined)
+missing_undefined s w state [] [] is rs shown m = let no : false ≡ true = m.taken in cc
+missing_undefined s w state [] (o ∷ os) is rs shown m = absurd shown
+missing_undefined s w state (results ∷ rss) [] is rs shown m = absurd shown
+missing_undefined s w state (results ∷ rss) (o ∷ os) [] rs shown m = absurd shown
+missing_undefined s w state (results ∷ rss) (o ∷ os) (i ∷ is) rs shown m =
+    (Over Undefined, subst (λ a. StepsFrom s w i.1 state a (Over Undefined)) (sym (first_missing s w state rs results o i.1 shown.0 m)) refl, refl)
 
 -- and does nothing else
 pub missing_over : (s : Setting) (w : World) (state : State) (rss : List (List ℕ)) (os : List Operation) (is : List (ℕ × InstrData)) (rs : List ℕ) → AllShow s w rs rss os is
-    → Missing (first_slots os) state.values 0 rs → (p : Progress) → Executes s w is state p → p ≡ Over Fails
+    → Missing (first_slots os) state.values 0 rs → (p : Progress) → Executes s w is state p → p ≡ Over Undefined
 missing_over s w state [] [] is rs shown m p run = let no : false ≡ true = m.taken in cc
 missing_over s w state [] (o ∷ os) is rs shown m p run = absurd shown
 missing_over s w state (results ∷ rss) [] is rs shown m p run = absurd shown
 missing_over s w state (results ∷ rss) (o ∷ os) [] rs shown m p run = absurd shown
 missing_over s w state (results ∷ rss) (o ∷ os) (i ∷ is) rs shown m p run =
-    let over : run.0 ≡ Over Fails = subst (λ a. StepsFrom s w i.1 state a run.0) (first_missing s w state rs results o i.1 shown.0 m) run.1 in
+    let over : run.0 ≡ Over Undefined = subst (λ a. StepsFrom s w i.1 state a run.0) (first_missing s w state rs results o i.1 shown.0 m) run.1 in
     subst (λ q. After q (Executes s w is) p) over run.2
 
 -- ══ The law ══
 
 known_ready : (s t : Setting) (w : World) (rule : Rule) (placing : Placing) (is : List (ℕ × InstrData)) (hidden : Place → Bool) (old new : State) → AllShow s w placing.inputs placing.old rule.old is
-    → AgreeKnown s t w rule placing.inputs hidden old new → AgreeReady s t w rule placing.inputs hidden old new ⊎ Executes s w is old (Over Fails)
+    → AgreeKnown s t w rule placing.inputs hidden old new → AgreeReady s t w rule placing.inputs hidden old new ⊎ Executes s w is old (Over Undefined)
 known_ready s t w rule placing is hidden old new shown known =
     ⊎_elim
     (λ read. inl (record {
       agree = known.agree;
       ready = record { env = read.0; read = read.1; sized = known.known.sized read.0 read.1; facts = known.known.facts read.0 read.1 };
     }))
-    (λ m. inr (missing_fails s w old placing.old rule.old is placing.inputs shown m))
+    (λ m. inr (missing_undefined s w old placing.old rule.old is placing.inputs shown m))
     (read_or_missing (first_slots rule.old) s.width old.values 0 placing.inputs known.known.there)
 
 -- a sound rule lifts also where inputs that the first old instruction takes have no value
@@ -135,6 +135,6 @@ pub known_values_followed : (x : ℕ) (names : List (List ℕ)) (width width' : 
 known_values_followed x names width width' w rule placing before after exit is is' sound placed = record {
   by = λ old new known p' run. ⊎_elim
       (λ ready. (values_followed x names width width' w rule placing before after exit is is' sound placed).by old new ready p' run)
-      (λ fails. inr fails)
+      (λ undefined. inr undefined)
       (known_ready (setting x names width) (setting x names width') w rule placing is before old new placed.old_shown known);
 }

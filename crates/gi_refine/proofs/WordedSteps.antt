@@ -5,7 +5,7 @@ use Rattle.gi_mir.specs.declared.operand.Operand.{Operand}
 use Rattle.gi_mir.specs.declared.operand.Operand.TheVariants as operand
 use Rattle.gi_mir.specs.declared.opcode.Opcode.{Opcode}
 use Rattle.gi_meaning.specs.Argument.{Argument}
-use Rattle.gi_meaning.specs.State.{World, IsWorld, State, outside_of, Fails, Place, Virtual, Physical}
+use Rattle.gi_meaning.specs.State.{World, IsWorld, State, outside_of, Undefined, Place, Virtual, Physical}
 use Rattle.gi_meaning.specs.Meaning.{Meaning, Copying, Jumping, Calling, Returning, Nothing, meaning_of}
 use Rattle.gi_meaning.specs.Act.{Act, is_result_register}
 use Rattle.gi_meaning.specs.Runs.{Setting, arguments_of, places_of, result_places, written_places, width_of_place, Progress, On, Left, Over, progress_of, StepsFrom, Steps}
@@ -145,6 +145,6 @@ words_followed x wide names width width' w is_world hidden i j kept is_word word
       (subst (λ os. StepsFrom t w i.1 new (arguments_of t w new os) p') (same_uses i.1.operands) (kept_step (λ r. r) t w new i.1 j.1 p' kept step)) in
       ⊎_elim
       (λ stood. inl (stood.0, alone s w i old stood.0 stood.1, stands_in_words s t hidden (all_shown hidden ps) stood.0 p' sized stood.2))
-      (λ fails. inr (alone s w i old (Over Fails) fails))
+      (λ undefined. inr (alone s w i old (Over Undefined) undefined))
       (worded_step x wide names width width' w is_world hidden i.1 j.1 kept is_word worded old new agree p' step (has_virtual i.1.operands) refl);
 }

@@ -6,7 +6,7 @@ use Rattle.gi_meaning.specs.Argument.{Argument, Value, To}
 use Rattle.gi_meaning.specs.Given.{Given}
 use Rattle.gi_meaning.specs.State.{World, Outside, AreBytes, Place}
 use Rattle.gi_meaning.specs.Meaning.{Meaning, Copying, Generic, Machine, Loading, Storing, MachineLoading, MachineStoring, Jumping, Branching, MachineBranching, Calling, Returning, Nothing, Joining, meaning_of}
-use Rattle.gi_meaning.specs.Act.{Answer, Results, Leaves, Returns, Asks, Breaks, AnswersWords, AllReadAs, machine_load, machine_branch, Act}
+use Rattle.gi_meaning.specs.Act.{Answer, Results, Leaves, Returns, Asks, Undefined, AnswersWords, AllReadAs, machine_load, machine_branch, Act}
 use Rattle.gi_meaning.specs.Runs.{Setting, width_of_place}
 use Rattle.gi_refine.specs.Agreement.{setting}
 use Rattle.gi_refine.specs.Worded.{is_worded}
@@ -33,7 +33,7 @@ same_answer s t ps (Results results outside) none =
 same_answer s t ps (Leaves c) none = refl
 same_answer s t ps (Returns words) none = refl
 same_answer s t ps (Asks callee words) none = refl
-same_answer s t ps Breaks none = refl
+same_answer s t ps Undefined none = refl
 
 branch_no_results : (x : ℕ) (test : ℕ → ℕ → ℕ → Bool) (arguments : List Argument) (outside : Outside) → HasNoResults (machine_branch x test arguments outside)
 branch_no_results x test (Value l v ∷ Value m u ∷ To b ∷ []) outside = either (test x v u)

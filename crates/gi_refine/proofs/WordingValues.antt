@@ -11,11 +11,13 @@ use Rattle.gi_mir.specs.declared.operand.MemOp.{MemOp}
 use Rattle.gi_mir.specs.declared.operand.Operand.{Operand}
 use Rattle.gi_mir.specs.declared.operand.Operand.TheVariants as operand
 use Rattle.gi_meaning.specs.Argument.{Argument, Value, Implicit, Number}
-use Rattle.gi_meaning.specs.Given.{Given, Exactly, LowBits, Undefined, IsGiven, one, free}
+use Rattle.gi_meaning.specs.Given.{Given, Exactly, LowBits, IsGiven, one, free}
+use Rattle.gi_meaning.specs.Given as a_given
 use Rattle.gi_meaning.specs.Generic.{nullary}
 use Rattle.gi_meaning.specs.State.{World, IsWorld, State, Outside, AreWords, Place, Virtual, Physical, word_in}
 use Rattle.gi_meaning.specs.Meaning.{Meaning}
-use Rattle.gi_meaning.specs.Act.{Answer, Results, Breaks, Answers, AnswersWords, fitted, all_fitted, ReadsAs, AllReadAs, copied, copy, Act}
+use Rattle.gi_meaning.specs.Act.{Answer, Results, Answers, AnswersWords, fitted, all_fitted, ReadsAs, AllReadAs, copied, copy, Act}
+use Rattle.gi_meaning.specs.Act as an_answer
 use Rattle.gi_meaning.specs.Runs.{Setting, argument_of, arguments_of, joined_lists, width_of_place}
 use Rattle.gi_refine.specs.Agreement.{setting, StandsFor, ValueStands, Agree}
 use Rattle.gi_refine.specs.Worded.{AreWorded, IsSized}
@@ -200,7 +202,7 @@ ActsWorded x names width width' w m mem ps olds outside answer' =
 pub words_answered : (x : ℕ) (names : List (List ℕ)) (width width' : ℕ → ℕ) (ps : List Place) → PlacesWorded (setting x names width) (setting x names width') ps → (g : Given) → GivesWords x g → (outside : Outside) (answer' : Answer)
     → AnswersWords x (map (width_of_place (setting x names width')) ps) g outside answer'
     → (answer : Answer) × AnswersWords x (map (width_of_place (setting x names width)) ps) g outside answer × AnswerStands (setting x names width) (setting x names width') ps answer answer'
-words_answered x names width width' ps worded Undefined gives outside answer' h = (Breaks, refl, h)
+words_answered x names width width' ps worded a_given.Undefined gives outside answer' h = (an_answer.Undefined, refl, h)
 words_answered x names width width' ps worded (Exactly vs) gives outside answer' h = (
   Results (all_fitted x (map (width_of_place (setting x names width)) ps) h.0) outside,
   (h.0, h.1, refl),
@@ -215,7 +217,7 @@ words_answered x names width width' ps worded (LowBits known n v) gives outside 
 -- ══ Copies and free words ══
 
 given_answers : (g : Given) (results : List ℕ) (outside : Outside) → IsGiven g results → Answers g outside (Results results outside)
-given_answers Undefined results outside is = absurd is
+given_answers a_given.Undefined results outside is = absurd is
 given_answers (Exactly vs) results outside is = (results, is, refl)
 given_answers (LowBits known n v) results outside is = (results, is, refl)
 
@@ -323,31 +325,31 @@ one_copied x names width width' p worded m v u stands small outside answer' act 
 pub copy_worded : (x : ℕ) (names : List (List ℕ)) (width width' : ℕ → ℕ) (ps : List Place) → PlacesWorded (setting x names width) (setting x names width') ps → (olds news : List Argument) → AllArgumentsWorded x olds news
     → (outside : Outside) (answer' : Answer) → Answers (copy (map (width_of_place (setting x names width')) ps) news) outside answer'
     → (answer : Answer) × Answers (copy (map (width_of_place (setting x names width)) ps) olds) outside answer × AnswerStands (setting x names width) (setting x names width') ps answer answer'
-copy_worded x names width width' [] worded olds news args outside answer' act = (Breaks, refl, act)
-copy_worded x names width width' (p ∷ q ∷ ps) worded olds news args outside answer' act = (Breaks, refl, act)
-copy_worded x names width width' (p ∷ []) worded [] [] args outside answer' act = (Breaks, refl, act)
+copy_worded x names width width' [] worded olds news args outside answer' act = (an_answer.Undefined, refl, act)
+copy_worded x names width width' (p ∷ q ∷ ps) worded olds news args outside answer' act = (an_answer.Undefined, refl, act)
+copy_worded x names width width' (p ∷ []) worded [] [] args outside answer' act = (an_answer.Undefined, refl, act)
 copy_worded x names width width' (p ∷ []) worded [] (b ∷ news) args outside answer' act = absurd args
 copy_worded x names width width' (p ∷ []) worded (a ∷ olds) [] args outside answer' act = absurd args
 copy_worded x names width width' (p ∷ []) worded (Value m v ∷ []) (b ∷ []) args outside answer' act =
     one_copied x names width width' p worded m v args.0.0 args.0.1 args.0.2 outside answer'
     (subst (λ k. Answers (copy (width_of_place (setting x names width') p ∷ []) (k ∷ [])) outside answer') args.0.3 act)
 copy_worded x names width width' (p ∷ []) worded (Value m v ∷ a ∷ olds) (b ∷ c ∷ news) args outside answer' act =
-    (Breaks, refl, subst (λ k. Answers (copy (width_of_place (setting x names width') p ∷ []) (k ∷ c ∷ news)) outside answer') args.0.3 act)
+    (an_answer.Undefined, refl, subst (λ k. Answers (copy (width_of_place (setting x names width') p ∷ []) (k ∷ c ∷ news)) outside answer') args.0.3 act)
 copy_worded x names width width' (p ∷ []) worded (Value m v ∷ a ∷ olds) (b ∷ []) args outside answer' act = absurd args.1
 copy_worded x names width width' (p ∷ []) worded (Value m v ∷ []) (b ∷ c ∷ news) args outside answer' act = absurd args.1
 copy_worded x names width width' (p ∷ []) worded (Number z ∷ olds) (b ∷ news) args outside answer' act =
-    (Breaks, refl, subst (λ k. Answers (copy (width_of_place (setting x names width') p ∷ []) (k ∷ news)) outside answer') args.0 act)
+    (an_answer.Undefined, refl, subst (λ k. Answers (copy (width_of_place (setting x names width') p ∷ []) (k ∷ news)) outside answer') args.0 act)
 copy_worded x names width width' (p ∷ []) worded (a ∷ olds) (b ∷ news) args outside answer' act =
-    (Breaks, refl, subst (λ k. Answers (copy (width_of_place (setting x names width') p ∷ []) (k ∷ news)) outside answer') args.0 act)
+    (an_answer.Undefined, refl, subst (λ k. Answers (copy (width_of_place (setting x names width') p ∷ []) (k ∷ news)) outside answer') args.0 act)
 
 pub free_worded : (x : ℕ) (names : List (List ℕ)) (width width' : ℕ → ℕ) (ps : List Place) → PlacesWorded (setting x names width) (setting x names width') ps → (olds news : List Argument) → AllArgumentsWorded x olds news
     → (outside : Outside) (answer' : Answer) → Answers (nullary free (map (width_of_place (setting x names width')) ps) news) outside answer'
     → (answer : Answer) × Answers (nullary free (map (width_of_place (setting x names width)) ps) olds) outside answer × AnswerStands (setting x names width) (setting x names width') ps answer answer'
-free_worded x names width width' [] worded olds news args outside answer' act = (Breaks, refl, act)
-free_worded x names width width' (p ∷ q ∷ ps) worded olds news args outside answer' act = (Breaks, refl, act)
+free_worded x names width width' [] worded olds news args outside answer' act = (an_answer.Undefined, refl, act)
+free_worded x names width width' (p ∷ q ∷ ps) worded olds news args outside answer' act = (an_answer.Undefined, refl, act)
 free_worded x names width width' (p ∷ []) worded [] (b ∷ news) args outside answer' act = absurd args
 free_worded x names width width' (p ∷ []) worded (a ∷ olds) [] args outside answer' act = absurd args
-free_worded x names width width' (p ∷ []) worded (a ∷ olds) (b ∷ news) args outside answer' act = (Breaks, refl, act)
+free_worded x names width width' (p ∷ []) worded (a ∷ olds) (b ∷ news) args outside answer' act = (an_answer.Undefined, refl, act)
 free_worded x names width width' (p ∷ []) worded [] [] args outside answer' act =
     let n : ℕ = width_of_place (setting x names width) p in
     let within : n ≤ x = place_within x names width width' p worded in

@@ -5,12 +5,15 @@ use Rattle.gi_llt.specs.Llt.{width_of}
 use Rattle.gi_mir.specs.Data.{InstrData, BlockData, FunctionData}
 use Rattle.gi_mir.specs.declared.operand.MemOp.{MemOp}
 use Rattle.gi_meaning.specs.Argument.{Argument, Value, Number}
-use Rattle.gi_meaning.specs.Given.{Given, Exactly, LowBits, Undefined}
+use Rattle.gi_meaning.specs.Given.{Given, Exactly, LowBits}
+use Rattle.gi_meaning.specs.Given as a_given
 use Rattle.gi_meaning.specs.Machine.{is_immediate}
 use Rattle.gi_meaning.specs.Memory.{loaded, stored, is_aligned}
-use Rattle.gi_meaning.specs.State.{World, State, Outside, outside_of, start, Outcome, Going, Fails}
+use Rattle.gi_meaning.specs.State.{World, State, Outside, outside_of, start, Outcome, Going}
+use Rattle.gi_meaning.specs.State as an_outcome
 use Rattle.gi_meaning.specs.Meaning.{Meaning, Copying, Generic, Machine, Loading, Storing, MachineLoading, MachineStoring, Jumping, Branching, MachineBranching, Returning, Nothing, Joining, meaning_of}
-use Rattle.gi_meaning.specs.Act.{Answer, Results, Returns, Breaks, all_fitted, alignment, copy, generic_load, machine_load, jump, branch, machine_branch, returned}
+use Rattle.gi_meaning.specs.Act.{Answer, Results, Returns, all_fitted, alignment, copy, generic_load, machine_load, jump, branch, machine_branch, returned}
+use Rattle.gi_meaning.specs.Act as an_answer
 use Rattle.gi_meaning.specs.Runs.{Setting, setting_of, arguments_of, written_places, width_of_place, progress_of, Progress, On, Left, Over, phis_of, after_phis, joined, is_among}
 
 -- ══ Answers ══
@@ -19,13 +22,13 @@ use Rattle.gi_meaning.specs.Runs.{Setting, setting_of, arguments_of, written_pla
 abbrev pub exact : Given → Outside → Option Answer
 exact (Exactly results) outside = Some (Results results outside)
 exact (LowBits known width value) outside = None
-exact Undefined outside = Some Breaks
+exact a_given.Undefined outside = Some an_answer.Undefined
 
 -- the same of an instruction on words, whose results fit their places
 abbrev pub exact_words : (x : ℕ) → (widths : List ℕ) → Given → Outside → Option Answer
 exact_words x widths (Exactly words) outside = Some (Results (all_fitted x widths words) outside)
 exact_words x widths (LowBits known width value) outside = None
-exact_words x widths Undefined outside = Some Breaks
+exact_words x widths a_given.Undefined outside = Some an_answer.Undefined
 
 -- whether each register that is read has a word's bits, so that it is read as it is
 abbrev pub are_whole : (x : ℕ) → List Argument → Bool
@@ -35,23 +38,23 @@ are_whole x (_ ∷ arguments) = are_whole x arguments
 
 -- the answer to a store, where the bytes at the address were these, and in all
 abbrev pub store_there : Option ℕ → (x bytes address value : ℕ) → Outside → Answer
-store_there None x bytes address value outside = Breaks
+store_there None x bytes address value outside = an_answer.Undefined
 store_there (Some old) x bytes address value outside = Results [] (record outside { memory = stored x bytes outside.memory address value })
 
 abbrev pub store_at : (x align bytes address value : ℕ) → Outside → Answer
 store_at x align bytes address value outside =
-    cond (is_aligned align address) (store_there (loaded x bytes outside.memory address) x bytes address value outside) Breaks
+    cond (is_aligned align address) (store_there (loaded x bytes outside.memory address) x bytes address value outside) an_answer.Undefined
 
 abbrev pub generic_store : (x : ℕ) → Option MemOp → List Argument → Outside → Answer
 generic_store x (Some mem) (Value n value ∷ Value l address ∷ []) outside =
-    cond mem.load Breaks (store_at x (alignment x mem) (width_of x mem.ty / 8) address value outside)
-generic_store x _ _ outside = Breaks
+    cond mem.load an_answer.Undefined (store_at x (alignment x mem) (width_of x mem.ty / 8) address value outside)
+generic_store x _ _ outside = an_answer.Undefined
 
 -- by a base and an offset
 abbrev pub machine_store : (x : ℕ) → (ℕ → Bool) → (bytes : ℕ) → List Argument → Outside → Answer
 machine_store x exists bytes (Value n value ∷ Value l base ∷ Number offset ∷ []) outside =
-    cond (exists x && is_immediate offset) (store_at x bytes bytes (wrapped x (base + unsigned x offset)) value outside) Breaks
-machine_store x exists bytes _ outside = Breaks
+    cond (exists x && is_immediate offset) (store_at x bytes bytes (wrapped x (base + unsigned x offset)) value outside) an_answer.Undefined
+machine_store x exists bytes _ outside = an_answer.Undefined
 
 -- by the meaning of an instruction; one on words that reads fewer bits has no one answer
 abbrev pub answered : (x : ℕ) → Meaning → Option MemOp → (widths : List ℕ) → List Argument → Outside → Option Answer
@@ -68,7 +71,7 @@ answered x Branching mem widths arguments outside = Some (branch arguments outsi
 answered x (MachineBranching test) mem widths arguments outside = cond (are_whole x arguments) (Some (machine_branch x test arguments outside)) None
 answered x Returning mem widths arguments outside = Some (Returns (returned arguments))
 answered x Nothing mem widths arguments outside = Some (Results [] outside)
-answered x Joining mem widths arguments outside = Some Breaks
+answered x Joining mem widths arguments outside = Some an_answer.Undefined
 answered x _ mem widths arguments outside = None
 
 -- ══ Instructions ══
@@ -78,9 +81,9 @@ abbrev pub progress_by : State → Setting → InstrData → Option Answer → O
 progress_by state s i None = None
 progress_by state s i (Some answer) = Some (progress_of state (written_places (meaning_of i.flags i.op) i.operands) answer)
 
--- from the arguments that are read; without a value for each register the run fails
+-- from the arguments that are read; without a value for each register the run is undefined
 abbrev pub step_from : Setting → InstrData → State → Option (List Argument) → Option Progress
-step_from s i state None = Some (Over Fails)
+step_from s i state None = Some (Over an_outcome.Undefined)
 step_from s i state (Some arguments) =
     progress_by state s i (answered s.x (meaning_of i.flags i.op) i.mem (map (width_of_place s) (written_places (meaning_of i.flags i.op) i.operands)) arguments (outside_of state))
 
@@ -103,16 +106,16 @@ steps_of s w (i ∷ is) state = then_on (step_of s w i.1 state) (steps_of s w is
 -- what comes of a block's progress, by what comes of entries of other blocks
 abbrev pub followed_by : (b : ℕ) → (successors : List ℕ) → (enters : Option ℕ → ℕ → State → Option Outcome) → Option Progress → Option Outcome
 followed_by b successors enters None = None
-followed_by b successors enters (Some (On state)) = cond (is_among (b + 1) successors) (enters (Some b) (b + 1) state) (Some Fails)
+followed_by b successors enters (Some (On state)) = cond (is_among (b + 1) successors) (enters (Some b) (b + 1) state) (Some an_outcome.Undefined)
 followed_by b successors enters (Some (Left c state)) = enters (Some b) c state
 followed_by b successors enters (Some (Over outcome)) = Some outcome
 
 abbrev pub after_phis_of : Setting → World → (b : ℕ) → BlockData → (enters : Option ℕ → ℕ → State → Option Outcome) → Option State → Option Outcome
-after_phis_of s w b block enters None = Some Fails
+after_phis_of s w b block enters None = Some an_outcome.Undefined
 after_phis_of s w b block enters (Some state) = followed_by b block.successors enters (steps_of s w (after_phis block.instrs) state)
 
 abbrev pub block_of_run : Setting → World → (enters : Option ℕ → ℕ → State → Option Outcome) → Option BlockData → (from : Option ℕ) → (b : ℕ) → State → Option Outcome
-block_of_run s w enters None from b state = Some Fails
+block_of_run s w enters None from b state = Some an_outcome.Undefined
 block_of_run s w enters (Some block) from b state = after_phis_of s w b block enters (joined state from (phis_of block.instrs))
 
 -- entries of blocks, as many as are left

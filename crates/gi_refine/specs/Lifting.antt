@@ -182,7 +182,7 @@ AreThere slots values place [] = Unit {0}
 AreThere slots values place (r ∷ rs) = (takes place slots ≡ false → HasValue (values r)) × AreThere slots values (suc place) rs
 
 -- Whatever values the inputs have in the state, they fit their widths and the facts hold of them. An input that the
--- first old operation takes may have none, since then the old instructions fail.
+-- first old operation takes may have none, since then the old instructions are undefined.
 pub record IsKnown (s : Setting) (w : World) (rule : Rule) (registers : List ℕ) (state : State) : Type 0 where
   pub there : AreThere (first_slots rule.old) state.values 0 registers
   pub sized : (env : Environment) → Reads s.width state.values registers env → AreSized env

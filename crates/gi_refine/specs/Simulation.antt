@@ -2,7 +2,7 @@
 -- What may differ is a relation of its own at each point, so it may vary from point to point.
 use Rattle.std.specs.Prelude.{◌≡◌, ℕ, ◌+◌, true, List, Option, Some, None, ◌⊎◌, slice_get}
 use Rattle.gi_mir.specs.Data.{InstrData, BlockData}
-use Rattle.gi_meaning.specs.State.{World, State, Fails}
+use Rattle.gi_meaning.specs.State.{World, State, Undefined}
 use Rattle.gi_meaning.specs.Runs.{Setting, Progress, On, Left, Over, Executes, phis_of, after_phis, joined, is_among}
 
 -- How far the old run has come stands for how far the new one has: in related states where both go on, in
@@ -13,12 +13,12 @@ Stands after exit (Left b old) (Left c new) = (b ≡ c) × exit c old new
 Stands after exit (Over old) (Over new) = old ≡ new
 Stands after exit _ _ = ⊥
 
--- What the new instructions do from a state, the old do from each state that stands for it, or they fail.
+-- What the new instructions do from a state, the old do from each state that stands for it, or they are undefined.
 pub record IsFollowed (s s' : Setting) (w : World) (before after : State → State → Type 0) (exit : ℕ → State → State → Type 0) (old new : List (ℕ × InstrData)) : Type 0 where
   pub by : (state state' : State) → before state state' → (p' : Progress) → Executes s' w new state' p'
-      → ((p : Progress) × Executes s w old state p × Stands after exit p p') ⊎ Executes s w old state (Over Fails)
+      → ((p : Progress) × Executes s w old state p × Stands after exit p p') ⊎ Executes s w old state (Over Undefined)
 
--- the states after the phis; where the old phis have no values, the old run fails
+-- the states after the phis; where the old phis have no values, the old run is undefined
 abbrev pub PhisStand : (middle : State → State → Type 0) → (old new : Option State) → Type 0
 PhisStand middle None new = Unit {0}
 PhisStand middle (Some old) None = ⊥
@@ -37,7 +37,7 @@ pub record IsBlockFollowed (s s' : Setting) (w : World) (entry : Option ℕ → 
 -- A block runs from a state at its entry, by the block that was left: its phis give a state, from which its other
 -- instructions run.
 abbrev pub RunsFrom : Setting → World → BlockData → (middle : Option State) → Progress → Type 0
-RunsFrom s w block None progress = progress ≡ Over Fails
+RunsFrom s w block None progress = progress ≡ Over Undefined
 RunsFrom s w block (Some middle) progress = Executes s w (after_phis block.instrs) middle progress
 
 abbrev pub RunsThrough : Setting → World → BlockData → (from : Option ℕ) → State → Progress → Type 0

@@ -8,7 +8,7 @@ use Rattle.gi_mir.specs.declared.operand.MemOp.{MemOp}
 use Rattle.gi_meaning.specs.Argument.{Argument, Value}
 use Rattle.gi_meaning.specs.State.{World, Outside, AreBytes}
 use Rattle.gi_meaning.specs.Meaning.{Meaning, Copying, Generic, Machine, Loading, MachineLoading, meaning_of}
-use Rattle.gi_meaning.specs.Act.{Answer, Results, Breaks, Act}
+use Rattle.gi_meaning.specs.Act.{Answer, Results, Undefined, Act}
 use Rattle.gi_meaning.specs.Runs.{joined_lists}
 
 -- ══ Operations ══
@@ -56,7 +56,7 @@ arguments_at env (slot ∷ slots) = joined_lists (argument_at env slot) (argumen
 
 -- an answer of the operation; one that takes a place that isn't there is undefined
 abbrev pub ActsFrom : (x : ℕ) → World → Operation → Outside → Option (List Argument) → Answer → Type 0
-ActsFrom x w o outside None answer = answer ≡ Breaks
+ActsFrom x w o outside None answer = answer ≡ Undefined
 ActsFrom x w o outside (Some arguments) answer = Act x w (meaning_of o.flags o.op) o.mem o.widths arguments outside answer
 
 abbrev pub Acts : (x : ℕ) → World → Operation → Outside → Environment → Answer → Type 0

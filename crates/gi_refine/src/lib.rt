@@ -9,7 +9,7 @@ mod words;
 
 pub use fitting::{constants_hold, tested_rules_are_used, values_fit};
 pub use laws::{
-    block_follows, may_fail_is_failing, pieces_follow, refinement_in_rows_is_allowed,
+    block_follows, may_be_undefined_is_undefined, pieces_follow, refinement_in_rows_is_allowed,
     refinement_is_reflexive, refinement_is_transitive, same_instruction_follows, whole_runs_follow,
 };
 pub use rewriting::{

@@ -15,7 +15,7 @@ ghost use Rattle.gi_refine.specs.Values.{IsCertain, IsSound, Rule};
 
 /// A rule that is sound on values lifts to instructions that show its operations on registers: from states that
 /// agree, where the old one has values of which the facts of the rule hold, what the new instructions do, the old
-/// do too, or they fail; and then the states agree but for what is hidden after.
+/// do too, or are undefined; and then the states agree but for what is hidden after.
 pub fn values_follow()
     ensures { (x : ℕ) (names : List (List ℕ)) (old new : ℕ → ℕ) (world : World) (rule : Rule) (placing : Placing)
         (before after : Place → Bool) (out : ℕ → Place → Bool) (a b : List (ℕ × InstrData))
@@ -27,7 +27,7 @@ pub fn values_follow()
         (AgreeAt (setting x names old) (setting x names new) out) a b }
 {}
 
-/// The same where the inputs that the first old instruction takes may have no value: then it fails.
+/// The same where the inputs that the first old instruction takes may have no value: then it is undefined.
 pub fn known_values_follow()
     ensures { (x : ℕ) (names : List (List ℕ)) (old new : ℕ → ℕ) (world : World) (rule : Rule) (placing : Placing)
         (before after : Place → Bool) (out : ℕ → Place → Bool) (a b : List (ℕ × InstrData))

@@ -7,7 +7,7 @@ ghost use Rattle.gi_meaning.specs.Runs.{setting_of, written_places};
 ghost use Rattle.gi_meaning.specs.State.{World, IsWorld, Place};
 ghost use Rattle.gi_refine.specs.Agreement.{all_shown, setting};
 ghost use Rattle.gi_refine.specs.Kept.{IsKept};
-ghost use Rattle.gi_refine.specs.Refinement.{IsRefinement};
+ghost use Rattle.gi_refine.specs.Refinement.{RefinesUnchecked};
 ghost use Rattle.gi_refine.specs.Simulation.{IsFollowed};
 ghost use Rattle.gi_refine.specs.Worded.{AgreeInWords, AreBlocksWorded, AreWorded, classed, is_worded};
 
@@ -25,5 +25,5 @@ pub fn words_follow()
 /// A function each of whose instructions is of words, and none of whose registers is of more bits than a word, may have
 /// class `gpr` at each definition.
 pub fn classed_function_refines()
-    ensures { (x : ℕ) (names : List (List ℕ)) (f : FunctionData) → 32 ≤ x → AreBlocksWorded (setting_of x names f) f.blocks → IsRefinement x names f (classed f) }
+    ensures { (x : ℕ) (names : List (List ℕ)) (f : FunctionData) → 32 ≤ x → AreBlocksWorded (setting_of x names f) f.blocks → RefinesUnchecked x names f (classed f) }
 {}

@@ -8,7 +8,7 @@ use mathlib.Core.Path.{fun_ext}
 use Rattle.gi_meaning.specs.Act.{Results, LeavesFree, clobbered, result_words}
 use Rattle.gi_meaning.specs.Generic.{parts_of}
 use Rattle.gi_meaning.specs.Meaning.{meaning_of}
-use Rattle.gi_meaning.specs.State.{World, State, outside_of, Fails, Place, Virtual, Physical, word_in, put}
+use Rattle.gi_meaning.specs.State.{World, State, outside_of, Undefined, Place, Virtual, Physical, word_in, put}
 use Rattle.gi_meaning.specs.Runs.{Setting, setting_of, written_places, put_all, going_on, progress_of, Progress, On, Over, Steps, After, Executes}
 use Rattle.gi_refine.specs.Agreement.{ValueStands, Agree, AgreeAt, all_shown, shown}
 use Rattle.gi_refine_cases.specs.CallTrial.{call_hides, joins, parts, product, routine_call, passing, taking, called, return_both, multiplies, multiplies_by_call}
@@ -17,7 +17,7 @@ use Rattle.gi_refine.specs.Examples.{names, s32, copy_in, copy_out}
 use Rattle.gi_refine.specs.OnePlace.{only_virtual}
 use Rattle.gi_refine.specs.Simulation.{Stands}
 use Rattle.gi_refine.specs.Kept.{reused, HasSameValue, AreSeenAs}
-use Rattle.gi_refine.specs.Refinement.{IsRefinement}
+use Rattle.gi_refine.specs.Refinement.{RefinesUnchecked}
 use Rattle.gi_refine.specs.Rewriting.{Kept, Changed, Covers, is_target, Stays, RewrittenAt}
 use Rattle.gi_refine.proofs.Agreeing.{same_value, alike_stands, put_agree}
 use Rattle.gi_refine.proofs.Evaluating.{steps_so}
@@ -165,11 +165,11 @@ none_is_hidden (Physical n) = refl
 
 multiplied : (w : World) (old new : State) (first second : Option ℕ) → old.values 4 ≡ first → old.values 5 ≡ second → Agree old_setting new_setting no_hidden old new → (exit : ℕ → State → State → Type 0)
     → (p' : Progress) → Executes new_setting w called new p'
-    → ((p : Progress) × Executes old_setting w (product ∷ []) old p × Stands (Agree old_setting new_setting call_hides) exit p p') ⊎ Executes old_setting w (product ∷ []) old (Over Fails)
+    → ((p : Progress) × Executes old_setting w (product ∷ []) old p × Stands (Agree old_setting new_setting call_hides) exit p p') ⊎ Executes old_setting w (product ∷ []) old (Over Undefined)
 multiplied w old new None second is is' agree exit p' run =
-    inr ((steps_so old_setting w (product ∷ []) old (Over Fails) (ap (steps_of old_setting w (product ∷ [])) (is_known old None second is is'))).can)
+    inr ((steps_so old_setting w (product ∷ []) old (Over Undefined) (ap (steps_of old_setting w (product ∷ [])) (is_known old None second is is'))).can)
 multiplied w old new (Some a) None is is' agree exit p' run =
-    inr ((steps_so old_setting w (product ∷ []) old (Over Fails) (ap (steps_of old_setting w (product ∷ [])) (is_known old (Some a) None is is'))).can)
+    inr ((steps_so old_setting w (product ∷ []) old (Over Undefined) (ap (steps_of old_setting w (product ∷ [])) (is_known old (Some a) None is is'))).can)
 multiplied w old new (Some a) (Some b) is is' agree exit p' run =
     let v : ℕ = (a * b) % 2 ^ 64 in
     let come : Progress = On (put (known (Some a) (Some b) old) (Virtual 6) v) in
@@ -214,5 +214,5 @@ places_rewritten zero = record {
 }
 places_rewritten (suc b) = tt
 
-pub product_called : IsRefinement 32 names multiplies multiplies_by_call
+pub product_called : RefinesUnchecked 32 names multiplies multiplies_by_call
 product_called = rewriting_refines 32 names multiplies multiplies_by_call (record { entries = λ c. no_hidden; rename = λ r. r; places = places_rewritten })

@@ -1,7 +1,7 @@
 -- Cases of rewriting one place in each of which one premise is broken and all others hold.
 use Rattle.std.proofs.Common.{◌≡◌, ℕ, zero, suc, [], ◌∷◌, slice_get, refl, ap, lit<}
 use Rattle.std.proofs.lemmas.Bool.{false≢true, eqb-false}
-use Rattle.gi_meaning.specs.State.{Returned, word_in, Fails}
+use Rattle.gi_meaning.specs.State.{Returned, word_in, Undefined}
 use Rattle.gi_meaning.specs.Runs.{setting_of}
 use Rattle.gi_refine.specs.Examples.{block_of, s32, copy_in, copy_out, names, counting, function_of, s16}
 use Rattle.gi_refine_cases.specs.Idle.{Successors, SameInstructions, NothingHidden, SameWidths, SameValues, Others, Follows, IsNotIdle}
@@ -212,7 +212,7 @@ successors_not_idle = record {
     others = successors_others;
     follows = unchanged goes_on stays_there 0 (copy_in 0 10 s32 ∷ []) nothing;
   };
-  refuted = refutes 32 names goes_on stays_there (world 1 2) (is_world_of 1 2 (lit< tt) (lit< tt)) 4 (Returned (1 ∷ []) counting 0) Fails refl refl (λ e. false≢true (ap is_return e)) (λ e. false≢true (ap is_return e));
+  refuted = refutes 32 names goes_on stays_there (world 1 2) (is_world_of 1 2 (lit< tt) (lit< tt)) 4 (Returned (1 ∷ []) counting 0) Undefined refl refl (λ e. false≢true (ap is_return e)) (λ e. false≢true (ap is_return e));
 }
 
 -- ══ Another block has changed ══

@@ -5,7 +5,7 @@ use Rattle.gi_mir.specs.Data.{InstrData, BlockData, FunctionData}
 use Rattle.gi_mir.specs.declared.opcode.Opcode.TheVariants as op
 use Rattle.gi_mir.specs.declared.operand.Operand.TheVariants as operand
 use Rattle.gi_meaning.specs.Meaning.{meaning_of}
-use Rattle.gi_meaning.specs.State.{World, State, Returned, Fails, Place, Virtual, Physical, put, word_in}
+use Rattle.gi_meaning.specs.State.{World, State, Returned, Undefined, Place, Virtual, Physical, put, word_in}
 use Rattle.gi_meaning.specs.Runs.{Setting, setting_of, written_places, On}
 use Rattle.gi_refine.specs.Agreement.{Agree, AgreeAt}
 use Rattle.gi_refine.specs.Evaluation.{steps_of}
@@ -356,7 +356,7 @@ successors_not_idle = record {
   old = goes_on;
   new = stays_there;
   owes = record { entries = (λ b. all_seen); rename = (λ r. r); places = successors_places };
-  refuted = refutes 32 names goes_on stays_there (world 1 2) (is_world_of 1 2 (lit< tt) (lit< tt)) 4 (Returned (1 ∷ []) counting 0) Fails refl refl (λ e. false≢true (ap is_return e)) (λ e. false≢true (ap is_return e));
+  refuted = refutes 32 names goes_on stays_there (world 1 2) (is_world_of 1 2 (lit< tt) (lit< tt)) 4 (Returned (1 ∷ []) counting 0) Undefined refl refl (λ e. false≢true (ap is_return e)) (λ e. false≢true (ap is_return e));
 }
 
 pub no_piece_idle : (dropped : PiecePremise) → IsPieceNotIdle dropped

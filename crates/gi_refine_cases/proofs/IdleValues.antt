@@ -14,7 +14,7 @@ use Rattle.std.proofs.Common.{◌≡◌, ℕ, ◌==◌, Bool, true, false, List,
 use Rattle.gi_mir.specs.Data.{InstrData, no_flags}
 use Rattle.gi_mir.specs.declared.opcode.Opcode.TheVariants as op
 use Rattle.gi_meaning.specs.Argument.{Value, Bits}
-use Rattle.gi_meaning.specs.State.{World, State, Outside, outside_of, Fails, Place, Virtual, put, Physical}
+use Rattle.gi_meaning.specs.State.{World, State, Outside, outside_of, Undefined, Place, Virtual, put, Physical}
 use Rattle.gi_meaning.specs.Act.{Results}
 use Rattle.gi_meaning.specs.Runs.{Setting, On, Over, Progress, Executes, joined_lists}
 use Rattle.gi_refine.specs.Agreement.{Agree, ValueStands, AgreeAt}
@@ -33,7 +33,7 @@ pub refuted : (s t : Setting) (w : World) (before after : State → State → Ty
 refuted s t w before after exit old new state state' final final' related does does' apart followed =
     ⊎_elim
     (λ stood. apart (subst (λ p. Stands after exit p (On final')) (does.only stood.0 stood.1) stood.2))
-    (λ fails. let no : Over Fails ≡ On final = does.only (Over Fails) fails in cc)
+    (λ undefined. let no : Over Undefined ≡ On final = does.only (Over Undefined) undefined in cc)
     (followed.by state state' related (On final') does'.can)
 
 -- a register that isn't hidden and has two values
@@ -423,7 +423,7 @@ two_choices_fail followed =
     let left : (final : State) × (stood.0 ≡ On final) × (final.values 2 ≡ Some 0) = old_leaves state stood.0 stood.1 in
     two_values first_two 2 0 1 left.0 free_final refl left.2 refl (λ no. absurd (omega (arith, no)))
     (subst (λ p. Stands (Agree words_32 words_32 (only_virtual first_two)) (AgreeAt words_32 words_32 (λ b. only_virtual first_two)) p (On free_final)) left.1 stood.2))
-    (λ fails. let left : (final : State) × (Over Fails ≡ On final) × (final.values 2 ≡ Some 0) = old_leaves state (Over Fails) fails in over_not_on left.0 left.1)
+    (λ undefined. let left : (final : State) × (Over Undefined ≡ On final) × (final.values 2 ≡ Some 0) = old_leaves state (Over Undefined) undefined in over_not_on left.0 left.1)
     (followed.by state state (record { agree = agree_itself (only_virtual nothing) state; ready = record { env = []; read = tt; sized = tt; facts = tt } }) (On free_final) (
       On (put state (Virtual 0) 1),
       (Results (1 ∷ []) out, (1 ∷ [], (1, omega arith, refl, refl), refl), refl),
@@ -434,5 +434,5 @@ two_choices_fail followed =
       ),
     ))
   where
-    over_not_on : (final : State) → Over Fails ≡ On final → ⊥
+    over_not_on : (final : State) → Over Undefined ≡ On final → ⊥
     over_not_on final h = cc

@@ -6,8 +6,10 @@ use Rattle.gi_meaning.specs.Argument.{Value}
 use Rattle.gi_meaning.specs.Generic.{ones}
 use Rattle.gi_meaning.specs.Meaning.{Zeros}
 use Rattle.gi_meaning.specs.Memory.{Memory, with_byte, above, loaded, stored}
-use Rattle.gi_meaning.specs.State.{State, Outside, outside_of, Fails, Place, Virtual, Physical, put}
-use Rattle.gi_meaning.specs.Act.{Answer, Results, Breaks, Answers, StoresThere, Stores}
+use Rattle.gi_meaning.specs.State.{State, Outside, outside_of, Place, Virtual, Physical, put}
+use Rattle.gi_meaning.specs.State as an_outcome
+use Rattle.gi_meaning.specs.Act.{Answer, Results, Answers, StoresThere, Stores}
+use Rattle.gi_meaning.specs.Act as an_answer
 use Rattle.gi_meaning.specs.Runs.{On, Over}
 use Rattle.gi_refine.specs.Agreement.{Agree, AgreeAt}
 use Rattle.gi_refine.specs.Examples.{counting, s32, constant_in}
@@ -35,11 +37,11 @@ all_shown_before (Physical n) h = refl
 -- any address will do
 store_goes : (v a : ℕ) (outside : Outside) (answer : Answer) → Stores 32 1 1 a v outside answer → StoresThere (loaded 32 1 outside.memory a) 32 1 a v outside answer
 store_goes v a outside answer h =
-    subst (λ b. cond b (StoresThere (loaded 32 1 outside.memory a) 32 1 a v outside answer) (answer ≡ Breaks)) (aligned_to_one a) h
+    subst (λ b. cond b (StoresThere (loaded 32 1 outside.memory a) 32 1 a v outside answer) (answer ≡ an_answer.Undefined)) (aligned_to_one a) h
 
 store_may : (v a : ℕ) (outside : Outside) (answer : Answer) → StoresThere (loaded 32 1 outside.memory a) 32 1 a v outside answer → Stores 32 1 1 a v outside answer
 store_may v a outside answer h =
-    subst (λ b. cond b (StoresThere (loaded 32 1 outside.memory a) 32 1 a v outside answer) (answer ≡ Breaks)) (sym (aligned_to_one a)) h
+    subst (λ b. cond b (StoresThere (loaded 32 1 outside.memory a) 32 1 a v outside answer) (answer ≡ an_answer.Undefined)) (sym (aligned_to_one a)) h
 
 abbrev at_byte : Option ℕ → Option ℕ
 at_byte byte = with_byte byte (above (Some 0))
@@ -50,10 +52,10 @@ two_words v a = (32, v) ∷ (32, a) ∷ []
 abbrev after_store : (v a : ℕ) → Outside → Outside
 after_store v a outside = record outside { memory = stored 32 1 outside.memory a v }
 
--- a store against nothing: where the byte isn't there, the store fails
+-- a store against nothing: where the byte isn't there, the store is undefined
 dropped_by : (v a : ℕ) (outside : Outside) (byte : Option ℕ) → outside.memory (wrapped 32 a) ≡ byte → MayMake 32 quiet outside store_dropped (two_words v a) (Some (two_words v a))
 dropped_by v a outside None is =
-    inr (Breaks, store_may v a outside Breaks (subst (λ b. StoresThere (at_byte b) 32 1 a v outside Breaks) (sym is) refl), refl)
+    inr (an_answer.Undefined, store_may v a outside an_answer.Undefined (subst (λ b. StoresThere (at_byte b) 32 1 a v outside an_answer.Undefined) (sym is) refl), refl)
 dropped_by v a outside (Some byte) is =
     let answer : Answer = Results [] (after_store v a outside) in
     inl (two_words v a, (answer, store_may v a outside answer (subst (λ b. StoresThere (at_byte b) 32 1 a v outside answer) (sym is) refl), refl), tt)
@@ -64,12 +66,12 @@ store_dropped_sound = record {
       subst (MayMake 32 quiet outside store_dropped (two_words v a)) (sym makes) (dropped_by v a outside (outside.memory (wrapped 32 a)) refl);
 }
 
--- a store against a load: they fail alike
+-- a store against a load: they are undefined alike
 made_by : (v a : ℕ) (outside : Outside) (made : Option Environment) (byte : Option ℕ) → outside.memory (wrapped 32 a) ≡ byte → Makes 32 quiet outside store_made.new (two_words v a) made
     → MayMake 32 quiet outside store_made (two_words v a) made
 made_by v a outside made None is makes =
     undefined_may 32 quiet outside store_made (two_words v a) made
-    (Breaks, subst (λ g. Answers g outside Breaks) (sym (one_byte 32 32 Zeros outside.memory a None is)) refl, refl)
+    (an_answer.Undefined, subst (λ g. Answers g outside an_answer.Undefined) (sym (one_byte 32 32 Zeros outside.memory a None is)) refl, refl)
 made_by v a outside made (Some byte) is makes =
     let answers : makes.0 ≡ Results [] (after_store v a outside) =
     subst (λ b. StoresThere (at_byte b) 32 1 a v outside makes.0) is (store_goes v a outside makes.0 makes.1) in
@@ -333,11 +335,11 @@ pub unread_fails : IsFollowed words_32 words_32 quiet (AgreeUnread words_32 word
 unread_fails followed =
     let state : State = holding None None in
     ⊎_elim
-    (λ stood. subst (λ p. Stands (Agree words_32 words_32 (only_virtual (only 2))) (AgreeAt words_32 words_32 (λ b. only_virtual (only 2))) p (Over Fails)) stood.1 stood.2)
-    (λ fails. let no : Over Fails ≡ On state = fails in cc)
+    (λ stood. subst (λ p. Stands (Agree words_32 words_32 (only_virtual (only 2))) (AgreeAt words_32 words_32 (λ b. only_virtual (only 2))) p (Over an_outcome.Undefined)) stood.1 stood.2)
+    (λ undefined. let no : Over an_outcome.Undefined ≡ On state = undefined in cc)
     (followed.by state state
     (record { agree = agree_itself (only_virtual nothing) state; env = (32, 3) ∷ []; widths = refl; sized = (omega arith, tt); facts = tt })
-    (Over Fails) (Over Fails, refl, refl))
+    (Over an_outcome.Undefined) (Over an_outcome.Undefined, refl, refl))
 
 -- ══ States that don't agree ══
 

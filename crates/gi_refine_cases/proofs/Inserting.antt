@@ -78,7 +78,7 @@ hide_put_old s t hidden old new q v h agree = record {
   taken = agree.taken;
 }
 
--- an instruction that comes where nothing was, doesn't fail, and writes a hidden register
+-- an instruction that comes where nothing was, isn't undefined, and writes a hidden register
 pub inserted_follows : (s t : Setting) (w : World) (before : State → State → Type 0) (hidden : ℕ → Bool) (exit : ℕ → State → State → Type 0) (i : ℕ × InstrData) (q : ℕ) → hidden q ≡ true
     → ((old new : State) → before old new → (v : ℕ) × (steps_of t w (i ∷ []) new ≡ Some (On (put new (Virtual q) v))))
     → ((old new : State) → before old new → Agree s t (only_virtual hidden) old new)

@@ -7,7 +7,7 @@ use Rattle.gi_mir.specs.declared.operand.MemOp.{MemOp}
 use Rattle.gi_meaning.specs.Argument.{Argument}
 use Rattle.gi_meaning.specs.State.{World, State, Outside, outside_of, start, Place}
 use Rattle.gi_meaning.specs.Meaning.{Meaning, Copying, Generic, Machine, Loading, Returning, meaning_of}
-use Rattle.gi_meaning.specs.Act.{Answer, Results, Leaves, Returns, Asks, Breaks, Act, generic_load, copy}
+use Rattle.gi_meaning.specs.Act.{Answer, Results, Leaves, Returns, Asks, Undefined, Act, generic_load, copy}
 use Rattle.gi_meaning.specs.Runs.{Setting, arguments_of, written_places, put_all, Progress, On, Left, Over, going_on, progress_of, StepsFrom, After, Executes, phis_of, after_phis, joined}
 use Rattle.gi_refine.specs.Reached.{GoesTo, Passes, Arrives, IsReached}
 use Rattle.gi_refine.proofs.ValuesStepped.{IsPlain, answers_plain, words_plain}
@@ -39,7 +39,7 @@ plain_stays outside (Results results after) h = tt
 plain_stays outside (Leaves block) h = absurd h
 plain_stays outside (Returns words) h = absurd h
 plain_stays outside (Asks callee words) h = absurd h
-plain_stays outside Breaks h = tt
+plain_stays outside Undefined h = tt
 
 act_stays : (x : ℕ) (w : World) (m : Meaning) (mem : Option MemOp) (widths : List ℕ) (arguments : List Argument) (outside : Outside) (answer : Answer) → is_straight m ≡ true
     → Act x w m mem widths arguments outside answer → StaysHere answer
@@ -60,7 +60,7 @@ progress_stays state places (Results results outside) h = going_stays (put_all (
 progress_stays state places (Leaves block) h = absurd h
 progress_stays state places (Returns words) h = tt
 progress_stays state places (Asks callee words) h = tt
-progress_stays state places Breaks h = tt
+progress_stays state places Undefined h = tt
 
 step_stays : (s : Setting) (w : World) (i : InstrData) (state : State) (arguments : Option (List Argument)) (p : Progress) → is_straight (meaning_of i.flags i.op) ≡ true → StepsFrom s w i state arguments p → NotLeft p
 step_stays s w i state None p h step = subst NotLeft (sym step) tt

@@ -18,7 +18,7 @@ use Rattle.gi_refine.specs.Kept.{HasSameValue}
 use Rattle.gi_refine.specs.OnePlace.{only_virtual, nothing, only}
 use Rattle.gi_refine_cases.specs.Trials.{extension, truncation, phi_of, choice, on_to_2, narrow_phi, with_extensions, with_wide_phi, with_truncation, wide_phi}
 use Rattle.gi_refine.specs.Reached.{Arrives, IsReached, WhereReached}
-use Rattle.gi_refine.specs.Refinement.{IsRefinement}
+use Rattle.gi_refine.specs.Refinement.{RefinesUnchecked}
 use Rattle.gi_refine.specs.Rewriting.{Kept, Changed, Covers, PieceFollows, PhisFollow, RewrittenAt, shown_by_phis}
 use Rattle.gi_refine.specs.Simulation.{PhisStand}
 use Rattle.gi_refine.proofs.Basics.{some_is}
@@ -165,7 +165,7 @@ extended_places (suc (suc zero)) = record {
 }
 extended_places (suc (suc (suc b))) = tt
 
-extended : IsRefinement 32 names narrow_phi with_extensions
+extended : RefinesUnchecked 32 names narrow_phi with_extensions
 extended = rewriting_refines 32 names narrow_phi with_extensions (record { entries = (λ b. (only_virtual extensions)); rename = (λ r. r); places = extended_places })
 
 -- ══ The wide phi beside the narrow one ══
@@ -247,7 +247,7 @@ beside_places (suc (suc zero)) = record {
 }
 beside_places (suc (suc (suc b))) = tt
 
-beside : IsRefinement 32 names with_extensions with_wide_phi
+beside : RefinesUnchecked 32 names with_extensions with_wide_phi
 beside = rewriting_refines 32 names with_extensions with_wide_phi (record { entries = (λ b. (only_virtual (only 7))); rename = (λ r. r); places = beside_places })
 
 -- ══ The truncation ══
@@ -303,7 +303,7 @@ truncated_places (suc (suc zero)) = record {
 }
 truncated_places (suc (suc (suc b))) = tt
 
-truncated : IsRefinement 32 names with_wide_phi with_truncation
+truncated : RefinesUnchecked 32 names with_wide_phi with_truncation
 truncated = rewriting_refines 32 names with_wide_phi with_truncation (record { entries = (λ b. (only_virtual (only 8))); rename = (λ r. r); places = truncated_places })
 
 -- ══ The narrow phi goes ══
@@ -394,11 +394,11 @@ narrow_away_places (suc (suc zero)) = record {
 }
 narrow_away_places (suc (suc (suc b))) = tt
 
-narrow_away : IsRefinement 32 names with_truncation wide_phi
+narrow_away : RefinesUnchecked 32 names with_truncation wide_phi
 narrow_away = rewriting_refines 32 names with_truncation wide_phi (record { entries = (λ b. (only_virtual (only 2))); rename = two_by_eight; places = narrow_away_places })
 
 -- ══ The rule ══
 
-pub phi_widened : IsRefinement 32 names narrow_phi wide_phi
+pub phi_widened : RefinesUnchecked 32 names narrow_phi wide_phi
 phi_widened = refines_through 32 names narrow_phi with_extensions wide_phi extended
     (refines_through 32 names with_extensions with_wide_phi wide_phi beside (refines_through 32 names with_wide_phi with_truncation wide_phi truncated narrow_away))

@@ -3,7 +3,7 @@ use Rattle.std.proofs.Common.{◌≡◌, ℕ, zero, suc, Bool, true, false, ◌=
 use Rattle.std.proofs.lemmas.Bool.{false≢true, eqb-false}
 use Rattle.std.proofs.lemmas.Option.{none-some}
 use Rattle.gi_mir.specs.Data.{InstrData, BlockData}
-use Rattle.gi_meaning.specs.State.{World, IsWorld, State, start, Fails, Place, Virtual, word_in, put}
+use Rattle.gi_meaning.specs.State.{World, IsWorld, State, start, Undefined, Place, Virtual, word_in, put}
 use Rattle.gi_meaning.specs.Runs.{Setting, setting_of, Progress, On, Left, Over}
 use Rattle.gi_refine.specs.Agreement.{ValueStands, Agree, AgreeAt, all_shown}
 use Rattle.gi_refine.specs.Examples.{block_of, copy_in, copy_out, return_of, names, s32}
@@ -121,7 +121,7 @@ not_everywhere followed =
     let new_does : DoesAll new_setting (world 1 2) (copied 2 0 ∷ []) apart_state come' = steps_so new_setting (world 1 2) (copied 2 0 ∷ []) apart_state come' refl in
     ⊎_elim
     (λ ran. stands_apart ran.0 come' (ap two_of (old_does.only ran.0 ran.1)) refl ran.2)
-    (λ fails. false≢true (sym (ap is_over (old_does.only (Over Fails) fails))))
+    (λ undefined. false≢true (sym (ap is_over (old_does.only (Over Undefined) undefined))))
     (followed.by apart_state apart_state agrees_itself come' new_does.can)
 
 pub by_reach : IsByReach

@@ -11,7 +11,7 @@ use Rattle.gi_refine.specs.Examples.{names, s32, copy_out, return_of, bits}
 use Rattle.gi_refine.specs.Lifting.{IsKnown}
 use Rattle.gi_refine.specs.OnePlace.{only_virtual}
 use Rattle.gi_refine.specs.Reached.{IsReached}
-use Rattle.gi_refine.specs.Refinement.{IsRefinement}
+use Rattle.gi_refine.specs.Refinement.{RefinesUnchecked}
 use Rattle.gi_refine.specs.RuleUse.{IsRuleUse}
 use Rattle.gi_refine_cases.specs.TrialFunctions.{address_in, half_loaded, bytes_loaded, on_address, is_one_of, byte_registers, bytes_placed}
 use Rattle.gi_refine_cases.specs.TrialRules.{split_load}
@@ -83,7 +83,7 @@ byte_kinds x q shown =
     ∙ another_kind (7 == q) s32 _ (not_one_of byte_registers q 5 7 shown refl)
 
 -- a load of 16 bits from any address by two loads of bytes
-pub bytes_refine : (x : ℕ) → IsRefinement x names (on_address half_loaded) (on_address (bytes_loaded x))
+pub bytes_refine : (x : ℕ) → RefinesUnchecked x names (on_address half_loaded) (on_address (bytes_loaded x))
 bytes_refine x =
     straight_refines x names address_in half_loaded (bytes_loaded x) (copy_out 10 1 ∷ return_of 10 ∷ []) (is_one_of byte_registers) (λ w. split_load x) bytes_placed
     (record { used = bytes_used x; no_phi = refl; no_new_phi = refl; before_clear = refl; after_clear = refl; kinds = byte_kinds x })

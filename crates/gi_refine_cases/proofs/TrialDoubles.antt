@@ -15,7 +15,7 @@ use Rattle.gi_refine.specs.Examples.{names, bits}
 use Rattle.gi_refine.specs.Lifting.{IsKnown}
 use Rattle.gi_refine.specs.OnePlace.{only_virtual}
 use Rattle.gi_refine.specs.Reached.{IsReached}
-use Rattle.gi_refine.specs.Refinement.{IsRefinement}
+use Rattle.gi_refine.specs.Refinement.{RefinesUnchecked}
 use Rattle.gi_refine.specs.RuleUse.{IsRuleUse}
 use Rattle.gi_refine_cases.specs.TrialFunctions.{two_doubles, double_returned, sum_of_doubles, sum_by_words, on_doubles, is_one_of, word_registers, double_placed}
 use Rattle.gi_refine_cases.specs.TrialRules.{narrow_add}
@@ -134,7 +134,7 @@ double_kinds x q shown =
     ∙ two_other_kinds (15 == q) (16 == q) (bits x) (bits 1) _ (not_one_of word_registers q 6 15 shown refl) (not_one_of word_registers q 7 16 shown refl)
 
 -- a sum of twice a word's bits by sums of words
-pub narrowing_refines : (x : ℕ) → IsRefinement x names (on_doubles x (sum_of_doubles x)) (on_doubles x (sum_by_words x))
+pub narrowing_refines : (x : ℕ) → RefinesUnchecked x names (on_doubles x (sum_of_doubles x)) (on_doubles x (sum_by_words x))
 narrowing_refines x =
     straight_refines x names (two_doubles x) (sum_of_doubles x) (sum_by_words x) (double_returned x) (is_one_of word_registers) (λ w. narrow_add no_flags x) double_placed
     (record { used = double_used x; no_phi = refl; no_new_phi = refl; before_clear = refl; after_clear = refl; kinds = double_kinds x })

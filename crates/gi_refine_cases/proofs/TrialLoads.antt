@@ -6,11 +6,13 @@ use Rattle.std.proofs.lemmas.Nat.{or_of_32, or_shifted}
 use Rattle.gi_llt.specs.Bits.{wrapped}
 use Rattle.gi_mir.specs.Data.{no_flags}
 use Rattle.gi_mir.specs.declared.opcode.Opcode.TheVariants as op
-use Rattle.gi_meaning.specs.Given.{Undefined, one}
+use Rattle.gi_meaning.specs.Given.{one}
+use Rattle.gi_meaning.specs.Given as a_given
 use Rattle.gi_meaning.specs.Memory.{Memory, with_byte, above, loaded, is_aligned}
 use Rattle.gi_meaning.specs.Meaning.{Extension, Anything, Zeros}
 use Rattle.gi_meaning.specs.State.{World, Outside}
-use Rattle.gi_meaning.specs.Act.{Results, Breaks, Answers, load, from_loaded}
+use Rattle.gi_meaning.specs.Act.{Results, Answers, load, from_loaded}
+use Rattle.gi_meaning.specs.Act as an_answer
 use Rattle.gi_refine.specs.Values.{Environment, Operation, Makes, MayMake, Rule, IsSound}
 use Rattle.gi_refine.specs.ValueRules.{constant, on_two}
 use Rattle.gi_refine_cases.specs.TrialRules.{load_of, split_load}
@@ -22,7 +24,7 @@ pub aligned_to_one : (a : ℕ) → is_aligned 1 a ≡ true
 aligned_to_one a = ap (λ r. r == 0) (mod-one a)
 
 load_is : (x m n : ℕ) (extension : Extension) (memory : Memory) (a : ℕ) → load x 1 m n extension memory a ≡ from_loaded (loaded x (m / 8) memory a) extension m n
-load_is x m n extension memory a = ap (λ b. cond b (from_loaded (loaded x (m / 8) memory a) extension m n) Undefined) (aligned_to_one a)
+load_is x m n extension memory a = ap (λ b. cond b (from_loaded (loaded x (m / 8) memory a) extension m n) a_given.Undefined) (aligned_to_one a)
 
 -- two bytes, and one
 two_bytes : (x : ℕ) (memory : Memory) (a : ℕ) (low high : Option ℕ) → memory (wrapped x a) ≡ low → memory (wrapped x (a + 1)) ≡ high
@@ -53,9 +55,9 @@ pub undefined_may : (x : ℕ) (w : World) (outside : Outside) (rule : Rule) (env
 undefined_may x w outside rule env None h = h
 undefined_may x w outside rule env (Some new) h = inr h
 
-missing_byte : (x : ℕ) (w : World) (outside : Outside) (a : ℕ) (made : Option Environment) → load x 1 16 32 Anything outside.memory a ≡ Undefined → MayMake x w outside (split_load x) ((x, a) ∷ []) made
+missing_byte : (x : ℕ) (w : World) (outside : Outside) (a : ℕ) (made : Option Environment) → load x 1 16 32 Anything outside.memory a ≡ a_given.Undefined → MayMake x w outside (split_load x) ((x, a) ∷ []) made
 missing_byte x w outside a made undefined =
-    undefined_may x w outside (split_load x) ((x, a) ∷ []) made (Breaks, subst (λ g. Answers g outside Breaks) (sym undefined) refl, refl)
+    undefined_may x w outside (split_load x) ((x, a) ∷ []) made (an_answer.Undefined, subst (λ g. Answers g outside an_answer.Undefined) (sym undefined) refl, refl)
 
 -- the old load may make a value with these low bits
 half_made : (x : ℕ) (w : World) (outside : Outside) (a low high l next f s v : ℕ) → outside.memory (wrapped x a) ≡ Some low → outside.memory (wrapped x (a + 1)) ≡ Some high

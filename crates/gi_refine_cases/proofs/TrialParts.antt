@@ -14,7 +14,7 @@ use Rattle.gi_refine.specs.Examples.{names, bits}
 use Rattle.gi_refine.specs.Lifting.{IsKnown}
 use Rattle.gi_refine.specs.OnePlace.{only_virtual}
 use Rattle.gi_refine.specs.Reached.{IsReached}
-use Rattle.gi_refine.specs.Refinement.{IsRefinement}
+use Rattle.gi_refine.specs.Refinement.{RefinesUnchecked}
 use Rattle.gi_refine.specs.RuleUse.{IsRuleUse}
 use Rattle.gi_refine_cases.specs.TrialFunctions.{two_parts, part_returned, sum_of_parts, wide_sum, on_parts, wide_hidden, wide_placed}
 use Rattle.gi_refine_cases.specs.TrialRules.{widen_add}
@@ -112,7 +112,7 @@ wide_kinds x n q shown =
     ∙ another_kind (8 == q) (bits x) _ (or_parts ((6 == q) || (7 == q)) (8 == q) shown).1
 
 -- a sum of n bits by one of words of y + n bits
-pub widening_refines : (n y : ℕ) → IsRefinement (y + n) names (on_parts (y + n) n (sum_of_parts n)) (on_parts (y + n) n (wide_sum (y + n) n))
+pub widening_refines : (n y : ℕ) → RefinesUnchecked (y + n) names (on_parts (y + n) n (sum_of_parts n)) (on_parts (y + n) n (wide_sum (y + n) n))
 widening_refines n y =
     straight_refines (y + n) names (two_parts (y + n) n) (sum_of_parts n) (wide_sum (y + n) n) (part_returned (y + n)) wide_hidden (λ w. widen_add no_flags n y) wide_placed
     (record { used = wide_used n y; no_phi = refl; no_new_phi = refl; before_clear = refl; after_clear = refl; kinds = λ q shown. wide_kinds (y + n) n q shown })

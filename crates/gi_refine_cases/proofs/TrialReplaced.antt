@@ -12,7 +12,7 @@ use Rattle.gi_refine.specs.Kept.{HasSameValue, UsesHold}
 use Rattle.gi_refine.specs.Lifting.{IsKnown, AllSame}
 use Rattle.gi_refine.specs.OnePlace.{only_virtual, StaysAt}
 use Rattle.gi_refine.specs.Reached.{IsReached}
-use Rattle.gi_refine.specs.Refinement.{IsRefinement}
+use Rattle.gi_refine.specs.Refinement.{RefinesUnchecked}
 use Rattle.gi_refine.specs.RuleUse.{IsRuleUse}
 use Rattle.gi_refine_cases.specs.TrialFunctions.{word_and_zero, adds_zero, gives_summand, sum_replaced, sum_placed}
 use Rattle.gi_refine.specs.ValueRules.{add_zero}
@@ -106,7 +106,7 @@ no_other zero apart = absurd (apart refl)
 no_other (suc b) apart = tt
 
 -- the uses of the sum are replaced, and the sum is gone
-pub sum_refines : IsRefinement 32 names adds_zero gives_summand
+pub sum_refines : RefinesUnchecked 32 names adds_zero gives_summand
 sum_refines = one_place_refines 32 names adds_zero gives_summand sum_replaced (record {
   block = block_of [] (word_and_zero ++ (sum_replaced.old ++ sum_replaced.after));
   new_block = block_of [] (word_and_zero ++ sum_replaced.new_after);

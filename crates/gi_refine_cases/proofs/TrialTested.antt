@@ -7,7 +7,7 @@ use Rattle.gi_meaning.specs.Runs.{setting_of, width_of_kind}
 use Rattle.gi_refine.specs.Agreement.{AgreeAt}
 use Rattle.gi_refine.specs.Examples.{block_of, names, s32}
 use Rattle.gi_refine.specs.OnePlace.{only_virtual}
-use Rattle.gi_refine.specs.Refinement.{IsRefinement}
+use Rattle.gi_refine.specs.Refinement.{RefinesUnchecked}
 use Rattle.gi_refine.specs.Replacing.{any_touches}
 use Rattle.gi_refine.specs.TestedUse.{IsTestedUse}
 use Rattle.gi_refine_cases.specs.TrialFunctions.{first_block, second_block, chosen_word, product_by_eight, shift_by_three, fifth_returned, on_chosen, product_placed, product_shifted}
@@ -59,7 +59,7 @@ kinds_kept : (q : ℕ) → (6 == q) ≡ false → kind_in_instrs q shift_by_thre
 kinds_kept q shown = another_kind (6 == q) s32 (kind_in_instrs q product_by_eight) shown
 
 -- a product by 8 is a shift by 3, behind a phi and with the constant in another block
-pub product_refines : IsRefinement 32 names (on_chosen product_by_eight) (on_chosen shift_by_three)
+pub product_refines : RefinesUnchecked 32 names (on_chosen product_by_eight) (on_chosen shift_by_three)
 product_refines = replacement_refines 32 names (on_chosen product_by_eight) (on_chosen shift_by_three) product_shifted (record {
   block = block_of [] (chosen_word ++ (product_by_eight ++ fifth_returned));
   here = refl;

@@ -8,7 +8,7 @@ use Rattle.gi_meaning.specs.Runs.{Setting, setting_of, On}
 use Rattle.gi_refine.specs.Examples.{names, s32, copy_in}
 use Rattle.gi_refine.specs.Lifting.{IsKnown}
 use Rattle.gi_refine.specs.OnePlace.{only_virtual}
-use Rattle.gi_refine.specs.Refinement.{IsRefinement}
+use Rattle.gi_refine.specs.Refinement.{RefinesUnchecked}
 use Rattle.gi_refine.specs.RuleUse.{IsRuleUse}
 use Rattle.gi_refine_cases.specs.TrialFunctions.{subtracts_itself, gives_zero, subtraction_folded, subtraction_placed}
 use Rattle.gi_refine.specs.ValueRules.{subtract_self}
@@ -49,7 +49,7 @@ subtraction_used = record {
       (known_at s w (subtract_self no_flags 32) (0 ∷ []) (w.words 10 ∷ []) copied (refl, tt) (is_world.words 10, tt) tt);
 }
 
-pub subtraction_refines : IsRefinement 32 names subtracts_itself gives_zero
+pub subtraction_refines : RefinesUnchecked 32 names subtracts_itself gives_zero
 subtraction_refines =
     straight_refines 32 names subtraction_folded.before subtraction_folded.old subtraction_folded.new subtraction_folded.after subtraction_folded.hidden (λ w. subtract_self no_flags 32) subtraction_placed
     (record { used = subtraction_used; no_phi = refl; no_new_phi = refl; before_clear = refl; after_clear = refl; kinds = λ q shown. refl })

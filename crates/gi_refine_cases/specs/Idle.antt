@@ -13,7 +13,7 @@ use Rattle.gi_refine.specs.Examples.{of_one, block_of, function_of, s32, copy_in
 use Rattle.gi_refine.specs.Kept.{IsKept, AreKept, AreSeenAs, AllSeenAs, UsesHold, PhisHold, BodyHolds}
 use Rattle.gi_refine.specs.OnePlace.{OnePlace, only_virtual, StaysAt}
 use Rattle.gi_refine.specs.Reached.{IsReached, WhereReached}
-use Rattle.gi_refine.specs.Refinement.{IsRefinement}
+use Rattle.gi_refine.specs.Refinement.{RefinesUnchecked}
 use Rattle.gi_refine.specs.Rewriting.{Piece, Kept, Changed, old_of, all_old, all_new, Covers, is_target, PieceFollows, hidden_after, PhisFollow}
 use Rattle.gi_refine.specs.Replacing.{Replacement, IsReplaced}
 use Rattle.gi_refine.specs.Simulation.{IsFollowed}
@@ -99,7 +99,7 @@ pub record IsNotIdle (dropped : Premise) : Type 0 where
   pub new : FunctionData
   pub place : OnePlace
   pub owes : OwesAllBut (Some dropped) 32 old new place
-  pub refuted : IsRefinement 32 names old new → ⊥
+  pub refuted : RefinesUnchecked 32 names old new → ⊥
 
 -- ══ Rewriting piece by piece ══
 
@@ -176,7 +176,7 @@ pub record IsPieceNotIdle (dropped : PiecePremise) : Type 0 where
   pub old : FunctionData
   pub new : FunctionData
   pub owes : IsRewrittenBut (Some dropped) 32 old new
-  pub refuted : IsRefinement 32 names old new → ⊥
+  pub refuted : RefinesUnchecked 32 names old new → ⊥
 
 -- ══ A case that holds by reach alone ══
 

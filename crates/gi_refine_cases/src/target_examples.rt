@@ -2,7 +2,7 @@
 
 ghost use Rattle.std.specs.Prelude.{ℕ, suc, [], ◌∷◌};
 ghost use Rattle.gi_meaning.specs.Memory.{stored};
-ghost use Rattle.gi_meaning.specs.State.{Returned, Going, Fails};
+ghost use Rattle.gi_meaning.specs.State.{Returned, Going, Undefined};
 ghost use Rattle.gi_refine_cases.specs.Examples.{chooses};
 ghost use Rattle.gi_refine.specs.Examples.{counting, names, world_of};
 ghost use Rattle.gi_refine.specs.Outcomes.{ComesTo};
@@ -17,8 +17,8 @@ pub fn generic_examples_come_to()
     ensures at_once { ComesTo 32 names adds (world_of 1 2 0 []) 0 (Going counting 0) }
     ensures before_another { ComesTo 32 names chooses (world_of 1 20 30 []) 1 (Going counting 0) }
     // The least value by -1, and a register without a value.
-    ensures signed_overflow { (n : ℕ) → ComesTo 32 names divides_signed (world_of 2147483648 4294967295 0 []) (suc n) Fails }
-    ensures no_value { (n : ℕ) → ComesTo 32 names reads_nothing (world_of 1 2 0 []) (suc n) Fails }
+    ensures signed_overflow { (n : ℕ) → ComesTo 32 names divides_signed (world_of 2147483648 4294967295 0 []) (suc n) Undefined }
+    ensures no_value { (n : ℕ) → ComesTo 32 names reads_nothing (world_of 1 2 0 []) (suc n) Undefined }
     // A loop that goes around three times.
     ensures around { ComesTo 32 names counts_down (world_of 3 0 0 []) 4 (Going counting 0) }
     ensures counted_down { (n : ℕ) → ComesTo 32 names counts_down (world_of 3 0 0 []) (suc (suc (suc (suc (suc n))))) (Returned (0 ∷ []) counting 0) }
@@ -35,12 +35,12 @@ pub fn target_examples_come_to()
     ensures low_words { (n : ℕ) → ComesTo 64 names adds_low_words (world_of 4294967297 2147483647 0 []) (suc n) (Returned (18446744071562067968 ∷ []) counting 0) }
     ensures low_word { (n : ℕ) → ComesTo 64 names extends_low_word (world_of 4294967295 0 0 []) (suc n) (Returned (18446744073709551615 ∷ []) counting 0) }
     // RV32 has neither.
-    ensures no_low_words { (n : ℕ) → ComesTo 32 names adds_low_words (world_of 1 2 0 []) (suc n) Fails }
-    ensures no_double { (n : ℕ) → ComesTo 32 names loads_double (world_of 8 0 0 []) (suc n) Fails }
+    ensures no_low_words { (n : ℕ) → ComesTo 32 names adds_low_words (world_of 1 2 0 []) (suc n) Undefined }
+    ensures no_double { (n : ℕ) → ComesTo 32 names loads_double (world_of 8 0 0 []) (suc n) Undefined }
     ensures address { (n : ℕ) → ComesTo 32 names address_of_g (world_with_globals 7000) (suc n) (Returned (7000 ∷ []) counting 0) }
     // The word that was stored at 12 is loaded; a load of a word from 6; the bytes 8 to 15.
     ensures store_and_load { (n : ℕ) → ComesTo 32 names stores_and_loads_words (world_of 8 258 0 []) (suc n) (Returned (258 ∷ []) (stored 32 4 counting 12 258) 0) }
-    ensures misaligned { (n : ℕ) → ComesTo 32 names loads_word (world_of 6 0 0 []) (suc n) Fails }
+    ensures misaligned { (n : ℕ) → ComesTo 32 names loads_word (world_of 6 0 0 []) (suc n) Undefined }
     ensures double { (n : ℕ) → ComesTo 64 names loads_double (world_of 8 0 0 []) (suc n) (Returned (1084818905618843912 ∷ []) counting 0) }
     ensures taken { (n : ℕ) → ComesTo 32 names compares (world_of 7 7 9 []) (suc (suc n)) (Returned (9 ∷ []) counting 0) }
     ensures not_taken { (n : ℕ) → ComesTo 32 names compares (world_of 7 8 9 []) (suc (suc n)) (Returned (7 ∷ []) counting 0) }

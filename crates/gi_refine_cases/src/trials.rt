@@ -11,7 +11,7 @@ ghost use Rattle.gi_meaning.specs.State.{World};
 ghost use Rattle.gi_refine.specs.Constants.{only_constant};
 ghost use Rattle.gi_refine.specs.Examples.{names};
 ghost use Rattle.gi_refine.specs.Fitting.{blocks_fit};
-ghost use Rattle.gi_refine.specs.Refinement.{IsRefinement};
+ghost use Rattle.gi_refine.specs.Refinement.{RefinesUnchecked};
 ghost use Rattle.gi_refine_cases.specs.Examples.{chooses};
 ghost use Rattle.gi_refine_cases.specs.TrialFunctions.{adds_zero, bytes_loaded, gives_summand, gives_zero, half_loaded, on_address, on_chosen, on_doubles, on_parts, product_by_eight, shift_by_three, subtracts_itself, sum_by_words, sum_of_doubles, sum_of_parts, wide_sum};
 ghost use Rattle.gi_refine_cases.specs.TrialRules.{fold_constants, multiply_to_shift, narrow_add, split_load, widen_add};
@@ -30,15 +30,15 @@ pub fn trial_rules_hold()
 
 /// Rules on values used in whole functions.
 pub fn trial_uses_refine()
-    ensures folded { IsRefinement 32 names subtracts_itself gives_zero }
-    ensures replaced { IsRefinement 32 names adds_zero gives_summand }
+    ensures folded { RefinesUnchecked 32 names subtracts_itself gives_zero }
+    ensures replaced { RefinesUnchecked 32 names adds_zero gives_summand }
     // A sum of n bits by one of words of y + n bits, and one of twice a word's bits by sums of words.
-    ensures widened { (n y : ℕ) → IsRefinement (y + n) names (on_parts (y + n) n (sum_of_parts n)) (on_parts (y + n) n (wide_sum (y + n) n)) }
-    ensures narrowed { (x : ℕ) → IsRefinement x names (on_doubles x (sum_of_doubles x)) (on_doubles x (sum_by_words x)) }
+    ensures widened { (n y : ℕ) → RefinesUnchecked (y + n) names (on_parts (y + n) n (sum_of_parts n)) (on_parts (y + n) n (wide_sum (y + n) n)) }
+    ensures narrowed { (x : ℕ) → RefinesUnchecked x names (on_doubles x (sum_of_doubles x)) (on_doubles x (sum_by_words x)) }
     // A load of 16 bits from any address by two loads of bytes.
-    ensures split { (x : ℕ) → IsRefinement x names (on_address half_loaded) (on_address (bytes_loaded x)) }
+    ensures split { (x : ℕ) → RefinesUnchecked x names (on_address half_loaded) (on_address (bytes_loaded x)) }
     // A product by 8 as a shift, behind a phi and with the constant in another block.
-    ensures shifted { IsRefinement 32 names (on_chosen product_by_eight) (on_chosen shift_by_three) }
+    ensures shifted { RefinesUnchecked 32 names (on_chosen product_by_eight) (on_chosen shift_by_three) }
 {}
 
 /// Tests on which uses of rules rest pass: values fit their widths in a function with a sum and in one

@@ -4,7 +4,7 @@ use Rattle.gi_mir.specs.Data.{InstrData, FunctionData}
 use Rattle.gi_mir.specs.Edit.{IsLive, all_instrs, instr_of}
 use Rattle.gi_mir.specs.Formed.{is_formed}
 use Rattle.gi_mir.specs.Ids.{AreOwnIds}
-use Rattle.gi_refine.specs.Refinement.{IsRefinement}
+use Rattle.gi_refine.specs.Refinement.{RefinesUnchecked}
 use Rattle.gi_pattern.specs.Applying.{applied}
 use Rattle.gi_pattern.specs.Data.{MakeData, MatchData}
 use Rattle.gi_pattern.specs.Fitting.{binding_at}
@@ -36,7 +36,7 @@ pub fitting-refines : (x : ℕ) (names : List (List ℕ)) (f : FunctionData) (na
     → knows_inputs (rule_of name root definitions tests makes) ≡ true → fills_rows (rule_of name root definitions tests makes) ≡ true
     → IsValid x Typed f → AreOwnIds f.blocks f.next_id → HasHadAll f → are_formed f ≡ true → have_types f ≡ true
     → IsLive f id → binding_at f (rule_of name root definitions tests makes) id ≡ Some b → instr_of f id ≡ Some instr → FitsAnywhere x names f
-    → IsRefinement x names f (applied x (rule_of name root definitions tests makes) b id f)
+    → RefinesUnchecked x names f (applied x (rule_of name root definitions tests makes) b id f)
 fitting-refines x names f name root definitions tests makes b id instr size sound usable knows rows valid own had formed owned live fits at fit =
     refines-law x Typed names f name root definitions tests makes b id instr (flags_found f b instr definitions) size sound
     (fitting_suits x f name root definitions tests [] makes b id instr valid own live at fits rows (constants_fit x f size valid formed owned) owned)
@@ -50,7 +50,7 @@ pub replacement-refines : (x : ℕ) (names : List (List ℕ)) (f : FunctionData)
     → is_replacing (replacing_of name root definitions tests replaces) ≡ true → knows_inputs (replacing_of name root definitions tests replaces) ≡ true → fills_rows (replacing_of name root definitions tests replaces) ≡ true
     → IsValid x Typed f → AreOwnIds f.blocks f.next_id → HasHadAll f → are_formed f ≡ true → have_types f ≡ true → FitsAnywhere x names f
     → IsLive f id → binding_at f (replacing_of name root definitions tests replaces) id ≡ Some b → instr_of f id ≡ Some instr
-    → IsRefinement x names f (applied x (replacing_of name root definitions tests replaces) b id f)
+    → RefinesUnchecked x names f (applied x (replacing_of name root definitions tests replaces) b id f)
 replacement-refines x names f name root definitions tests replaces b id instr size sound certain wide replacing knowing rows valid own had formed owned fit live fits at =
     replaced-refines x Typed names f name root definitions tests replaces b id instr size sound certain wide (fitting_suits x f name root definitions tests replaces [] b id instr valid own live at fits rows (constants_fit x f size valid formed owned) owned)
     replacing knowing valid own had (constants_fit x f size valid formed owned) fit live fits at (formed_at f id instr formed live at)

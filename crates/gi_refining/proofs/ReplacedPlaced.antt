@@ -18,7 +18,7 @@ use Rattle.gi_pattern.specs.declared.binding.Binding.{Binding}
 use Rattle.gi_pattern.specs.declared.rule.Test.{Test}
 use Rattle.gi_refine.specs.Lifting.{all_covered, all_grown, is_kept}
 use Rattle.gi_refine.specs.OnePlace.{only_virtual}
-use Rattle.gi_refine.specs.Refinement.{IsRefinement}
+use Rattle.gi_refine.specs.Refinement.{RefinesUnchecked}
 use Rattle.gi_refine.specs.Replacing.{any_touches, touches}
 use Rattle.gi_refine.specs.RuleUse.{width_in}
 use Rattle.gi_refine.proofs.Covering.{covered_by}
@@ -279,7 +279,7 @@ pub replaced-refines : (x : ℕ) (phase : Phase) (names : List (List ℕ)) (f : 
     → Suits x (replacing_of name root definitions tests replaces) (types_in x f b) b → is_replacing (replacing_of name root definitions tests replaces) ≡ true → knows_inputs (replacing_of name root definitions tests replaces) ≡ true
     → IsValid x phase f → AreOwnIds f.blocks f.next_id → HasHadAll f → are_sized x f ≡ true → FitsAnywhere x names f
     → IsLive f id → binding_at f (replacing_of name root definitions tests replaces) id ≡ Some b → instr_of f id ≡ Some instr → is_formed instr ≡ true
-    → IsRefinement x names f (applied x (replacing_of name root definitions tests replaces) b id f)
+    → RefinesUnchecked x names f (applied x (replacing_of name root definitions tests replaces) b id f)
 replaced-refines x phase names f name root definitions tests replaces b id instr size sound certain wide suits replacing knowing valid own had sized fit live fits at formed =
     sound-replaces x names f name root definitions tests replaces b id instr (flags_found f b instr definitions) (λ q. defines q (id, instr)) sound size suits (replaces_there u names owed live at (wide.by x (types_in x f b) b suits))
   where

@@ -3,7 +3,7 @@ use Rattle.std.proofs.Common.{◌≡◌, true, [], ◌∷◌, Some, inl, refl, s
 use Rattle.std.specs.Int.RustNames.{count_ones}
 use Rattle.gi_mir.specs.Data.{reg_of}
 use Rattle.gi_mir.specs.Formed.{is_formed}
-use Rattle.gi_refine.specs.Refinement.{IsRefinement}
+use Rattle.gi_refine.specs.Refinement.{RefinesUnchecked}
 use Rattle.gi_pattern.specs.Applying.{applied}
 use Rattle.gi_pattern.specs.Examples.{difference_with_constant, remainder_by_power, sum_with_zero}
 use Rattle.gi_pattern.specs.Fitting.{binding_at}
@@ -44,10 +44,10 @@ takes_five_ready = record { valid = takes_five_valid; numbered = refl; formed = 
 pub adds_zero_ready : IsReadyFunction 32 [] adds_zero
 adds_zero_ready = record { valid = adds_zero_valid; numbered = refl; formed = adds_zero_formed; typed = refl; fit = fits_tested 32 [] adds_zero refl }
 
-pub takes_five_refined : IsRefinement 32 [] takes_five adds_the_rest
+pub takes_five_refined : RefinesUnchecked 32 [] takes_five adds_the_rest
 takes_five_refined = refining-refines 32 [] takes_five difference_with_constant takes_five_bound 9 difference (inl refl) difference_with_constant_refines takes_five_ready refl refl refl
 
-pub adds_zero_refined : IsRefinement 32 [] adds_zero goes_on
+pub adds_zero_refined : RefinesUnchecked 32 [] adds_zero goes_on
 adds_zero_refined = refining-refines 32 [] adds_zero sum_with_zero adds_zero_bound 11 sum (inl refl) sum_with_zero_refines adds_zero_ready refl refl refl
 
 -- ══ A remainder: that values fit follows from validity ══
@@ -71,9 +71,9 @@ pub takes_rest_becomes : applied 32 remainder_by_power takes_rest_bound 9 takes_
 unfolding count_ones
 takes_rest_becomes = refl
 
-pub takes_rest_refined : IsRefinement 32 [] takes_rest keeps_low_bits
+pub takes_rest_refined : RefinesUnchecked 32 [] takes_rest keeps_low_bits
 takes_rest_refined =
-    subst (IsRefinement 32 [] takes_rest) takes_rest_becomes
+    subst (RefinesUnchecked 32 [] takes_rest) takes_rest_becomes
     (refining-refines 32 [] takes_rest remainder_by_power takes_rest_bound 9 remainder (inl refl) remainder_by_power_refines takes_rest_ready refl takes_rest_fits refl)
 
 -- ══ Loads ══

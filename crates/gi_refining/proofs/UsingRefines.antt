@@ -9,7 +9,7 @@ use Rattle.gi_meaning.specs.Runs.{after_phis, setting_of}
 use Rattle.gi_meaning.specs.State.{IsWorld, State, World}
 use Rattle.gi_refine.specs.Lifting.{IsKnown}
 use Rattle.gi_refine.specs.Reached.{IsReached}
-use Rattle.gi_refine.specs.Refinement.{IsRefinement}
+use Rattle.gi_refine.specs.Refinement.{RefinesUnchecked}
 use Rattle.gi_pattern.specs.Applying.{applied}
 use Rattle.gi_pattern.specs.Data.{MakeData, MatchData}
 use Rattle.gi_pattern.specs.Fitting.{binding_at}
@@ -31,6 +31,6 @@ pub refines-law : (x : ℕ) (phase : Phase) (names : List (List ℕ)) (f : Funct
     → instr_of f id ≡ Some instr → is_formed instr ≡ true → instr.flags ≡ flags 0
     → ((w : World) → IsWorld x w → (state : State) → IsReached (setting_of x names f) w f.blocks (home_of f id) (after_phis (front_of f id)) state
     → IsKnown (setting_of x names f) w (on_values x f (rule_of name root definitions tests makes) b flags) (placing_of f (rule_of name root definitions tests makes) b root).inputs state)
-    → IsRefinement x names f (applied x (rule_of name root definitions tests makes) b id f)
+    → RefinesUnchecked x names f (applied x (rule_of name root definitions tests makes) b id f)
 refines-law x phase names f name root definitions tests makes b id instr flags size sound suits usable valid own had live fits at formed same known =
     sound-refines x names f name root definitions tests makes b id instr flags (is_new_in f) sound size suits (usable-law x phase names f name root definitions tests makes b id instr flags usable valid own had live fits at formed same known)

@@ -8,7 +8,7 @@ use Rattle.gi_pattern.specs.Examples.{difference_of_same, difference_with_consta
 use Rattle.gi_pattern.specs.Fitting.{binding_at}
 use Rattle.gi_pattern.specs.declared.binding.Binding.{Binding}
 use Rattle.gi_pattern.specs.declared.rule.Test.{Test}
-use Rattle.gi_refine.specs.Refinement.{IsRefinement}
+use Rattle.gi_refine.specs.Refinement.{RefinesUnchecked}
 use Rattle.gi_lifting.proofs.Casts.{truncated_extension_certain, truncated_extension_sound}
 use Rattle.gi_lifting.proofs.Parts.{unmerged_pair_certain, unmerged_pair_sound}
 use Rattle.gi_lifting.proofs.Rules.{difference_of_same_sound, difference_with_constant_sound, product_by_power_sound, remainder_by_power_sound, sum_with_zero_certain, sum_with_zero_sound}
@@ -23,7 +23,7 @@ rule_by name matches tests replaces makes = record { name = name; matches = matc
 
 by_parts : (x : ℕ) (names : List (List ℕ)) (f : FunctionData) (name : ℕ) (matches : List MatchData) (tests : List Test) (replaces : List (ℕ × ℕ)) (makes : List MakeData) (b : Binding) (id : ℕ) (instr : InstrData)
     → (x ≡ 32) ⊎ (x ≡ 64) → (r : IsRefiningRule (rule_by name matches tests replaces makes)) → MakesAlone (rule_by name matches tests replaces makes) ⊎ ReplacesAlone (rule_by name matches tests replaces makes) → IsReadyFunction x names f
-    → IsLive f id → binding_at f (rule_by name matches tests replaces makes) id ≡ Some b → instr_of f id ≡ Some instr → IsRefinement x names f (applied x (rule_by name matches tests replaces makes) b id f)
+    → IsLive f id → binding_at f (rule_by name matches tests replaces makes) id ≡ Some b → instr_of f id ≡ Some instr → RefinesUnchecked x names f (applied x (rule_by name matches tests replaces makes) b id f)
 by_parts x names f name [] tests replaces makes b id instr size r side ready live fits at = let none = r.knows in cc
 by_parts x names f name (root ∷ ms) tests [] makes b id instr size r (inl alone) ready live fits at =
     fitting-refines x names f name root ms tests makes b id instr size r.sound alone.usable r.knows r.rows ready.valid (own_numbered f ready.numbered) (had_numbered f ready.numbered) ready.formed ready.typed live fits at ready.fit
@@ -33,7 +33,7 @@ by_parts x names f name (root ∷ ms) tests replaces [] b id instr size r (inr a
 by_parts x names f name (root ∷ ms) tests replaces (make ∷ makes) b id instr size r (inr alone) ready live fits at = let none = alone.none in cc
 
 pub refining-refines : (x : ℕ) (names : List (List ℕ)) (f : FunctionData) (rule : RuleData) (b : Binding) (id : ℕ) (instr : InstrData) → (x ≡ 32) ⊎ (x ≡ 64) → IsRefiningRule rule → IsReadyFunction x names f
-    → IsLive f id → binding_at f rule id ≡ Some b → instr_of f id ≡ Some instr → IsRefinement x names f (applied x rule b id f)
+    → IsLive f id → binding_at f rule id ≡ Some b → instr_of f id ≡ Some instr → RefinesUnchecked x names f (applied x rule b id f)
 refining-refines x names f rule b id instr size r ready live fits at = by_parts x names f rule.name rule.matches rule.tests rule.replaces rule.makes b id instr size r r.side ready live fits at
 
 -- ══ The examples ══

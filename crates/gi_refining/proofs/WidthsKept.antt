@@ -15,10 +15,12 @@ use Rattle.gi_mir.specs.declared.operand.Flags.{Flags}
 use Rattle.gi_mir.specs.declared.operand.MemOp.{MemOp}
 use Rattle.gi_mir.specs.declared.operand.Operand.{Operand}
 use Rattle.gi_mir.specs.declared.operand.Operand.TheVariants as operand
-use Rattle.gi_meaning.specs.Act.{Act, Answer, Asks, Breaks, GenericStores, Leaves, MachineStores, Results, Returns, Stores, StoresThere, alignment, clobbered, extended, from_loaded, generic_load, is_result_register, load}
+use Rattle.gi_meaning.specs.Act.{Act, Answer, Asks, GenericStores, Leaves, MachineStores, Results, Returns, Stores, StoresThere, alignment, clobbered, extended, from_loaded, generic_load, is_result_register, load}
+use Rattle.gi_meaning.specs.Act as an_answer
 use Rattle.gi_meaning.specs.Argument.{Argument, Bits, Number, Symbol, Value}
 use Rattle.gi_meaning.specs.Generic.{constant, symbol_address}
-use Rattle.gi_meaning.specs.Given.{Given, Undefined}
+use Rattle.gi_meaning.specs.Given.{Given}
+use Rattle.gi_meaning.specs.Given as a_given
 use Rattle.gi_meaning.specs.Machine.{is_immediate}
 use Rattle.gi_meaning.specs.Meaning.{Meaning, Copying, Generic, Loading, Storing, MachineLoading, MachineStoring, Machine, Jumping, Branching, MachineBranching, Calling, Returning, Nothing, Joining, Extension, Anything, Zeros, Signs, is_joining, meaning_of}
 use Rattle.gi_meaning.specs.Memory.{Memory, is_aligned, loaded}
@@ -34,7 +36,7 @@ use Rattle.gi_refine.proofs.FittedSteps.{AnswerFits, AreArgumentsFit, AreFit, Ar
 use Rattle.gi_refine.proofs.Invariants.{invariant_holds}
 use Rattle.gi_refine.proofs.SizedAnswers.{AtMost, IsAnswerSized, act_sized, loaded_small}
 use Rattle.gi_refine.proofs.SizedOperations.{AreSmall}
-use Rattle.gi_refine.proofs.Targets.{or_breaks, breaks_or}
+use Rattle.gi_refine.proofs.Targets.{or_undefined, undefined_or}
 use Rattle.gi_valid.proofs.Answering.{act_fine}
 use Rattle.gi_valid.proofs.Defining.{in_function}
 use Rattle.gi_valid.proofs.Single.{IsIn}
@@ -116,7 +118,7 @@ progress_fit s state ps (Results results outside) fits bytes keeping =
 progress_fit s state ps (Leaves block) fits bytes keeping = keeping
 progress_fit s state ps (Returns words) fits bytes keeping = tt
 progress_fit s state ps (Asks callee words) fits bytes keeping = tt
-progress_fit s state ps Breaks fits bytes keeping = tt
+progress_fit s state ps an_answer.Undefined fits bytes keeping = tt
 
 -- ══ What an instruction answers ══
 
@@ -213,8 +215,8 @@ load_fits extension x (Some mem) (n ∷ []) (Value l address ∷ []) memory byte
     let m : ℕ = width_of x mem.ty in
     let whole : 8 * (m / 8) ≤ m = omega (arith, div-mul-le_self m 8) in
     let read : Option ℕ = loaded x (m / 8) memory address in
-    either_fits mem.load (n ∷ []) (load x (alignment x mem) m n extension memory address) Undefined
-    (λ loads. either_fits (is_aligned (alignment x mem) address) (n ∷ []) (from_loaded read extension m n) Undefined
+    either_fits mem.load (n ∷ []) (load x (alignment x mem) m n extension memory address) a_given.Undefined
+    (λ loads. either_fits (is_aligned (alignment x mem) address) (n ∷ []) (from_loaded read extension m n) a_given.Undefined
     (λ aligned. read_fits extension x mem n read passes (some_below (8 * (m / 8)) m read whole (loaded_small x (m / 8) memory address bytes))) (nothing_given (n ∷ [])))
     (nothing_given (n ∷ []))
 load_fits extension x _ _ _ memory bytes passes = λ results given. absurd given
@@ -234,17 +236,17 @@ stored_there_fits ns (Some v) x bytes address value outside a h = subst (AnswerF
 
 stored_fits : (ns : List ℕ) (x align bytes address value : ℕ) (outside : Outside) (a : Answer) → Stores x align bytes address value outside a → AnswerFits ns a
 stored_fits ns x align bytes address value outside a h =
-    or_breaks (AnswerFits ns) tt (is_aligned align address) (StoresThere (loaded x bytes outside.memory address) x bytes address value outside a) a
+    or_undefined (AnswerFits ns) tt (is_aligned align address) (StoresThere (loaded x bytes outside.memory address) x bytes address value outside a) a
     (stored_there_fits ns (loaded x bytes outside.memory address) x bytes address value outside a) h
 
 store_fits : (ns : List ℕ) (x : ℕ) (mem : Option MemOp) (arguments : List Argument) (outside : Outside) (a : Answer) → GenericStores x mem arguments outside a → AnswerFits ns a
 store_fits ns x (Some mem) (Value n value ∷ Value l address ∷ []) outside a h =
-    breaks_or (AnswerFits ns) tt mem.load (Stores x (alignment x mem) _ address value outside a) a (stored_fits ns x (alignment x mem) _ address value outside a) h
+    undefined_or (AnswerFits ns) tt mem.load (Stores x (alignment x mem) _ address value outside a) a (stored_fits ns x (alignment x mem) _ address value outside a) h
 store_fits ns x _ _ outside a h = subst (AnswerFits ns) (sym h) tt
 
 machine_store_fits : (ns : List ℕ) (x : ℕ) (exists : ℕ → Bool) (bytes : ℕ) (arguments : List Argument) (outside : Outside) (a : Answer) → MachineStores x exists bytes arguments outside a → AnswerFits ns a
 machine_store_fits ns x exists bytes (Value n value ∷ Value l base ∷ Number offset ∷ []) outside a h =
-    or_breaks (AnswerFits ns) tt (exists x && is_immediate offset) (Stores x bytes bytes _ value outside a) a (stored_fits ns x bytes bytes _ value outside a) h
+    or_undefined (AnswerFits ns) tt (exists x && is_immediate offset) (Stores x bytes bytes _ value outside a) a (stored_fits ns x bytes bytes _ value outside a) h
 machine_store_fits ns x exists bytes _ outside a h = subst (AnswerFits ns) (sym h) tt
 
 -- ══ Calls, and instructions of the machine ══
@@ -281,7 +283,7 @@ sized_fits x ns (Results results outside) wide sized = words_fit x ns results wi
 sized_fits x ns (Leaves block) wide sized = tt
 sized_fits x ns (Returns words) wide sized = tt
 sized_fits x ns (Asks callee words) wide sized = tt
-sized_fits x ns Breaks wide sized = tt
+sized_fits x ns an_answer.Undefined wide sized = tt
 
 -- values that are no wider are words
 words_given : (x : ℕ) (arguments : List Argument) → AreArgumentsFit arguments → list_all (λ m. nat_le m x) (widths_given arguments) ≡ true → AreSmall x arguments
@@ -350,7 +352,7 @@ bytes_left s w is_world m mem ns arguments state (Results results outside) bytes
 bytes_left s w is_world m mem ns arguments state (Leaves block) bytes act = tt
 bytes_left s w is_world m mem ns arguments state (Returns words) bytes act = tt
 bytes_left s w is_world m mem ns arguments state (Asks callee words) bytes act = tt
-bytes_left s w is_world m mem ns arguments state Breaks bytes act = tt
+bytes_left s w is_world m mem ns arguments state an_answer.Undefined bytes act = tt
 
 step_from_keeps : (s : Setting) (w : World) → IsWorld s.x w → (i : InstrData) → FitsBy s w (meaning_of i.flags i.op) i → (state : State) → IsKeeping s state → (arguments : Option (List Argument)) → arguments_of s w state i.operands ≡ arguments
     → AreThereFit arguments → (p : Progress) → StepsFrom s w i state arguments p → GoesOnWith (IsKeeping s) p

@@ -10,7 +10,7 @@ ghost use Rattle.gi_meaning.specs.Runs.{after_phis, is_phi, setting_of};
 ghost use Rattle.gi_meaning.specs.State.{IsWorld, State, World};
 ghost use Rattle.gi_refine.specs.Lifting.{IsKnown};
 ghost use Rattle.gi_refine.specs.Reached.{IsReached};
-ghost use Rattle.gi_refine.specs.Refinement.{IsRefinement};
+ghost use Rattle.gi_refine.specs.Refinement.{RefinesUnchecked};
 ghost use Rattle.gi_pattern.specs.Applying.{applied};
 ghost use Rattle.gi_pattern.specs.Data.{MakeData, MatchData, RuleData};
 ghost use Rattle.gi_pattern.specs.Examples.{difference_of_same, difference_with_constant, product_by_power, remainder_by_power, sum_with_short_constant, sum_with_zero, truncated_extension, unmerged_pair};
@@ -63,7 +63,7 @@ pub fn usable_rule_refines()
         → instr_of f id ≡ Some instr → is_formed instr ≡ true → instr.flags ≡ flags 0
         → ((w : World) → IsWorld x w → (state : State) → IsReached (setting_of x names f) w f.blocks (home_of f id) (after_phis (front_of f id)) state
         → IsKnown (setting_of x names f) w (on_values x f (rule_of name root definitions tests makes) b flags) (placing_of f (rule_of name root definitions tests makes) b root).inputs state)
-        → IsRefinement x names f (applied x (rule_of name root definitions tests makes) b id f) }
+        → RefinesUnchecked x names f (applied x (rule_of name root definitions tests makes) b id f) }
 {}
 
 /// These example rules meet the condition.
@@ -158,7 +158,7 @@ pub fn fitting_rule_refines()
         → IsValid x Typed f → AreOwnIds f.blocks f.next_id → HasHadAll f → are_formed f ≡ true → have_types f ≡ true
         → IsLive f id → binding_at f (rule_of name root definitions tests makes) id ≡ Some b
         → instr_of f id ≡ Some instr → FitsAnywhere x names f
-        → IsRefinement x names f (applied x (rule_of name root definitions tests makes) b id f) }
+        → RefinesUnchecked x names f (applied x (rule_of name root definitions tests makes) b id f) }
 {}
 
 /// In a valid function of formed instructions whose registers have types, constants are in range and as wide as their
@@ -184,7 +184,7 @@ pub fn replaced_rule_refines()
         → IsValid x phase f → AreOwnIds f.blocks f.next_id → HasHadAll f → are_sized x f ≡ true → FitsAnywhere x names f
         → IsLive f id → binding_at f (replacing_of name root definitions tests replaces) id ≡ Some b
         → instr_of f id ≡ Some instr → is_formed instr ≡ true
-        → IsRefinement x names f (applied x (replacing_of name root definitions tests replaces) b id f) }
+        → RefinesUnchecked x names f (applied x (replacing_of name root definitions tests replaces) b id f) }
 {}
 
 /// These example rules meet the condition of those that replace.
@@ -215,7 +215,7 @@ pub fn fitting_replacement_refines()
         → IsValid x Typed f → AreOwnIds f.blocks f.next_id → HasHadAll f → are_formed f ≡ true → have_types f ≡ true → FitsAnywhere x names f
         → IsLive f id → binding_at f (replacing_of name root definitions tests replaces) id ≡ Some b
         → instr_of f id ≡ Some instr
-        → IsRefinement x names f (applied x (replacing_of name root definitions tests replaces) b id f) }
+        → RefinesUnchecked x names f (applied x (replacing_of name root definitions tests replaces) b id f) }
 {}
 
 /// One law: a sound rule that makes instructions or replaces registers, and meets the conditions on its own list, refines each valid
@@ -224,7 +224,7 @@ pub fn sound_rule_refines()
     ensures { (x : ℕ) (names : List (List ℕ)) (f : FunctionData) (rule : RuleData) (b : Binding) (id : ℕ) (instr : InstrData)
         → (x ≡ 32) ⊎ (x ≡ 64) → IsRefiningRule rule → IsReadyFunction x names f
         → IsLive f id → binding_at f rule id ≡ Some b → instr_of f id ≡ Some instr
-        → IsRefinement x names f (applied x rule b id f) }
+        → RefinesUnchecked x names f (applied x rule b id f) }
 {}
 
 /// These example rules are such rules.
@@ -250,11 +250,11 @@ pub fn fitting_rules_are_used()
     ensures ready { IsReadyFunction 32 [] takes_five }
     ensures fits { binding_at takes_five difference_with_constant 9 ≡ Some takes_five_bound }
     ensures becomes { applied 32 difference_with_constant takes_five_bound 9 takes_five ≡ adds_the_rest }
-    ensures refines { IsRefinement 32 [] takes_five adds_the_rest }
+    ensures refines { RefinesUnchecked 32 [] takes_five adds_the_rest }
     ensures loop_ready { IsReadyFunction 32 [] adds_zero }
     ensures loop_fits { binding_at adds_zero sum_with_zero 11 ≡ Some adds_zero_bound }
     ensures loop_becomes { applied 32 sum_with_zero adds_zero_bound 11 adds_zero ≡ goes_on }
-    ensures loop_refines { IsRefinement 32 [] adds_zero goes_on }
+    ensures loop_refines { RefinesUnchecked 32 [] adds_zero goes_on }
 {}
 
 /// A remainder by a power becomes the low bits, in a valid function that the first test of sizes refuses: the wider one passes, and so
@@ -266,7 +266,7 @@ pub fn remainders_are_used()
     ensures ready { IsReadyFunction 32 [] takes_rest }
     ensures fits { binding_at takes_rest remainder_by_power 9 ≡ Some takes_rest_bound }
     ensures becomes { applied 32 remainder_by_power takes_rest_bound 9 takes_rest ≡ keeps_low_bits }
-    ensures refines { IsRefinement 32 [] takes_rest keeps_low_bits }
+    ensures refines { RefinesUnchecked 32 [] takes_rest keeps_low_bits }
 {}
 
 /// A load with zeros above, whose memory validity looks at: a function that loads a byte into a register of 32 bits is ready, and

@@ -3,7 +3,7 @@ use Rattle.std.proofs.Common.{false, [], ◌∷◌, ◌++◌, refl, arith}
 use Rattle.gi_mir.specs.Data.{no_flags}
 use Rattle.gi_refine.specs.Examples.{block_of, names}
 use Rattle.gi_refine.specs.OnePlace.{only_virtual}
-use Rattle.gi_refine.specs.Refinement.{IsRefinement}
+use Rattle.gi_refine.specs.Refinement.{RefinesUnchecked}
 use Rattle.gi_refine.specs.TestedUse.{IsTestedUse}
 use Rattle.gi_refine.proofs.Covering.{covered_by}
 use Rattle.gi_refine.proofs.StraightUses.{straight_refines}
@@ -39,7 +39,7 @@ shift_tested = record {
 }
 
 -- a shift of 32 bits by 3 is SLLIW
-pub shift_refines : IsRefinement 64 names (on_half generic_shift) (on_half word_shift)
+pub shift_refines : RefinesUnchecked 64 names (on_half generic_shift) (on_half word_shift)
 shift_refines =
     straight_refines 64 names half_and_three generic_shift word_shift half_returned (λ r. false) (λ w. shift_left_half_by no_flags 3) shift_placed
     (record {

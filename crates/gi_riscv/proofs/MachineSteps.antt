@@ -4,11 +4,13 @@ use Rattle.std.proofs.Math.Nat.{mod-eq_of_lt}
 use Rattle.gi_mir.specs.declared.opcode.Opcode.{Opcode}
 use Rattle.gi_mir.specs.declared.operand.Flags.{Flags}
 use Rattle.gi_meaning.specs.Argument.{Argument, Value, Number}
-use Rattle.gi_meaning.specs.Given.{Given, Exactly, LowBits, Undefined, IsGiven, one, unless_broken}
+use Rattle.gi_meaning.specs.Given.{Given, Exactly, LowBits, IsGiven, one, unless_broken}
+use Rattle.gi_meaning.specs.Given as a_given
 use Rattle.gi_meaning.specs.Machine.{on_words}
 use Rattle.gi_meaning.specs.Meaning.{Generic, Machine, meaning_of}
 use Rattle.gi_meaning.specs.State.{World, Outside}
-use Rattle.gi_meaning.specs.Act.{Answer, Results, Breaks, Act, Answers, AnswersWords, fitted, IsWordOf}
+use Rattle.gi_meaning.specs.Act.{Answer, Results, Act, Answers, AnswersWords, fitted, IsWordOf}
+use Rattle.gi_meaning.specs.Act as an_answer
 use Rattle.gi_refine.specs.Values.{Environment, Slot, Operation, Fact, Rule, Acts, ActsFrom, Makes, MayMake, Then, answered, arguments_at}
 use Rattle.gi_refine.proofs.Basics.{not_below_itself}
 use Rattle.gi_refine.proofs.RuleSteps.{SameGiven, Gives, GivesNone, answers_given, unless_given, words_exactly}
@@ -17,7 +19,7 @@ use Rattle.gi_refine.proofs.RuleSteps.{SameGiven, Gives, GivesNone, answers_give
 
 -- the value is among what is given, or nothing is promised
 abbrev pub MayGive : Given → ℕ → Type 0
-MayGive Undefined v = Unit {0}
+MayGive a_given.Undefined v = Unit {0}
 MayGive (Exactly results) v = IsGiven (Exactly results) (v ∷ [])
 MayGive (LowBits known width value) v = IsGiven (LowBits known width value) (v ∷ [])
 
@@ -43,8 +45,8 @@ acts x w outside op flags slots n env gives arguments answer means are given =
 may_make_of : (x : ℕ) (w : World) (outside : Outside) (inputs : List ℕ) (facts : List Fact) (o : Operation) (new : List Operation) (k j n v : ℕ) (env env' : Environment) (given : Given)
     → ((answer : Answer) → Answers given outside answer → Acts x w o outside env answer) → o.widths ≡ n ∷ [] → slice_get env' j ≡ slice_get (env ++ (n, v) ∷ []) k → MayGive given v
     → MayMake x w outside (rule_of inputs facts o new k j) env (Some env')
-may_make_of x w outside inputs facts o new k j n v env env' Undefined act widths there may =
-    inr (Breaks, act Breaks refl, refl)
+may_make_of x w outside inputs facts o new k j n v env env' a_given.Undefined act widths there may =
+    inr (an_answer.Undefined, act an_answer.Undefined refl, refl)
 may_make_of x w outside inputs facts o new k j n v env env' (Exactly results) act widths there may =
     inl (
       env ++ (n, v) ∷ [],

@@ -13,7 +13,7 @@ ghost use Rattle.gi_meaning.specs.Meaning.{Machine, meaning_of};
 ghost use Rattle.gi_meaning.specs.Machine.{is_immediate};
 ghost use Rattle.gi_meaning.specs.State.{IsWorld, World};
 ghost use Rattle.gi_refine.specs.Examples.{names};
-ghost use Rattle.gi_refine.specs.Refinement.{IsRefinement};
+ghost use Rattle.gi_refine.specs.Refinement.{RefinesUnchecked};
 ghost use Rattle.gi_refine.specs.Values.{IsSound, Slot};
 ghost use Rattle.gi_riscv.specs.SelectedBranches.{IsSelectedBranch, IsSelectedJump, IsSelectedTest, branch_of};
 ghost use Rattle.gi_riscv.specs.SelectedFunctions.{generic_shift, on_half, word_shift};
@@ -146,5 +146,5 @@ pub fn branches_are_selected()
 
 /// A rule used in a whole function of RV64: a shift of 32 bits by a constant is SLLIW.
 pub fn selection_in_functions_refines()
-    ensures shift { IsRefinement 64 names (on_half generic_shift) (on_half word_shift) }
+    ensures shift { RefinesUnchecked 64 names (on_half generic_shift) (on_half word_shift) }
 {}

@@ -15,7 +15,7 @@ use Rattle.gi_meaning.specs.State.{Event, World, IsWorld, Outside, AreBytes, Are
 use Rattle.gi_meaning.specs.Meaning.{Meaning, Copying, Generic, Machine, Loading, Storing, MachineLoading, MachineStoring, Jumping, Branching, MachineBranching, Calling, Returning, Nothing, Joining, meaning_of, is_joining}
 use Rattle.gi_meaning.specs.Act.{Answer, Results, Leaves, Answers, AnswersWords, copy, generic_load, machine_load, StoresThere, Stores, GenericStores, MachineStores, jump, branch, machine_branch, CallsGlobal, Calls, Act, has_operands, result_registers, passed, words_of, alignment}
 use Rattle.gi_refine.proofs.SizedAnswers.{stored_bytes}
-use Rattle.gi_refine.proofs.Targets.{or_breaks, breaks_or}
+use Rattle.gi_refine.proofs.Targets.{or_undefined, undefined_or}
 use Rattle.gi_valid.specs.Facts.{is_computing}
 
 abbrev pub is_leaving : Meaning → Bool
@@ -48,17 +48,17 @@ stores_there_fine m (Some v) x bytes address value outside a h = subst (IsFine m
 
 stores_fine : (m : Meaning) (x align bytes address value : ℕ) (outside : Outside) (a : Answer) → Stores x align bytes address value outside a → IsFine m outside a
 stores_fine m x align bytes address value outside a h =
-    or_breaks (IsFine m outside) tt (is_aligned align address) (StoresThere (loaded x bytes outside.memory address) x bytes address value outside a) a
+    or_undefined (IsFine m outside) tt (is_aligned align address) (StoresThere (loaded x bytes outside.memory address) x bytes address value outside a) a
     (stores_there_fine m (loaded x bytes outside.memory address) x bytes address value outside a) h
 
 generic_stores_fine : (m : Meaning) (x : ℕ) (mem : Option MemOp) (arguments : List Argument) (outside : Outside) (a : Answer) → GenericStores x mem arguments outside a → IsFine m outside a
 generic_stores_fine m x (Some mem) (Value n value ∷ Value l address ∷ []) outside a h =
-    breaks_or (IsFine m outside) tt mem.load (Stores x (alignment x mem) _ address value outside a) a (stores_fine m x (alignment x mem) _ address value outside a) h
+    undefined_or (IsFine m outside) tt mem.load (Stores x (alignment x mem) _ address value outside a) a (stores_fine m x (alignment x mem) _ address value outside a) h
 generic_stores_fine m x _ _ outside a h = subst (IsFine m outside) (sym h) tt
 
 machine_stores_fine : (m : Meaning) (x : ℕ) (exists : ℕ → Bool) (bytes : ℕ) (arguments : List Argument) (outside : Outside) (a : Answer) → MachineStores x exists bytes arguments outside a → IsFine m outside a
 machine_stores_fine m x exists bytes (Value n value ∷ Value l base ∷ Number offset ∷ []) outside a h =
-    or_breaks (IsFine m outside) tt (exists x && is_immediate offset) (Stores x bytes bytes _ value outside a) a (stores_fine m x bytes bytes _ value outside a) h
+    or_undefined (IsFine m outside) tt (exists x && is_immediate offset) (Stores x bytes bytes _ value outside a) a (stores_fine m x bytes bytes _ value outside a) h
 machine_stores_fine m x exists bytes _ outside a h = subst (IsFine m outside) (sym h) tt
 
 -- ══ Branches ══
@@ -102,7 +102,7 @@ calls_fine : (x : ℕ) (w : World) → IsWorld x w → (arguments : List Argumen
 calls_fine x w is_world (Symbol Call callee address ∷ rest) outside a h =
     global_fine x w is_world callee (words_of (passed rest)) (length (result_registers rest)) outside a h
 calls_fine x w is_world (Called Call routine ∷ rest) outside a h =
-    or_breaks (IsFine Calling outside) tt (has_operands (passed rest) && has_routine x routine) _ a
+    or_undefined (IsFine Calling outside) tt (has_operands (passed rest) && has_routine x routine) _ a
     (λ answered. subst (IsFine Calling outside) (sym answered.2.3) (λ bytes. bytes)) h
 calls_fine x w is_world (Symbol Plain callee address ∷ rest) outside a h = subst (IsFine Calling outside) (sym h) tt
 calls_fine x w is_world (Symbol Hi callee address ∷ rest) outside a h = subst (IsFine Calling outside) (sym h) tt

@@ -10,7 +10,7 @@ use Rattle.gi_mir.specs.declared.operand.Operand.TheVariants as operand
 use Rattle.gi_meaning.specs.Argument.{Argument, Value, Implicit}
 use Rattle.gi_meaning.specs.State.{World, State, Outside, outside_of, Place, Virtual, Physical, put, word_in}
 use Rattle.gi_meaning.specs.Meaning.{Meaning, Calling, Nothing, meaning_of}
-use Rattle.gi_meaning.specs.Act.{Answer, Results, Leaves, Returns, Asks, Breaks, Act, clobbered, is_result_register}
+use Rattle.gi_meaning.specs.Act.{Answer, Results, Leaves, Returns, Asks, Undefined, Act, clobbered, is_result_register}
 use Rattle.gi_meaning.specs.Runs.{Setting, argument_of, joined_lists, arguments_of, places_of, result_places, written_places, width_of_place, put_all, On, Left, going_on, progress_of, StepsFrom, Steps}
 use Rattle.gi_refine.specs.Constants.{is_virtual, writes}
 use Rattle.gi_refine.proofs.Basics.{value_stays}
@@ -47,7 +47,7 @@ ran_by s w i state state' arguments read (Results results outside) act h = recor
 ran_by s w i state state' arguments read (Leaves c) act h = cc
 ran_by s w i state state' arguments read (Returns words) act h = cc
 ran_by s w i state state' arguments read (Asks callee words) act h = cc
-ran_by s w i state state' arguments read Breaks act h = cc
+ran_by s w i state state' arguments read Undefined act h = cc
 
 ran_from : (s : Setting) (w : World) (i : InstrData) (state state' : State) (arguments : Option (List Argument)) → arguments_of s w state i.operands ≡ arguments → StepsFrom s w i state arguments (On state') → Ran s w i state state'
 ran_from s w i state state' None read step = cc
@@ -83,7 +83,7 @@ went_by s w i state c state' arguments (Leaves b) act h =
     }
 went_by s w i state c state' arguments (Returns words) act h = cc
 went_by s w i state c state' arguments (Asks callee words) act h = cc
-went_by s w i state c state' arguments Breaks act h = cc
+went_by s w i state c state' arguments Undefined act h = cc
 
 went_from : (s : Setting) (w : World) (i : InstrData) (state : State) (c : ℕ) (state' : State) (arguments : Option (List Argument)) → StepsFrom s w i state arguments (Left c state') → Went s w i state c state'
 went_from s w i state c state' None step = cc

@@ -1,5 +1,5 @@
--- A run that fails in a world whose trace is cut fails in the world, and one that fails within n block entries fails
--- within more.
+-- A run that is undefined in a world whose trace is cut is so in the world, and one that is undefined within n block
+-- entries is so within more.
 use Rattle.std.proofs.Common.{◌≡◌, ℕ, zero, suc, ◌+◌, Bool, true, false, cond, List, [], ◌∷◌, map, take, Option, Some, None, slice_get, ◌⊎◌, inl, inr, ⊎_elim, length, ◌-◌, add-sub_of_le, le_refl, refl, sym, ap, ◌∙◌, subst, arith}
 use Rattle.std.proofs.Math.Seq.{take-length}
 use Rattle.gi_mir.specs.Data.{InstrData, BlockData, FunctionData}
@@ -9,10 +9,12 @@ use Rattle.gi_mir.specs.declared.operand.Operand.TheVariants as operand
 use Rattle.gi_mir.specs.declared.operand.SymbolFlag.TheVariants.{Plain, Call, Hi, Lo}
 use Rattle.gi_meaning.specs.Argument.{Argument, Symbol, Called}
 use Rattle.gi_meaning.specs.InRow.{checked_blocks}
-use Rattle.gi_meaning.specs.State.{Event, World, State, Outside, outside_of, start, Outcome, Returned, Going, Asking, Fails, Place}
+use Rattle.gi_meaning.specs.State.{Event, World, State, Outside, outside_of, start, Outcome, Returned, Going, Asking, Place}
+use Rattle.gi_meaning.specs.State as an_outcome
 use Rattle.gi_meaning.specs.Meaning.{Meaning, Copying, Calling, meaning_of}
-use Rattle.gi_meaning.specs.Act.{Answer, Results, Leaves, Returns, Asks, Breaks, Act, Calls, CallsGlobal, words_of, passed}
-use Rattle.gi_meaning.specs.Runs.{Setting, setting_of, argument_of, arguments_of, joined_lists, written_places, width_of_place, Progress, On, Left, Over, progress_of, StepsFrom, Steps, After, Executes, phis_of, after_phis, joined, is_among, Follows, RunsAfterPhis, RunsBlock, Enters, Runs, cut, MayFail}
+use Rattle.gi_meaning.specs.Act.{Answer, Results, Leaves, Returns, Asks, Act, Calls, CallsGlobal, words_of, passed}
+use Rattle.gi_meaning.specs.Act as an_answer
+use Rattle.gi_meaning.specs.Runs.{Setting, setting_of, argument_of, arguments_of, joined_lists, written_places, width_of_place, Progress, On, Left, Over, progress_of, StepsFrom, Steps, After, Executes, phis_of, after_phis, joined, is_among, Follows, RunsAfterPhis, RunsBlock, Enters, Runs, cut, MayBeUndefined}
 
 -- ══ The trace ══
 
@@ -74,7 +76,7 @@ asks_over state places (Results results outside) h = absurd h
 asks_over state places (Leaves block) h = absurd h
 asks_over state places (Returns words) h = absurd h
 asks_over state places (Asks callee words) h = tt
-asks_over state places Breaks h = absurd h
+asks_over state places an_answer.Undefined h = absurd h
 
 steps_from_cut : (s : Setting) (w : World) (k : ℕ) (i : InstrData) (state : State) (arguments : Option (List Argument)) (p : Progress)
     → StepsFrom s (cut w k) i state arguments p → StepsFrom s w i state arguments p ⊎ IsAsking p
@@ -112,49 +114,49 @@ executes_cut s w k (i ∷ is) state p run = ⊎_elim
     (λ asks. inr (after_asking run.0 p (Executes s (cut w k) is) asks run.2))
     (steps_cut s w k i.1 state run.0 run.1)
 
--- ══ Whole runs that fail ══
+-- ══ Whole runs that are undefined ══
 
--- entering a block may fail here where it may fail there
-record FailsToo (enters enters' : Option ℕ → ℕ → State → Outcome → Type 0) : Type 0 where
-  by : (from : Option ℕ) (b : ℕ) (state : State) → enters from b state Fails → enters' from b state Fails
+-- entering a block is undefined there where it is here
+record UndefinedToo (enters enters' : Option ℕ → ℕ → State → Outcome → Type 0) : Type 0 where
+  by : (from : Option ℕ) (b : ℕ) (state : State) → enters from b state an_outcome.Undefined → enters' from b state an_outcome.Undefined
 
-falls_too : (enters enters' : Option ℕ → ℕ → State → Outcome → Type 0) → FailsToo enters enters' → (test : Bool) (from : Option ℕ) (b : ℕ) (state : State)
-    → cond test (enters from b state Fails) (Fails ≡ Fails) → cond test (enters' from b state Fails) (Fails ≡ Fails)
+falls_too : (enters enters' : Option ℕ → ℕ → State → Outcome → Type 0) → UndefinedToo enters enters' → (test : Bool) (from : Option ℕ) (b : ℕ) (state : State)
+    → cond test (enters from b state an_outcome.Undefined) (an_outcome.Undefined ≡ an_outcome.Undefined) → cond test (enters' from b state an_outcome.Undefined) (an_outcome.Undefined ≡ an_outcome.Undefined)
 falls_too enters enters' too true from b state run = too.by from b state run
 falls_too enters enters' too false from b state run = run
 
-follows_too : (enters enters' : Option ℕ → ℕ → State → Outcome → Type 0) → FailsToo enters enters' → (b : ℕ) (successors : List ℕ) (p : Progress)
-    → Follows b successors enters p Fails → Follows b successors enters' p Fails
+follows_too : (enters enters' : Option ℕ → ℕ → State → Outcome → Type 0) → UndefinedToo enters enters' → (b : ℕ) (successors : List ℕ) (p : Progress)
+    → Follows b successors enters p an_outcome.Undefined → Follows b successors enters' p an_outcome.Undefined
 follows_too enters enters' too b successors (On state) run = falls_too enters enters' too (is_among (b + 1) successors) (Some b) (b + 1) state run
 follows_too enters enters' too b successors (Left c state) run = too.by (Some b) c state run
 follows_too enters enters' too b successors (Over o) run = run
 
--- what asks doesn't fail
-no_failure : (b : ℕ) (successors : List ℕ) (enters : Option ℕ → ℕ → State → Outcome → Type 0) (p : Progress) → IsAsking p → Follows b successors enters p Fails → ⊥
-no_failure b successors enters (On state) asks run = asks
-no_failure b successors enters (Left c state) asks run = asks
-no_failure b successors enters (Over (Asking callee words memory taken)) asks run = subst (λ o. IsAsking (Over o) → ⊥) run (λ h. h) tt
-no_failure b successors enters (Over (Returned words memory taken)) asks run = asks
-no_failure b successors enters (Over (Going memory taken)) asks run = asks
-no_failure b successors enters (Over Fails) asks run = asks
+-- what asks isn't undefined
+not_undefined : (b : ℕ) (successors : List ℕ) (enters : Option ℕ → ℕ → State → Outcome → Type 0) (p : Progress) → IsAsking p → Follows b successors enters p an_outcome.Undefined → ⊥
+not_undefined b successors enters (On state) asks run = asks
+not_undefined b successors enters (Left c state) asks run = asks
+not_undefined b successors enters (Over (Asking callee words memory taken)) asks run = subst (λ o. IsAsking (Over o) → ⊥) run (λ h. h) tt
+not_undefined b successors enters (Over (Returned words memory taken)) asks run = asks
+not_undefined b successors enters (Over (Going memory taken)) asks run = asks
+not_undefined b successors enters (Over an_outcome.Undefined) asks run = asks
 
-phis_too : (s : Setting) (w : World) (k b : ℕ) (block : BlockData) (enters enters' : Option ℕ → ℕ → State → Outcome → Type 0) → FailsToo enters enters' → (state : Option State)
-    → RunsAfterPhis s (cut w k) b block enters state Fails → RunsAfterPhis s w b block enters' state Fails
+phis_too : (s : Setting) (w : World) (k b : ℕ) (block : BlockData) (enters enters' : Option ℕ → ℕ → State → Outcome → Type 0) → UndefinedToo enters enters' → (state : Option State)
+    → RunsAfterPhis s (cut w k) b block enters state an_outcome.Undefined → RunsAfterPhis s w b block enters' state an_outcome.Undefined
 phis_too s w k b block enters enters' too None run = run
 phis_too s w k b block enters enters' too (Some state) run = ⊎_elim
     (λ ran. (run.0, ran, follows_too enters enters' too b block.successors run.0 run.2))
-    (λ asks. absurd (no_failure b block.successors enters run.0 asks run.2))
+    (λ asks. absurd (not_undefined b block.successors enters run.0 asks run.2))
     (executes_cut s w k (after_phis block.instrs) state run.0 run.1)
 
-block_too : (s : Setting) (w : World) (k : ℕ) (block : Option BlockData) (enters enters' : Option ℕ → ℕ → State → Outcome → Type 0) → FailsToo enters enters'
-    → FailsToo (RunsBlock s (cut w k) block enters) (RunsBlock s w block enters')
+block_too : (s : Setting) (w : World) (k : ℕ) (block : Option BlockData) (enters enters' : Option ℕ → ℕ → State → Outcome → Type 0) → UndefinedToo enters enters'
+    → UndefinedToo (RunsBlock s (cut w k) block enters) (RunsBlock s w block enters')
 block_too s w k None enters enters' too = record { by = λ from b state run. run }
 block_too s w k (Some block) enters enters' too = record {
   by = λ from b state run.
       phis_too s w k b block enters enters' too (joined state from (phis_of block.instrs)) run;
 }
 
-enters_too : (s : Setting) (w : World) (k : ℕ) (blocks : List BlockData) (n : ℕ) → FailsToo (Enters s (cut w k) blocks n) (Enters s w blocks n)
+enters_too : (s : Setting) (w : World) (k : ℕ) (blocks : List BlockData) (n : ℕ) → UndefinedToo (Enters s (cut w k) blocks n) (Enters s w blocks n)
 enters_too s w k blocks zero = record { by = λ from b state run. run }
 enters_too s w k blocks (suc n) = record {
   by = λ from b state run.
@@ -163,48 +165,48 @@ enters_too s w k blocks (suc n) = record {
 
 -- ══ More block entries ══
 
-phis_more : (s : Setting) (w : World) (b : ℕ) (block : BlockData) (enters enters' : Option ℕ → ℕ → State → Outcome → Type 0) → FailsToo enters enters' → (state : Option State)
-    → RunsAfterPhis s w b block enters state Fails → RunsAfterPhis s w b block enters' state Fails
+phis_more : (s : Setting) (w : World) (b : ℕ) (block : BlockData) (enters enters' : Option ℕ → ℕ → State → Outcome → Type 0) → UndefinedToo enters enters' → (state : Option State)
+    → RunsAfterPhis s w b block enters state an_outcome.Undefined → RunsAfterPhis s w b block enters' state an_outcome.Undefined
 phis_more s w b block enters enters' too None run = run
 phis_more s w b block enters enters' too (Some state) run = (run.0, run.1, follows_too enters enters' too b block.successors run.0 run.2)
 
-block_more : (s : Setting) (w : World) (block : Option BlockData) (enters enters' : Option ℕ → ℕ → State → Outcome → Type 0) → FailsToo enters enters'
-    → FailsToo (RunsBlock s w block enters) (RunsBlock s w block enters')
+block_more : (s : Setting) (w : World) (block : Option BlockData) (enters enters' : Option ℕ → ℕ → State → Outcome → Type 0) → UndefinedToo enters enters'
+    → UndefinedToo (RunsBlock s w block enters) (RunsBlock s w block enters')
 block_more s w None enters enters' too = record { by = λ from b state run. run }
 block_more s w (Some block) enters enters' too = record {
   by = λ from b state run.
       phis_more s w b block enters enters' too (joined state from (phis_of block.instrs)) run;
 }
 
-going_fails : (memory : ℕ → Option ℕ) (taken : ℕ) → Fails ≡ Going memory taken → ⊥
-going_fails memory taken h = subst IsGoing' h tt
+going_undefined : (memory : ℕ → Option ℕ) (taken : ℕ) → an_outcome.Undefined ≡ Going memory taken → ⊥
+going_undefined memory taken h = subst IsGoing' h tt
   where
     IsGoing' : Outcome → Type 0
     IsGoing' (Going m t) = ⊥
     IsGoing' _ = Unit {0}
 
-enters_more : (s : Setting) (w : World) (blocks : List BlockData) (n d : ℕ) → FailsToo (Enters s w blocks n) (Enters s w blocks (n + d))
-enters_more s w blocks zero d = record { by = λ from b state run. absurd (going_fails state.memory state.taken run) }
+enters_more : (s : Setting) (w : World) (blocks : List BlockData) (n d : ℕ) → UndefinedToo (Enters s w blocks n) (Enters s w blocks (n + d))
+enters_more s w blocks zero d = record { by = λ from b state run. absurd (going_undefined state.memory state.taken run) }
 enters_more s w blocks (suc n) d =
     let e : suc n + d ≡ suc (n + d) = omega arith in
     record {
       by = λ from b state run.
-          subst (λ m. Enters s w blocks m from b state Fails) (sym e)
+          subst (λ m. Enters s w blocks m from b state an_outcome.Undefined) (sym e)
           ((block_more s w (slice_get blocks b) (Enters s w blocks n) (Enters s w blocks (n + d)) (enters_more s w blocks n d)).by from b state run);
     }
 
--- a function may fail exactly where it runs to what is undefined
-pub fails_from_may : (x : ℕ) (names : List (List ℕ)) (f : FunctionData) (w : World) (n : ℕ) → MayFail x names f w n → Runs x names f w n Fails
-fails_from_may x names f w n may =
+-- a function may be undefined exactly where it runs to what is undefined
+pub undefined_from_may : (x : ℕ) (names : List (List ℕ)) (f : FunctionData) (w : World) (n : ℕ) → MayBeUndefined x names f w n → Runs x names f w n an_outcome.Undefined
+undefined_from_may x names f w n may =
     let s : Setting = setting_of x names f in
-    let here : Runs x names f w may.entries Fails = (enters_too s w may.events (checked_blocks x f) may.entries).by None 0 (start w) may.fails in
+    let here : Runs x names f w may.entries an_outcome.Undefined = (enters_too s w may.events (checked_blocks x f) may.entries).by None 0 (start w) may.undefined in
     let e : may.entries + (n - may.entries) ≡ n = add-sub_of_le may.within in
-    subst (λ m. Runs x names f w m Fails) e ((enters_more s w (checked_blocks x f) may.entries (n - may.entries)).by None 0 (start w) here)
+    subst (λ m. Runs x names f w m an_outcome.Undefined) e ((enters_more s w (checked_blocks x f) may.entries (n - may.entries)).by None 0 (start w) here)
 
-pub may_from_fails : (x : ℕ) (names : List (List ℕ)) (f : FunctionData) (w : World) (n : ℕ) → Runs x names f w n Fails → MayFail x names f w n
-may_from_fails x names f w n fails = record {
+pub may_from_undefined : (x : ℕ) (names : List (List ℕ)) (f : FunctionData) (w : World) (n : ℕ) → Runs x names f w n an_outcome.Undefined → MayBeUndefined x names f w n
+may_from_undefined x names f w n undefined = record {
   events = length w.trace;
   entries = n;
   within = le_refl n;
-  fails = subst (λ (t : List Event). Runs x names f (record w { trace = t }) n Fails) (sym (take-length w.trace)) fails;
+  undefined = subst (λ (t : List Event). Runs x names f (record w { trace = t }) n an_outcome.Undefined) (sym (take-length w.trace)) undefined;
 }
