@@ -2,8 +2,9 @@
 -- GlobalISel, "Legalizer": an instruction is legal where its types are ones that the target can select. The rows are those
 -- of RV32 and RV64 with M and without Zbb; sX, p0 and s32 are the types that LLVM's rules for RISC-V name.)
 use Rattle.std.specs.Prelude.{ℕ, pos, ◌+◌, ◌/◌, Bool, true, false, ◌&&◌, ◌||◌, nat_lt, nat_le, ◌==◌, List, [], ◌∷◌, ◌++◌, Option, Some, None, if◌then◌else◌}
-use Rattle.std.specs.List.{list_all, list_any}
+use Rattle.std.specs.List.{filter_map, list_all, list_any}
 use Rattle.std.specs.Option.{option_map_or}
+use Rattle.std.specs.Ordering.{int_eq}
 use Rattle.gi_llt.specs.Llt.{width_of}
 use Rattle.gi_llt.specs.declared.Llt.{Llt}
 use Rattle.gi_llt.specs.declared.Llt.TheVariants.{Scalar, Pointer}
@@ -17,8 +18,8 @@ use Rattle.gi_mir.specs.declared.opcode.Opcode.TheVariants as op
 use Rattle.gi_mir.specs.declared.operand.MemOp.{MemOp}
 use Rattle.gi_mir.specs.declared.operand.Operand.{Operand}
 use Rattle.gi_mir.specs.declared.operand.Operand.TheVariants as operand
-use Rattle.gi_rules.specs.declared.legal.LegalType.{LegalType}
-use Rattle.gi_rules.specs.declared.legal.LegalType.TheVariants as legal
+use Rattle.gi_rules.specs.declared.table.LegalType.{LegalType}
+use Rattle.gi_rules.specs.declared.table.LegalType.TheVariants as legal
 
 -- ══ Rows: the types of an instruction's virtual registers in the order of its operands, then the type in memory ══
 
@@ -154,8 +155,7 @@ legal_rows _ = []
 
 -- the number of G_SEXT_INREG is 32, on RV64
 abbrev pub is_legal_number : (x : ℕ) → Opcode → Operand → Bool
-is_legal_number x op.GenericSignExtendInRegister (operand.Int (pos k)) = (x == 64) && (k == 32)
-is_legal_number x op.GenericSignExtendInRegister (operand.Int k) = false
+is_legal_number x op.GenericSignExtendInRegister (operand.Int k) = (x == 64) && int_eq k (pos 32)
 is_legal_number x _ _ = true
 
 -- a value in memory is aligned to its size in bytes at least; a pointer is, where its alignment is left open by 0
@@ -188,32 +188,38 @@ is_repeated _ = false
 abbrev pub is_legal_there : (x : ℕ) → LegalType → Option Llt → Bool
 is_legal_there x legal ty = option_map_or (is_legal_type x legal) ty false
 
+-- what is left of a row once a type stands first in it, where it may
+abbrev pub left_behind : LegalType → (row : List LegalType) → List LegalType
+left_behind legal row = if is_repeated legal then legal ∷ row else row
+
+abbrev pub left_by : (x : ℕ) → Option Llt → (row : List LegalType) → Option (List LegalType)
+left_by x ty [] = None
+left_by x ty (legal ∷ row) = if is_legal_there x legal ty then Some (left_behind legal row) else None
+
 -- types are those of a row
 abbrev pub fits : (x : ℕ) → (row : List LegalType) → List (Option Llt) → Bool
 fits x row [] = list_all is_repeated row
-fits x [] (ty ∷ types) = false
-fits x (legal ∷ row) (ty ∷ types) = is_legal_there x legal ty && fits x (if is_repeated legal then legal ∷ row else row) types
+fits x row (ty ∷ types) = option_map_or (λ left. fits x left types) (left_by x ty row) false
 
 -- ══ An instruction of a function ══
 
--- the types of the virtual registers among operands
-abbrev pub types_in : FunctionData → List Operand → List (Option Llt)
-types_in f [] = []
-types_in f (operand.Def r kind ∷ os) = type_of_kind (kind_of f r.0) ∷ types_in f os
-types_in f (operand.Use r ∷ os) = type_of_kind (kind_of f r.0) ∷ types_in f os
-types_in f (_ ∷ os) = types_in f os
+-- the type of the virtual register that is this operand, if one is
+abbrev pub type_there : FunctionData → Operand → Option (Option Llt)
+type_there f (operand.Def r kind) = Some (type_of_kind (kind_of f r.0))
+type_there f (operand.Use r) = Some (type_of_kind (kind_of f r.0))
+type_there f _ = None
 
 -- the type in memory, where there is one
 abbrev pub type_in_memory : Option MemOp → List (Option Llt)
 type_in_memory None = []
 type_in_memory (Some mem) = Some mem.ty ∷ []
 
-abbrev pub types_of : FunctionData → InstrData → List (Option Llt)
-types_of f i = types_in f i.operands ++ type_in_memory i.mem
+abbrev pub types_of : FunctionData → List Operand → Option MemOp → List (Option Llt)
+types_of f operands mem = filter_map (type_there f) operands ++ type_in_memory mem
 
 abbrev pub is_legal : (x : ℕ) → FunctionData → InstrData → Bool
 is_legal x f i =
-    list_any (λ row. fits x row (types_of f i)) (legal_rows i.op)
+    list_any (λ row. fits x row (types_of f i.operands i.mem)) (legal_rows i.op)
     && list_all (is_legal_number x i.op) i.operands
     && option_map_or (is_legal_access x) i.mem true
 

@@ -1,4 +1,5 @@
-//! Legality: the instructions that the legaliser leaves as they are.
+//! Legality: the instructions that stand behind the legaliser.
 #![tactic(auto)]
 
 pub mod legal;
+pub mod table;
