@@ -6,8 +6,8 @@ ghost use Rattle.std.specs.Option.{option_map_or};
 ghost use Rattle.gi_mir.specs.Registers.{type_of_kind};
 ghost use Rattle.gi_rules.specs.Legal as legal;
 
-use crate::table::{legal_rows, LegalType};
-use gi_llt::{width, Llt, Target};
+use crate::table::{LegalType, legal_rows};
+use gi_llt::{Llt, Target, width};
 use gi_mir::entry::InMemory;
 use gi_mir::function::Function;
 use gi_mir::instr::Instr;
@@ -153,8 +153,7 @@ fn fits_row(
     requires { x ≤ 64 }
     ensures { result ≡ list_any (λ row. legal.fits x row.now (legal.types_of function.now operands.now mem)) rows.now }
 {
-    rows.iter()
-        .any(|row| fits(x, function, operands, mem, row))
+    rows.iter().any(|row| fits(x, function, operands, mem, row))
 }
 
 /// Whether an instruction's types are those of a row of its opcode.

@@ -50,8 +50,10 @@ const WHOLE: &[&[LegalType]] = &[&[Register, Register, Register]];
 /// `%d:A = G_ADD %a, %b`
 const WHOLE_OR_HALF: &[&[LegalType]] = &[&[Half, Half, Half], &[Register, Register, Register]];
 /// `%d:sX = G_ICMP intpred(P), %a(B), %b`
-const COMPARISON: &[&[LegalType]] =
-    &[&[Register, Register, Register], &[Register, Pointer, Pointer]];
+const COMPARISON: &[&[LegalType]] = &[
+    &[Register, Register, Register],
+    &[Register, Pointer, Pointer],
+];
 /// `%d:A = G_SELECT %c(sX), %a, %b`
 const SELECTION: &[&[LegalType]] = &[
     &[Register, Register, Register, Register],
@@ -110,7 +112,8 @@ pub fn legal_rows(op: Opcode) -> &'static [&'static [LegalType]]
         | Opcode::AdjustCallStackUp => NO_TYPE,
         Opcode::GenericBranchConditional => CONDITION,
         Opcode::GenericTruncate => TRUNCATION,
-        Opcode::GenericAnyExtend | Opcode::GenericZeroExtend | Opcode::GenericSignExtend => EXTENSION,
+        Opcode::GenericAnyExtend | Opcode::GenericZeroExtend | Opcode::GenericSignExtend =>
+            EXTENSION,
         Opcode::GenericSignExtendInRegister => IN_REGISTER,
         Opcode::GenericLoad | Opcode::GenericStore => MEMORY,
         Opcode::GenericZeroExtendLoad | Opcode::GenericSignExtendLoad => EXTENDING_LOAD,
