@@ -217,9 +217,13 @@ type_in_memory (Some mem) = Some mem.ty ∷ []
 abbrev pub types_of : FunctionData → List Operand → Option MemOp → List (Option Llt)
 types_of f operands mem = filter_map (type_there f) operands ++ type_in_memory mem
 
+-- an instruction's types are those of a row of its opcode
+abbrev pub has_row : (x : ℕ) → FunctionData → InstrData → Bool
+has_row x f i = list_any (λ row. fits x row (types_of f i.operands i.mem)) (legal_rows i.op)
+
 abbrev pub is_legal : (x : ℕ) → FunctionData → InstrData → Bool
 is_legal x f i =
-    list_any (λ row. fits x row (types_of f i.operands i.mem)) (legal_rows i.op)
+    has_row x f i
     && list_all (is_legal_number x i.op) i.operands
     && option_map_or (is_legal_access x) i.mem true
 

@@ -160,7 +160,7 @@ fn fits_row(
 #[tactic(auto, using(gi_mir::proofs::FormedLemmas::any_mapped))]
 fn has_row(x: u16, function: &Function, instr: &Instr) -> bool
     requires { x ≤ 64 }
-    ensures { result ≡ list_any (λ row. legal.fits x row (legal.types_of function.now instr.now.operands instr.now.mem)) (legal.legal_rows instr.now.op) }
+    ensures { result ≡ legal.has_row x function.now instr.now }
 {
     let operands = instr.operands.as_slice();
     fits_row(x, function, operands, instr.mem, legal_rows(instr.op))
