@@ -8,14 +8,14 @@ use Rattle.gi_mir.specs.declared.operand.StackObject.{StackObject}
 use Rattle.gi_spelling.specs.declared.token.RegisterClass.{RegisterClass}
 use Rattle.gi_spelling.specs.declared.written.Wrong.{Wrong}
 use Rattle.gi_spelling.specs.Blocks.{blocks_in}
-use Rattle.gi_spelling.specs.Documents.{Document, read_document, tables_of}
+use Rattle.gi_spelling.specs.Documents.{Document, key_word, read_document, tables_of}
 use Rattle.gi_spelling.specs.Lines.{Line, Section}
 use Rattle.gi_spelling.specs.Named.{IsNamedFunction}
 use Rattle.gi_spelling.specs.Read.{IsReadAs}
 use Rattle.gi_resolve.specs.Meant.{IsNumberOf}
 use Rattle.gi_mir_read.specs.Begun.{begun, keyed}
-use Rattle.gi_mir_read.specs.Keyed.{under_bar, word_of}
-use Rattle.gi_mir_read.specs.declared.keys.Key.TheVariants.{Body}
+use Rattle.gi_mir_read.specs.Keyed.{under_bar}
+use Rattle.gi_spelling.specs.declared.written.Key.TheVariants.{Body}
 use Rattle.gi_mir_read.specs.ReadBlocks.{BlocksAreRead, tables_in}
 use Rattle.gi_resolve.proofs.NamingLemmas.{number-kept}
 
@@ -52,7 +52,7 @@ module _ (text : List ℕ) (middle new : List (List ℕ)) (sections : List Secti
   -- the blocks of a document are read
   pub document-read : (bare whole : FunctionData) (classes : List (ℕ × RegisterClass)) (objects : ℕ) (lines : List Line)
       → bare ≡ keyed number (read_document text sections) → whole ≡ fold with_stack bare (read_document text sections).objects
-      → classes ≡ (read_document text sections).classes → objects ≡ length (read_document text sections).objects → lines ≡ under_bar text (word_of Body) sections
+      → classes ≡ (read_document text sections).classes → objects ≡ length (read_document text sections).objects → lines ≡ under_bar text (key_word Body) sections
       → BlocksAreRead text (tables_in text classes objects (blocks_in text lines)) (blocks_in text lines) middle new whole g before after
       → BlocksAreRead text (tables_of text (read_document text sections)) (read_document text sections).blocks middle new (begun number (read_document text sections)) g before after
   document-read bare whole classes objects lines bare_is whole_is classes_are objects_are lines_are read =

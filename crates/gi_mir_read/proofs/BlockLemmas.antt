@@ -1,6 +1,6 @@
 -- One block after the other.
 use Rattle.std.proofs.Common.{◌≡◌, ℕ, suc, ◌+◌, ◌≤◌, Bool, true, false, List, [], ◌∷◌, ◌++◌, Option, Some, None, map, length, refl, sym, ap, ◌∙◌, subst, append_assoc, arith}
-use Rattle.std.specs.Prelude.{All, filter_map, flat_map, fold, min, not, nat_eq, ◌&&◌, ◌==◌, unwrap_or, if◌then◌else◌, is_some}
+use Rattle.std.specs.Prelude.{All, filter_map, flat_map, fold, not, nat_eq, ◌&&◌, ◌==◌, unwrap_or, if◌then◌else◌, is_some}
 use Rattle.std.specs.List.{AllZip, cons_option, list_any, position_from}
 use Rattle.std.specs.Option.{option_map_or}
 use Rattle.std.proofs.lemmas.List.Elements.{All-head, All-tail}
@@ -22,7 +22,7 @@ use Rattle.gi_mir.specs.declared.operand.Kind.{Kind}
 use Rattle.gi_mir.specs.declared.operand.Reg.{Reg}
 use Rattle.gi_mir.specs.Registers.{type_of_kind}
 use Rattle.gi_spelling.specs.Named.{IsNamedFunction, IsNamedInstr}
-use Rattle.gi_spelling.specs.Resolved.{Tables, block_place}
+use Rattle.gi_spelling.specs.Resolved.{Tables, block_place, place_of_no_block}
 use Rattle.gi_spelling.proofs.NamedLemmas.{named_function}
 use Rattle.gi_mir_read.specs.declared.told.Told.{Told}
 use Rattle.gi_mir_read.specs.Blocked.{IsCutAtBlock, IsToldIn, blocks_of, head_of, section_of, told_at, told_lines_at}
@@ -126,7 +126,7 @@ pub came-first : (numbers earlier rest : List ℕ) (n place : ℕ) → numbers �
 came-first numbers earlier rest n place are long =
     let found = placed n 0 earlier rest in
     let at : block_place numbers n ≡ found.at =
-    ap (λ list. block_place list n) are ∙ ap (λ where_it_is. unwrap_or where_it_is (min (65536 + n) 4294967295)) (position_from-zero (nat_eq n) (earlier ++ n ∷ rest) ∙ found.is) in
+    ap (λ list. block_place list n) are ∙ ap (λ where_it_is. unwrap_or where_it_is (place_of_no_block n)) (position_from-zero (nat_eq n) (earlier ++ n ∷ rest) ∙ found.is) in
     let length_is : 0 + length earlier ≡ place = omega (arith, long) in
     ap (λ p. p == place) at ∙ ap (λ p. found.at == p) (sym length_is) ∙ found.same
 

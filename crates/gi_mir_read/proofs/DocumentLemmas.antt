@@ -13,7 +13,7 @@ use Rattle.gi_llt.specs.Tokens.{is_word_byte}
 use Rattle.gi_spelling.specs.Blocks.{wrong}
 use Rattle.gi_spelling.specs.declared.written.Fault.TheVariants as fault
 use Rattle.gi_spelling.specs.declared.written.Wrong.{Wrong}
-use Rattle.gi_spelling.specs.Documents.{entries_wrongs, entry_wrongs, is_again, is_name, key_wrongs, lower, name_value, under_wrongs}
+use Rattle.gi_spelling.specs.Documents.{entries_wrongs, entry_wrongs, is_again, is_name, key_spelled, keyed_wrongs, lower, name_value, under_wrongs}
 use Rattle.gi_spelling.specs.Lines as lines
 use Rattle.gi_spelling.specs.Lines.{is_entry, is_entry_of, key_of}
 
@@ -85,9 +85,9 @@ name_right text earlier section named none = chosen (not (is_entry section.head.
     word : key_of section.head.bytes ≡ codes "name"
     word = (bytes_eq-Decides (key_of section.head.bytes) (codes "name")).0 (same (is_entry section.head.bytes) (bytes_eq (key_of section.head.bytes) (codes "name")) named)
 
-    chosen : (test : Bool) → cond test (wrong section.head.number fault.Syntax ∷ []) (key_wrongs text (key_of section.head.bytes) section) ≡ [] → is_name (name_value section) ≡ true
+    chosen : (test : Bool) → cond test (wrong section.head.number fault.Syntax ∷ []) (keyed_wrongs text (key_spelled (key_of section.head.bytes)) section) ≡ [] → is_name (name_value section) ≡ true
     chosen true none = cc
-    chosen false none = under (is_name (name_value section)) (sym (ap (λ key. key_wrongs text key section) word) ∙ none)
+    chosen false none = under (is_name (name_value section)) (sym (ap (λ bytes. keyed_wrongs text (key_spelled bytes) section) word) ∙ none)
 
 pub name_is_text : (text : List ℕ) (earlier sections : List lines.Section) → entries_wrongs text earlier sections ≡ []
     → is_utf8 (option_map_or name_value (find (is_entry_of (codes "name")) sections) []) ≡ true

@@ -1,6 +1,6 @@
 -- The first entry of each key, entry by entry.
 use Rattle.std.proofs.Common.{◌≡◌, ◌≢◌, ℕ, ◌==◌, Bool, true, false, cond, List, [], ◌∷◌, ◌++◌, Some, None, length, refl, sym, ap, ◌∙◌, subst}
-use Rattle.std.specs.Prelude.{not, ◌&&◌, ◌||◌, Option, IfSome, is_none, is_some, find, fold, option_map, bytes_eq, codes}
+use Rattle.std.specs.Prelude.{not, ◌&&◌, ◌||◌, Option, IfSome, is_none, is_some, find, fold, option_map, bytes_eq}
 use Rattle.std.specs.List.{list_any}
 use Rattle.std.proofs.lemmas.Slice.Eq.{bytes_eq-Decides}
 use Rattle.gi_spelling.specs.Lines as lines
@@ -8,63 +8,17 @@ use Rattle.gi_spelling.specs.Lines.{is_entry, is_entry_of, key_of}
 use Rattle.gi_spelling.specs.Blocks.{wrong}
 use Rattle.gi_spelling.specs.declared.written.Fault.TheVariants as fault
 use Rattle.gi_spelling.specs.declared.written.Wrong.{Wrong}
-use Rattle.gi_spelling.specs.Documents.{entry_of, entry_wrongs, is_again, is_missing, key_wrongs, known_keys, lower}
+use Rattle.gi_spelling.specs.Documents.{entry_of, entry_wrongs, is_again, is_missing, key_spelled, key_word, key_wrongs, keyed_wrongs, lower}
 use Rattle.gi_mir_read.specs.declared.keys.Firsts.{Firsts}
-use Rattle.gi_mir_read.specs.declared.keys.Key.{Key}
-use Rattle.gi_mir_read.specs.declared.keys.Key.TheVariants.{Name, Legalized, Banked, Selected, Registers, Stack, Body}
+use Rattle.gi_spelling.specs.declared.written.Key.{Key}
+use Rattle.gi_spelling.specs.declared.written.Key.TheVariants.{Name, Legalized, Banked, Selected, Registers, Stack, Body}
 use Rattle.gi_mir_read.specs.declared.sections.Section.{Section}
-use Rattle.gi_mir_read.specs.Keyed.{AreFirsts, first_of, key_spelled, place_of, word_of}
+use Rattle.gi_mir_read.specs.Keyed.{AreFirsts, first_of, place_of}
 use Rattle.gi_mir_read.specs.Sectioned.{IsSectionIn, section_at}
-
--- ══ Words and keys ══
-
-pub spelled_back : (key : Key) → key_spelled (word_of key) ≡ Some key
-spelled_back Name = refl
-spelled_back Legalized = refl
-spelled_back Banked = refl
-spelled_back Selected = refl
-spelled_back Registers = refl
-spelled_back Stack = refl
-spelled_back Body = refl
+use Rattle.gi_spelling.proofs.ReadWrongs.{spelled_back, spelled_word}
 
 same_bytes : (xs ys : List ℕ) → bytes_eq xs ys ≡ true → xs ≡ ys
 same_bytes xs ys is = (bytes_eq-Decides xs ys).0 is
-
-pub spelled_word : (word : List ℕ) (key : Key) → key_spelled word ≡ Some key → word ≡ word_of key
-spelled_word word key is =
-    chosen (bytes_eq word (codes "name")) refl (bytes_eq word (codes "legalized")) refl (bytes_eq word (codes "regBankSelected")) refl (bytes_eq word (codes "selected")) refl
-    (bytes_eq word (codes "registers")) refl (bytes_eq word (codes "stack")) refl (bytes_eq word (codes "body")) refl is
-  where
-    at : (k : Key) → bytes_eq word (word_of k) ≡ true → Some k ≡ Some key → word ≡ word_of key
-    at k is same = let e : k ≡ key = cc in same_bytes word (word_of k) is ∙ ap word_of e
-
-    chosen : (n : Bool) → bytes_eq word (codes "name") ≡ n → (l : Bool) → bytes_eq word (codes "legalized") ≡ l → (b : Bool) → bytes_eq word (codes "regBankSelected") ≡ b
-        → (s : Bool) → bytes_eq word (codes "selected") ≡ s → (r : Bool) → bytes_eq word (codes "registers") ≡ r → (t : Bool) → bytes_eq word (codes "stack") ≡ t → (o : Bool) → bytes_eq word (codes "body") ≡ o
-        → cond n (Some Name) (cond l (Some Legalized) (cond b (Some Banked) (cond s (Some Selected) (cond r (Some Registers) (cond t (Some Stack) (cond o (Some Body) None)))))) ≡ Some key → word ≡ word_of key
-    chosen true n l is_l b is_b s is_s r is_r t is_t o is_o is = at Name n is
-    chosen false n true is_l b is_b s is_s r is_r t is_t o is_o is = at Legalized is_l is
-    chosen false n false is_l true is_b s is_s r is_r t is_t o is_o is = at Banked is_b is
-    chosen false n false is_l false is_b true is_s r is_r t is_t o is_o is = at Selected is_s is
-    chosen false n false is_l false is_b false is_s true is_r t is_t o is_o is = at Registers is_r is
-    chosen false n false is_l false is_b false is_s false is_r true is_t o is_o is = at Stack is_t is
-    chosen false n false is_l false is_b false is_s false is_r false is_t true is_o is = at Body is_o is
-    chosen false n false is_l false is_b false is_s false is_r false is_t false is_o is = cc
-
-pub is_known : (word : List ℕ) → list_any (bytes_eq word) known_keys ≡ is_some (key_spelled word)
-is_known word =
-    chosen (bytes_eq word (codes "name")) (bytes_eq word (codes "legalized")) (bytes_eq word (codes "regBankSelected")) (bytes_eq word (codes "selected"))
-    (bytes_eq word (codes "registers")) (bytes_eq word (codes "stack")) (bytes_eq word (codes "body"))
-  where
-    chosen : (n l b s r t o : Bool) → (n || (l || (b || (s || (r || (t || (o || false)))))))
-        ≡ is_some (cond n (Some Name) (cond l (Some Legalized) (cond b (Some Banked) (cond s (Some Selected) (cond r (Some Registers) (cond t (Some Stack) (cond o (Some Body) None)))))))
-    chosen true l b s r t o = refl
-    chosen false true b s r t o = refl
-    chosen false false true s r t o = refl
-    chosen false false false true r t o = refl
-    chosen false false false false true t o = refl
-    chosen false false false false false true o = refl
-    chosen false false false false false false true = refl
-    chosen false false false false false false false = refl
 
 -- ══ First entries ══
 
@@ -111,15 +65,15 @@ key_back Body = refl
 abbrev word_at : (text : List ℕ) → Section → List ℕ
 word_at text section = key_of (section_at text section).head.bytes
 
-same_key : (word : List ℕ) (key other : Key) → key_spelled word ≡ Some key → bytes_eq word (word_of other) ≡ true → other ≡ key
+same_key : (word : List ℕ) (key other : Key) → key_spelled word ≡ Some key → bytes_eq word (key_word other) ≡ true → other ≡ key
 same_key word key other spelled is =
-    let back : Some other ≡ Some key = sym (spelled_back other) ∙ ap key_spelled (sym (same_bytes word (word_of other) is)) ∙ spelled in
+    let back : Some other ≡ Some key = sym (spelled_back other) ∙ ap key_spelled (sym (same_bytes word (key_word other) is)) ∙ spelled in
     cc
 
-other_place : (word : List ℕ) (key other : Key) → key_spelled word ≡ Some key → bytes_eq word (word_of other) ≡ false → place_of other ≢ place_of key
+other_place : (word : List ℕ) (key other : Key) → key_spelled word ≡ Some key → bytes_eq word (key_word other) ≡ false → place_of other ≢ place_of key
 other_place word key other spelled is same =
     let e : other ≡ key = sym (key_back other) ∙ ap key_at same ∙ key_back key in
-    let t : bytes_eq word (word_of other) ≡ true = (bytes_eq-Decides word (word_of other)).1 (spelled_word word key spelled ∙ ap word_of (sym e)) in
+    let t : bytes_eq word (key_word other) ≡ true = (bytes_eq-Decides word (key_word other)).1 (spelled_word word key spelled ∙ ap key_word (sym e)) in
     cc
 
 pub firsts_none : (text : List ℕ) (firsts : Firsts) → ((key : Key) → first_of firsts key ≡ None) → length firsts.entries ≡ 7 → AreFirsts text [] firsts
@@ -130,10 +84,10 @@ firsts_none text firsts none count = record {
 }
 
 pub firsts_skip : (text : List ℕ) (earlier : List lines.Section) (firsts : Firsts) (section : Section) → AreFirsts text earlier firsts
-    → ((key : Key) → is_entry_of (word_of key) (section_at text section) ≡ false) → AreFirsts text (earlier ++ section_at text section ∷ []) firsts
+    → ((key : Key) → is_entry_of (key_word key) (section_at text section) ≡ false) → AreFirsts text (earlier ++ section_at text section ∷ []) firsts
 firsts_skip text earlier firsts section are no_entry = record {
   count = are.count;
-  first = λ key. are.first key ∙ sym (find_other (is_entry_of (word_of key)) earlier (section_at text section) (no_entry key));
+  first = λ key. are.first key ∙ sym (find_other (is_entry_of (key_word key)) earlier (section_at text section) (no_entry key));
   within = are.within;
 }
 
@@ -144,12 +98,12 @@ and_false : (test : Bool) → (test && false) ≡ false
 and_false true = refl
 and_false false = refl
 
-pub other_entry_of : (section : lines.Section) (key : Key) → key_spelled (key_of section.head.bytes) ≡ None → is_entry_of (word_of key) section ≡ false
-other_entry_of section key none = chosen (bytes_eq (key_of section.head.bytes) (word_of key)) refl
+pub other_entry_of : (section : lines.Section) (key : Key) → key_spelled (key_of section.head.bytes) ≡ None → is_entry_of (key_word key) section ≡ false
+other_entry_of section key none = chosen (bytes_eq (key_of section.head.bytes) (key_word key)) refl
   where
-    chosen : (same : Bool) → bytes_eq (key_of section.head.bytes) (word_of key) ≡ same → (is_entry section.head.bytes && same) ≡ false
+    chosen : (same : Bool) → bytes_eq (key_of section.head.bytes) (key_word key) ≡ same → (is_entry section.head.bytes && same) ≡ false
     chosen true is =
-        let back : Some key ≡ None = sym (spelled_back key) ∙ ap key_spelled (sym (same_bytes (key_of section.head.bytes) (word_of key) is)) ∙ none in
+        let back : Some key ≡ None = sym (spelled_back key) ∙ ap key_spelled (sym (same_bytes (key_of section.head.bytes) (key_word key) is)) ∙ none in
         cc
     chosen false is = and_false (is_entry section.head.bytes)
 
@@ -157,17 +111,17 @@ pub firsts_again : (text : List ℕ) (earlier : List lines.Section) (firsts : Fi
     → key_spelled (word_at text section) ≡ Some key → first_of firsts key ≡ Some found → AreFirsts text (earlier ++ section_at text section ∷ []) firsts
 firsts_again text earlier firsts section found key are spelled is = record {
   count = are.count;
-  first = λ k. chosen k (bytes_eq (word_at text section) (word_of k)) refl;
+  first = λ k. chosen k (bytes_eq (word_at text section) (key_word k)) refl;
   within = are.within;
 }
   where
-    chosen : (k : Key) (same : Bool) → bytes_eq (word_at text section) (word_of k) ≡ same → option_map (section_at text) (first_of firsts k) ≡ entry_of (word_of k) (earlier ++ section_at text section ∷ [])
+    chosen : (k : Key) (same : Bool) → bytes_eq (word_at text section) (key_word k) ≡ same → option_map (section_at text) (first_of firsts k) ≡ entry_of (key_word k) (earlier ++ section_at text section ∷ [])
     chosen k true same =
         let e : k ≡ key = same_key (word_at text section) key k spelled same in
         let there : option_map (section_at text) (first_of firsts k) ≡ Some (section_at text found) = ap (option_map (section_at text)) (ap (first_of firsts) e ∙ is) in
-        there ∙ sym (find_before (is_entry_of (word_of k)) earlier (section_at text section) (section_at text found) (sym (are.first k) ∙ there))
+        there ∙ sym (find_before (is_entry_of (key_word k)) earlier (section_at text section) (section_at text found) (sym (are.first k) ∙ there))
     chosen k false same =
-        are.first k ∙ sym (find_other (is_entry_of (word_of k)) earlier (section_at text section) (ap (λ test. is_entry (section_at text section).head.bytes && test) same ∙ and_false (is_entry (section_at text section).head.bytes)))
+        are.first k ∙ sym (find_other (is_entry_of (key_word k)) earlier (section_at text section) (ap (λ test. is_entry (section_at text section).head.bytes && test) same ∙ and_false (is_entry (section_at text section).head.bytes)))
 
 pub firsts_kept : (text : List ℕ) (earlier : List lines.Section) (old new : Firsts) (section : Section) (key : Key) → AreFirsts text earlier old
     → is_entry (section_at text section).head.bytes ≡ true → key_spelled (word_at text section) ≡ Some key → first_of old key ≡ None
@@ -175,22 +129,22 @@ pub firsts_kept : (text : List ℕ) (earlier : List lines.Section) (old new : Fi
     → AreFirsts text (earlier ++ section_at text section ∷ []) new
 firsts_kept text earlier old new section key are entry spelled none kept others count within = record {
   count = count;
-  first = λ k. chosen k (bytes_eq (word_at text section) (word_of k)) refl;
-  within = λ k. inside k (bytes_eq (word_at text section) (word_of k)) refl;
+  first = λ k. chosen k (bytes_eq (word_at text section) (key_word k)) refl;
+  within = λ k. inside k (bytes_eq (word_at text section) (key_word k)) refl;
 }
   where
-    chosen : (k : Key) (same : Bool) → bytes_eq (word_at text section) (word_of k) ≡ same → option_map (section_at text) (first_of new k) ≡ entry_of (word_of k) (earlier ++ section_at text section ∷ [])
+    chosen : (k : Key) (same : Bool) → bytes_eq (word_at text section) (key_word k) ≡ same → option_map (section_at text) (first_of new k) ≡ entry_of (key_word k) (earlier ++ section_at text section ∷ [])
     chosen k true same =
         let e : k ≡ key = same_key (word_at text section) key k spelled same in
         let there : option_map (section_at text) (first_of new k) ≡ Some (section_at text section) = ap (option_map (section_at text)) (ap (first_of new) e ∙ kept) in
-        let before : entry_of (word_of k) earlier ≡ None = sym (are.first k) ∙ ap (option_map (section_at text)) (ap (first_of old) e ∙ none) in
-        let test : is_entry_of (word_of k) (section_at text section) ≡ true = ap (λ t. t && bytes_eq (word_at text section) (word_of k)) entry ∙ same in
-        there ∙ sym (find_behind (is_entry_of (word_of k)) earlier (section_at text section) before ∙ ap (λ t. cond t (Some (section_at text section)) None) test)
+        let before : entry_of (key_word k) earlier ≡ None = sym (are.first k) ∙ ap (option_map (section_at text)) (ap (first_of old) e ∙ none) in
+        let test : is_entry_of (key_word k) (section_at text section) ≡ true = ap (λ t. t && bytes_eq (word_at text section) (key_word k)) entry ∙ same in
+        there ∙ sym (find_behind (is_entry_of (key_word k)) earlier (section_at text section) before ∙ ap (λ t. cond t (Some (section_at text section)) None) test)
     chosen k false same =
         ap (option_map (section_at text)) (others k (other_place (word_at text section) key k spelled same)) ∙ are.first k
-        ∙ sym (find_other (is_entry_of (word_of k)) earlier (section_at text section) (ap (λ test. is_entry (section_at text section).head.bytes && test) same ∙ and_false (is_entry (section_at text section).head.bytes)))
+        ∙ sym (find_other (is_entry_of (key_word k)) earlier (section_at text section) (ap (λ test. is_entry (section_at text section).head.bytes && test) same ∙ and_false (is_entry (section_at text section).head.bytes)))
 
-    inside : (k : Key) (same : Bool) → bytes_eq (word_at text section) (word_of k) ≡ same → IfSome (first_of new k) (IsSectionIn text)
+    inside : (k : Key) (same : Bool) → bytes_eq (word_at text section) (key_word k) ≡ same → IfSome (first_of new k) (IsSectionIn text)
     inside k true same = subst (λ (found : Option Section). IfSome found (IsSectionIn text)) (sym (ap (first_of new) (same_key (word_at text section) key k spelled same) ∙ kept)) within
     inside k false same = subst (λ (found : Option Section). IfSome found (IsSectionIn text)) (sym (others k (other_place (word_at text section) key k spelled same))) (are.within k)
 
@@ -200,37 +154,21 @@ pub wrong_no_entry : (text : List ℕ) (earlier : List lines.Section) (section :
     → entry_wrongs text earlier section ≡ wrong section.head.number fault.Syntax ∷ []
 wrong_no_entry text earlier section is = rw is refl
 
-other_wrongs : (text word : List ℕ) (section : lines.Section) → key_spelled word ≡ None → key_wrongs text word section ≡ []
-other_wrongs text word section none = cond_none (bytes_eq word (codes "name")) (bytes_eq word (codes "legalized")) (bytes_eq word (codes "regBankSelected")) (bytes_eq word (codes "selected"))
-    (bytes_eq word (codes "registers")) (bytes_eq word (codes "stack")) (bytes_eq word (codes "body")) _ _ _ _ _ none
-  where
-    cond_none : (n l b s r t o : Bool) (name truth registers stack body : List Wrong)
-        → cond n (Some Name) (cond l (Some Legalized) (cond b (Some Banked) (cond s (Some Selected) (cond r (Some Registers) (cond t (Some Stack) (cond o (Some Body) None)))))) ≡ None
-        → cond n name (cond (l || b || s) truth (cond r registers (cond t stack (cond o body [])))) ≡ []
-    cond_none true l b s r t o name truth registers stack body none = cc
-    cond_none false true b s r t o name truth registers stack body none = cc
-    cond_none false false true s r t o name truth registers stack body none = cc
-    cond_none false false false true r t o name truth registers stack body none = cc
-    cond_none false false false false true t o name truth registers stack body none = cc
-    cond_none false false false false false true o name truth registers stack body none = cc
-    cond_none false false false false false false true name truth registers stack body none = cc
-    cond_none false false false false false false false name truth registers stack body none = refl
-
 no_again : (earlier : List lines.Section) (section : lines.Section) → key_spelled (key_of section.head.bytes) ≡ None → is_again earlier section ≡ false
 no_again earlier section none =
-    ap (λ known. known && list_any (is_entry_of (key_of section.head.bytes)) earlier) (is_known (key_of section.head.bytes) ∙ ap is_some none)
+    ap (λ spelled. is_some spelled && list_any (is_entry_of (key_of section.head.bytes)) earlier) none
 
 pub wrong_unknown : (text : List ℕ) (earlier : List lines.Section) (section : lines.Section) → is_entry section.head.bytes ≡ true → key_spelled (key_of section.head.bytes) ≡ None
     → entry_wrongs text earlier section ≡ []
 wrong_unknown text earlier section is none =
-    ap (λ test. cond (not test || is_again earlier section) (wrong section.head.number fault.Syntax ∷ []) (key_wrongs text (key_of section.head.bytes) section)) is
-    ∙ ap (λ test. cond test (wrong section.head.number fault.Syntax ∷ []) (key_wrongs text (key_of section.head.bytes) section)) (no_again earlier section none)
-    ∙ other_wrongs text (key_of section.head.bytes) section none
+    ap (λ test. cond (not test || is_again earlier section) (wrong section.head.number fault.Syntax ∷ []) (keyed_wrongs text (key_spelled (key_of section.head.bytes)) section)) is
+    ∙ ap (λ test. cond test (wrong section.head.number fault.Syntax ∷ []) (keyed_wrongs text (key_spelled (key_of section.head.bytes)) section)) (no_again earlier section none)
+    ∙ ap (λ spelled. keyed_wrongs text spelled section) none
 
 again_is : (text : List ℕ) (earlier : List lines.Section) (firsts : Firsts) (section : lines.Section) (key : Key) → AreFirsts text earlier firsts → key_spelled (key_of section.head.bytes) ≡ Some key
     → is_again earlier section ≡ is_some (option_map (section_at text) (first_of firsts key))
 again_is text earlier firsts section key are spelled =
-    ap (λ known. known && list_any (is_entry_of (key_of section.head.bytes)) earlier) (is_known (key_of section.head.bytes) ∙ ap is_some spelled)
+    ap (λ found. is_some found && list_any (is_entry_of (key_of section.head.bytes)) earlier) spelled
     ∙ any_found (is_entry_of (key_of section.head.bytes)) earlier
     ∙ ap (λ word. is_some (entry_of word earlier)) (spelled_word (key_of section.head.bytes) key spelled)
     ∙ ap is_some (sym (are.first key))
@@ -239,21 +177,21 @@ pub wrong_again : (text : List ℕ) (earlier : List lines.Section) (firsts : Fir
     → is_entry section.head.bytes ≡ true → key_spelled (key_of section.head.bytes) ≡ Some key → first_of firsts key ≡ Some found
     → entry_wrongs text earlier section ≡ wrong section.head.number fault.Syntax ∷ []
 wrong_again text earlier firsts section found key are is spelled there =
-    ap (λ test. cond (not test || is_again earlier section) (wrong section.head.number fault.Syntax ∷ []) (key_wrongs text (key_of section.head.bytes) section)) is
-    ∙ ap (λ test. cond test (wrong section.head.number fault.Syntax ∷ []) (key_wrongs text (key_of section.head.bytes) section))
+    ap (λ test. cond (not test || is_again earlier section) (wrong section.head.number fault.Syntax ∷ []) (keyed_wrongs text (key_spelled (key_of section.head.bytes)) section)) is
+    ∙ ap (λ test. cond test (wrong section.head.number fault.Syntax ∷ []) (keyed_wrongs text (key_spelled (key_of section.head.bytes)) section))
     (again_is text earlier firsts section key are spelled ∙ ap (λ first. is_some (option_map (section_at text) first)) there)
 
 pub wrong_first : (text : List ℕ) (earlier : List lines.Section) (firsts : Firsts) (section : lines.Section) (key : Key) → AreFirsts text earlier firsts
     → is_entry section.head.bytes ≡ true → key_spelled (key_of section.head.bytes) ≡ Some key → first_of firsts key ≡ None
-    → entry_wrongs text earlier section ≡ key_wrongs text (word_of key) section
+    → entry_wrongs text earlier section ≡ key_wrongs text key section
 wrong_first text earlier firsts section key are is spelled none =
-    ap (λ test. cond (not test || is_again earlier section) (wrong section.head.number fault.Syntax ∷ []) (key_wrongs text (key_of section.head.bytes) section)) is
-    ∙ ap (λ test. cond test (wrong section.head.number fault.Syntax ∷ []) (key_wrongs text (key_of section.head.bytes) section))
+    ap (λ test. cond (not test || is_again earlier section) (wrong section.head.number fault.Syntax ∷ []) (keyed_wrongs text (key_spelled (key_of section.head.bytes)) section)) is
+    ∙ ap (λ test. cond test (wrong section.head.number fault.Syntax ∷ []) (keyed_wrongs text (key_spelled (key_of section.head.bytes)) section))
     (again_is text earlier firsts section key are spelled ∙ ap (λ first. is_some (option_map (section_at text) first)) none)
-    ∙ ap (λ word. key_wrongs text word section) (spelled_word (key_of section.head.bytes) key spelled)
+    ∙ ap (λ found. keyed_wrongs text found section) spelled
 
-pub missing_is : (text : List ℕ) (sections : List lines.Section) (firsts : Firsts) (key : Key) → AreFirsts text sections firsts → is_none (first_of firsts key) ≡ is_missing (word_of key) sections
-missing_is text sections firsts key are = none_there (first_of firsts key) ∙ ap (λ found. not (is_some found)) (are.first key) ∙ ap not (sym (any_found (is_entry_of (word_of key)) sections))
+pub missing_is : (text : List ℕ) (sections : List lines.Section) (firsts : Firsts) (key : Key) → AreFirsts text sections firsts → is_none (first_of firsts key) ≡ is_missing (key_word key) sections
+missing_is text sections firsts key are = none_there (first_of firsts key) ∙ ap (λ found. not (is_some found)) (are.first key) ∙ ap not (sym (any_found (is_entry_of (key_word key)) sections))
   where
     none_there : (found : Option Section) → is_none found ≡ not (is_some (option_map (section_at text) found))
     none_there None = refl

@@ -5,10 +5,10 @@ use Rattle.std.specs.Prelude.{if◌then◌else◌}
 use Rattle.gi_spelling.specs.Kept.{is_comma}
 use Rattle.gi_spelling.specs.declared.token.Item.{Item}
 use Rattle.gi_spelling.specs.declared.token.What.TheVariants as what
-use Rattle.gi_spelling.specs.Reading.{Split, onto_split, onto_first_part, is_equals, without_first, parts_of, split_at_equals, split_at_colons}
-use Rattle.gi_mir_read.specs.declared.split.Separator.{Separator}
-use Rattle.gi_mir_read.specs.declared.split.Separator.TheVariants.{Comma, Equals, Colons}
-use Rattle.gi_mir_read.specs.Splits.{begins, width_of, split_at, parts_left}
+use Rattle.gi_spelling.specs.Reading.{Split, onto_split, onto_first_part, begins, width_of, split_at, parts_of}
+use Rattle.gi_spelling.specs.declared.written.Separator.{Separator}
+use Rattle.gi_spelling.specs.declared.written.Separator.TheVariants.{Comma}
+use Rattle.gi_mir_read.specs.Splits.{parts_left}
 
 abbrev pub any_item : Item
 any_item = record { what = what.Other; start = 0; end = 0 }
@@ -16,19 +16,6 @@ any_item = record { what = what.Other; start = 0; end = 0 }
 -- tokens before those of a split
 abbrev pub onto_all : List Item → Split → Split
 onto_all items split = record split { before = items ++ split.before }
-
-pub equals-split : (items : List Item) → split_at Equals items ≡ split_at_equals items
-equals-split [] = refl
-equals-split (item ∷ rest) =
-    ap (λ later. if is_equals item.what then record { before = []; after = Some rest } else onto_split item later) (equals-split rest)
-
-behind-colons : (item : Item) (rest : List Item) → drop 2 (item ∷ rest) ≡ without_first rest
-behind-colons item [] = refl
-behind-colons item (next ∷ rest) = refl
-
-pub colons-split : (items : List Item) → split_at Colons items ≡ split_at_colons items
-colons-split [] = refl
-colons-split (item ∷ rest) = rw (behind-colons item rest, colons-split rest) refl
 
 pub parts-split : (items : List Item) → parts_of items ≡ (split_at Comma items).before ∷ parts_left (split_at Comma items).after
 parts-split [] = refl

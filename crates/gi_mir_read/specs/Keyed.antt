@@ -1,34 +1,14 @@
 -- The first entry of each key that counts, as the reader keeps it.
-use Rattle.std.specs.Prelude.{◌≡◌, ℕ, List, [], Option, Some, None, IfSome, bytes_eq, codes, length, option_map, slice_index_or, if◌then◌else◌}
+use Rattle.std.specs.Prelude.{◌≡◌, ℕ, List, [], Option, None, IfSome, length, option_map, slice_index_or, if◌then◌else◌}
 use Rattle.std.specs.Option.{option_map_or}
 use Rattle.gi_spelling.specs.Items.{value_items}
 use Rattle.gi_spelling.specs.Lines as lines
-use Rattle.gi_spelling.specs.Documents.{entry_of, is_bar, name_value}
+use Rattle.gi_spelling.specs.Documents.{entry_of, is_bar, key_word, name_value}
 use Rattle.gi_mir_read.specs.declared.keys.Firsts.{Firsts}
-use Rattle.gi_mir_read.specs.declared.keys.Key.{Key}
-use Rattle.gi_mir_read.specs.declared.keys.Key.TheVariants.{Name, Legalized, Banked, Selected, Registers, Stack, Body}
+use Rattle.gi_spelling.specs.declared.written.Key.{Key}
+use Rattle.gi_spelling.specs.declared.written.Key.TheVariants.{Name, Legalized, Banked, Selected, Registers, Stack, Body}
 use Rattle.gi_mir_read.specs.declared.sections.Section.{Section}
 use Rattle.gi_mir_read.specs.Sectioned.{IsSectionIn, section_at}
-
-abbrev pub word_of : Key → List ℕ
-word_of Name = codes "name"
-word_of Legalized = codes "legalized"
-word_of Banked = codes "regBankSelected"
-word_of Selected = codes "selected"
-word_of Registers = codes "registers"
-word_of Stack = codes "stack"
-word_of Body = codes "body"
-
-abbrev pub key_spelled : List ℕ → Option Key
-key_spelled word =
-    if bytes_eq word (codes "name") then Some Name
-    else if bytes_eq word (codes "legalized") then Some Legalized
-    else if bytes_eq word (codes "regBankSelected") then Some Banked
-    else if bytes_eq word (codes "selected") then Some Selected
-    else if bytes_eq word (codes "registers") then Some Registers
-    else if bytes_eq word (codes "stack") then Some Stack
-    else if bytes_eq word (codes "body") then Some Body
-    else None
 
 -- the place of a key among those that count
 abbrev pub place_of : Key → ℕ
@@ -57,5 +37,5 @@ under_bar text key entries = option_map_or (λ section. if is_bar (value_items t
 -- the first entry of each key among these entries
 pub record AreFirsts (text : List ℕ) (entries : List lines.Section) (firsts : Firsts) : Type 0 where
   pub count : length firsts.entries ≡ 7
-  pub first : (key : Key) → option_map (section_at text) (first_of firsts key) ≡ entry_of (word_of key) entries
+  pub first : (key : Key) → option_map (section_at text) (first_of firsts key) ≡ entry_of (key_word key) entries
   pub within : (key : Key) → IfSome (first_of firsts key) (IsSectionIn text)

@@ -10,7 +10,7 @@ ghost use Rattle.gi_resolve.specs.Meant.{IsNumberOf};
 ghost use Rattle.gi_mir_read.specs.Begun.{keyed};
 ghost use Rattle.gi_mir_read.specs.Keyed.{AreFirsts, AreFirstsIn};
 
-use crate::keys::{Firsts, Key};
+use crate::keys::Firsts;
 use crate::objects::objects;
 use crate::registers::registers;
 use crate::stated::{is_key_true, list_under};
@@ -20,6 +20,7 @@ use gi_mir::names::Names;
 use gi_mir::operand::StackObject;
 use gi_resolve::numbering::Classes;
 use gi_spelling::token::RegisterClass;
+use gi_spelling::written::Key;
 use std::alloc::Global;
 
 /// The number of a name. One that is no text has none of its own.

@@ -13,7 +13,7 @@ use crate::beginning::{add_stack, classes_of, keyed, number_of};
 use crate::blocks::blocks;
 use crate::document_lines::{counted, end_number, note_strays, without_line};
 use crate::entries::entries;
-use crate::keys::{Firsts, Key};
+use crate::keys::Firsts;
 use crate::refusal::settle;
 use crate::sections::{Mark, Section};
 use crate::stated::{lines_under_bar, note_missing, value_of};
@@ -21,6 +21,7 @@ use crate::wrongs::Lowest;
 use gi_llt::Memory;
 use gi_mir::function::Function;
 use gi_mir::names::Names;
+use gi_spelling::written::Key;
 use gi_text::TextError;
 use std::alloc::Global;
 

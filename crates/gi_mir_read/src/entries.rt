@@ -6,13 +6,13 @@ ghost use Rattle.gi_spelling.specs.Items.{value_items};
 ghost use Rattle.gi_spelling.specs.Lines as spelled;
 ghost use Rattle.gi_spelling.specs.Lines.{behind_colon, value_bytes};
 ghost use Rattle.gi_text.specs.Cutting.{slice};
-ghost use Rattle.gi_mir_read.specs.Keyed.{AreFirsts, word_of};
+ghost use Rattle.gi_mir_read.specs.Keyed.{AreFirsts};
 ghost use Rattle.gi_mir_read.specs.Placed.{IsLineIn, line_at, lines_at};
 ghost use Rattle.gi_mir_read.specs.Sectioned.{IsSectionIn, section_at, sections_in};
-ghost use Rattle.gi_mir_read.specs.declared.keys.Key.TheVariants.{Name, Legalized, Banked, Selected, Registers, Stack, Body};
+ghost use Rattle.gi_spelling.specs.declared.written.Key.TheVariants.{Name, Legalized, Banked, Selected, Registers, Stack, Body};
 ghost use Rattle.gi_mir_read.specs.declared.sections.Mark.TheVariants.{Entry};
 
-use crate::keys::{Firsts, Key};
+use crate::keys::{Firsts, key_spelled};
 use crate::line_bytes::{behind_colon, is_entry, key_of, value_bytes};
 use crate::lines::Line;
 use crate::objects::note_objects;
@@ -21,7 +21,7 @@ use crate::sections::{Mark, Section};
 use crate::values::{is_bar, is_name, list_value, truth_fault, value_items};
 use crate::wrongs::Lowest;
 use gi_llt::Memory;
-use gi_spelling::written::{Fault, ListValue};
+use gi_spelling::written::{Fault, Key, ListValue};
 use std::alloc::Global;
 
 /// The name that a line states.
@@ -35,7 +35,7 @@ pub(crate) fn name_value<'a>(text: &'a [u8], line: Line) -> &'a [u8]
 /// Notes what is wrong with an entry of `name`.
 fn note_name(text: &[u8], section: Section<'_>, lowest: &mut Lowest)
     requires { IsSectionIn text.now section }
-    ensures { lowest.new ≡ fold lower lowest.old (key_wrongs text.now (word_of Name) (section_at text.now section.entry)) }
+    ensures { lowest.new ≡ fold lower lowest.old (key_wrongs text.now Name (section_at text.now section.entry)) }
 {
     if is_name(name_value(text, section.head)) {
         lowest.note_under(section.under);
@@ -107,7 +107,7 @@ fn note_classes(
 ) -> Result<(), Memory>
     requires section { IsSectionIn text.now section }
     requires short { length text.now < 2 ^ 32 - 1 }
-    ensures { OnOk result (lowest.new ≡ fold lower lowest.old (key_wrongs text.now (word_of Registers) (section_at text.now section.entry))) }
+    ensures { OnOk result (lowest.new ≡ fold lower lowest.old (key_wrongs text.now Registers (section_at text.now section.entry))) }
 {
     match list_of(alloc, text, section.head)? {
         ListValue::Entries => note_registers(alloc, text, section.under, lowest)?,
@@ -126,7 +126,7 @@ fn note_stack(
 ) -> Result<(), Memory>
     requires section { IsSectionIn text.now section }
     requires short { length text.now < 2 ^ 32 - 1 }
-    ensures { OnOk result (lowest.new ≡ fold lower lowest.old (key_wrongs text.now (word_of Stack) (section_at text.now section.entry))) }
+    ensures { OnOk result (lowest.new ≡ fold lower lowest.old (key_wrongs text.now Stack (section_at text.now section.entry))) }
 {
     match list_of(alloc, text, section.head)? {
         ListValue::Entries => note_objects(alloc, text, section.under, lowest)?,
@@ -145,7 +145,7 @@ fn note_body(
 ) -> Result<(), Memory>
     requires section { IsSectionIn text.now section }
     requires short { length text.now < 2 ^ 32 - 1 }
-    ensures { OnOk result (lowest.new ≡ fold lower lowest.old (key_wrongs text.now (word_of Body) (section_at text.now section.entry))) }
+    ensures { OnOk result (lowest.new ≡ fold lower lowest.old (key_wrongs text.now Body (section_at text.now section.entry))) }
 {
     if !has_bar(alloc, text, section.head)? {
         lowest.note(section.head.number, Fault::Syntax);
@@ -163,7 +163,7 @@ fn note_value(
 ) -> Result<(), Memory>
     requires section { IsSectionIn text.now section }
     requires short { length text.now < 2 ^ 32 - 1 }
-    ensures { OnOk result (lowest.new ≡ fold lower lowest.old (key_wrongs text.now (word_of key) (section_at text.now section.entry))) }
+    ensures { OnOk result (lowest.new ≡ fold lower lowest.old (key_wrongs text.now key (section_at text.now section.entry))) }
 {
     match key {
         Key::Name => {
@@ -198,7 +198,7 @@ fn note_entry<'a>(
         lowest.note(section.head.number, Fault::Syntax);
         return Ok(());
     }
-    let Some(key) = Key::of(key_of(line)) else {
+    let Some(key) = key_spelled(key_of(line)) else {
         return Ok(());
     };
     if firsts.first(key).is_some() {

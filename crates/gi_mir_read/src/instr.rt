@@ -2,7 +2,8 @@
 
 ghost use Rattle.std.specs.Prelude.{◌≡◌, Ok, IfOk, IfErr};
 ghost use Rattle.std.specs.Option.{option_copied};
-ghost use Rattle.gi_spelling.specs.Reading.{begins_definition, is_debug, is_debug_line, opcode_by, past_flag, parts_of, read_all, read_body, read_defined_line, read_definition, read_flags, read_instr, read_memory_behind, read_operands, read_sources, read_tail, split_at_equals};
+ghost use Rattle.gi_spelling.specs.Reading.{begins_definition, is_debug, is_debug_line, opcode_by, past_flag, parts_of, read_all, read_body, read_defined_line, read_definition, read_flags, read_instr, read_memory_behind, read_operands, read_sources, read_tail, split_at};
+ghost use Rattle.gi_spelling.specs.declared.written.Separator.TheVariants.{Equals};
 ghost use Rattle.gi_mir_read.specs.Flagged.{has_flag};
 ghost use Rattle.gi_mir_read.specs.Stops.{IsFault};
 
@@ -11,12 +12,12 @@ use crate::faults::unknown;
 use crate::list::push;
 use crate::memory::read_memory;
 use crate::source::read_operand;
-use crate::split::{Parts, Separator, split_at};
+use crate::split::{Parts, split_at};
 use crate::stop::Stop;
 use gi_mir::opcode::Opcode;
 use gi_mir::operand::Flags;
 use gi_spelling::token::{Flag, Item, What, Word};
-use gi_spelling::written::{Definition, Fault, Memory, Source, Written};
+use gi_spelling::written::{Definition, Fault, Memory, Separator, Source, Written};
 use std::alloc::Global;
 
 /// Whether a flag stands first, and what follows it.
@@ -163,8 +164,8 @@ fn begins_definition(items: &[Item]) -> bool
 
 /// An instruction that begins with definitions.
 fn read_defined_line(alloc: Global, items: &[Item]) -> Result<Written, Stop>
-    ensures ok { IfOk result (λ written. read_defined_line (split_at_equals items.now) ≡ Ok written) }
-    ensures fault { IfErr result (IsFault (read_defined_line (split_at_equals items.now))) }
+    ensures ok { IfOk result (λ written. read_defined_line (split_at Equals items.now) ≡ Ok written) }
+    ensures fault { IfErr result (IsFault (read_defined_line (split_at Equals items.now))) }
 {
     let split = split_at(Separator::Equals, items);
     let definitions = read_definitions(alloc, split.before)?;

@@ -1,61 +1,49 @@
-//! The keys of a document that count, and the first entry of each.
+//! The keys of a document that count, by their words, and the first entry of each.
 
 ghost use Rattle.std.specs.Prelude.{◌≡◌, ◌≢◌, ◌<◌, None, Some, codes, bytes_eq, length, if◌then◌else◌};
-ghost use Rattle.gi_mir_read.specs.declared.keys.Key.{Key};
-ghost use Rattle.gi_mir_read.specs.Keyed.{first_of, key_spelled, place_of};
+ghost use Rattle.gi_spelling.specs.Documents.{key_spelled};
+ghost use Rattle.gi_spelling.specs.declared.written.Key.{Key};
+ghost use Rattle.gi_mir_read.specs.Keyed.{first_of, place_of};
 
 use crate::sections::Section;
+use gi_spelling::written::Key;
 
-/// A key that counts.
-#[derive(Clone, Copy, Debug, PartialEq, Eq)]
-pub(crate) enum Key {
-    Name,
-    Legalized,
-    Banked,
-    Selected,
-    Registers,
-    Stack,
-    Body,
+/// The place of a key among those that count.
+fn place_of(key: Key) -> usize
+    ensures place { result ≡ place_of key }
+    ensures within { result < 7 }
+{
+    match key {
+        Key::Name => 0,
+        Key::Legalized => 1,
+        Key::Banked => 2,
+        Key::Selected => 3,
+        Key::Registers => 4,
+        Key::Stack => 5,
+        Key::Body => 6,
+    }
 }
 
-impl Key {
-    /// The place of the key among those that count.
-    fn place(self) -> usize
-        ensures place { result ≡ place_of self }
-        ensures within { result < 7 }
-    {
-        match self {
-            Key::Name => 0,
-            Key::Legalized => 1,
-            Key::Banked => 2,
-            Key::Selected => 3,
-            Key::Registers => 4,
-            Key::Stack => 5,
-            Key::Body => 6,
-        }
-    }
-
-    /// The key of this word.
-    pub fn of(word: &[u8]) -> Option<Key>
-        ensures { result ≡ key_spelled word.now }
-    {
-        if word == b"name".as_slice() {
-            Some(Key::Name)
-        } else if word == b"legalized".as_slice() {
-            Some(Key::Legalized)
-        } else if word == b"regBankSelected".as_slice() {
-            Some(Key::Banked)
-        } else if word == b"selected".as_slice() {
-            Some(Key::Selected)
-        } else if word == b"registers".as_slice() {
-            Some(Key::Registers)
-        } else if word == b"stack".as_slice() {
-            Some(Key::Stack)
-        } else if word == b"body".as_slice() {
-            Some(Key::Body)
-        } else {
-            None
-        }
+/// The key of this word.
+pub(crate) fn key_spelled(word: &[u8]) -> Option<Key>
+    ensures { result ≡ key_spelled word.now }
+{
+    if word == b"name".as_slice() {
+        Some(Key::Name)
+    } else if word == b"legalized".as_slice() {
+        Some(Key::Legalized)
+    } else if word == b"regBankSelected".as_slice() {
+        Some(Key::Banked)
+    } else if word == b"selected".as_slice() {
+        Some(Key::Selected)
+    } else if word == b"registers".as_slice() {
+        Some(Key::Registers)
+    } else if word == b"stack".as_slice() {
+        Some(Key::Stack)
+    } else if word == b"body".as_slice() {
+        Some(Key::Body)
+    } else {
+        None
     }
 }
 
@@ -78,7 +66,7 @@ impl<'a> Firsts<'a> {
     pub fn first(&self, key: Key) -> Option<Section<'a>>
         ensures { result ≡ first_of self.now key }
     {
-        self.entries[key.place()]
+        self.entries[place_of(key)]
     }
 
     /// Keeps the first entry of a key.
@@ -88,6 +76,6 @@ impl<'a> Firsts<'a> {
         ensures others { (other : Key) → place_of other ≢ place_of key → first_of self.new other ≡ first_of self.old other }
         ensures count { length self.new.entries ≡ 7 }
     {
-        self.entries[key.place()] = Some(section);
+        self.entries[place_of(key)] = Some(section);
     }
 }

@@ -2,20 +2,12 @@
 
 ghost use Rattle.std.specs.Prelude.{◌≡◌, ◌≤◌, drop, length, slice_get, take, true};
 ghost use Rattle.std.specs.Option.{option_copied};
-ghost use Rattle.gi_spelling.specs.Reading.{parts_of};
-ghost use Rattle.gi_mir_read.specs.Splits.{begins, parts_left, split_at, width_of};
+ghost use Rattle.gi_spelling.specs.Reading.{begins, parts_of, split_at, width_of};
 
 use crate::kept::from_place;
 use gi_spelling::token::{Item, What};
+use gi_spelling::written::Separator;
 use std::marker::Model;
-
-/// What stands between two parts of a line: `,`, `=` or `::`.
-#[derive(Clone, Copy, Debug, PartialEq, Eq)]
-pub(crate) enum Separator {
-    Comma,
-    Equals,
-    Colons,
-}
 
 /// Tokens up to a separator, and those behind it, if there is one.
 #[derive(Drop)]
@@ -33,37 +25,35 @@ impl<'a> Model for Split<'a> {
     ghost view = { λ a. record { before = a.before.now; after = option_copied a.after } };
 }
 
-impl Separator {
-    /// How many tokens it has.
-    fn width(self) -> usize
-        ensures { result ≡ width_of self }
-    {
-        match self {
-            Separator::Comma | Separator::Equals => 1,
-            Separator::Colons => 2,
-        }
+/// How many tokens a separator has.
+fn width(separator: Separator) -> usize
+    ensures { result ≡ width_of separator }
+{
+    match separator {
+        Separator::Comma | Separator::Equals => 1,
+        Separator::Colons => 2,
     }
+}
 
-    /// Whether the tokens begin with it.
-    fn begins(self, items: &[Item]) -> bool
-        ensures value { result ≡ begins self items.now }
-        ensures within { result ≡ true → width_of self ≤ length items.now }
-    {
-        match items {
-            [] => false,
-            [first] => match self {
-                Separator::Comma => matches!(first.what, What::Comma),
-                Separator::Equals => matches!(first.what, What::Equals),
-                Separator::Colons => false,
-            },
-            [first, second, ..] => match self {
-                Separator::Comma => matches!(first.what, What::Comma),
-                Separator::Equals => matches!(first.what, What::Equals),
-                Separator::Colons => {
-                    matches!(first.what, What::Colon) && matches!(second.what, What::Colon)
-                }
-            },
-        }
+/// Whether the tokens begin with a separator.
+fn begins(separator: Separator, items: &[Item]) -> bool
+    ensures value { result ≡ begins separator items.now }
+    ensures within { result ≡ true → width_of separator ≤ length items.now }
+{
+    match items {
+        [] => false,
+        [first] => match separator {
+            Separator::Comma => matches!(first.what, What::Comma),
+            Separator::Equals => matches!(first.what, What::Equals),
+            Separator::Colons => false,
+        },
+        [first, second, ..] => match separator {
+            Separator::Comma => matches!(first.what, What::Comma),
+            Separator::Equals => matches!(first.what, What::Equals),
+            Separator::Colons => {
+                matches!(first.what, What::Colon) && matches!(second.what, What::Colon)
+            }
+        },
     }
 }
 
@@ -82,10 +72,10 @@ pub(crate) fn split_at(separator: Separator, items: &[Item]) -> Split<'_>
 {
     for place in 0..items.len() {
         let rest = from_place(items, place);
-        if separator.begins(rest) {
+        if begins(separator, rest) {
             return Split {
                 before: up_to(items, place),
-                after: Some(from_place(rest, separator.width())),
+                after: Some(from_place(rest, width(separator))),
             };
         }
     }

@@ -1,25 +1,25 @@
 //! What the entries of a document state.
 
 ghost use Rattle.std.specs.Prelude.{◌≡◌, ◌-◌, ◌<◌, ◌^◌, List, ℕ, All, IfOk, fold, length};
-ghost use Rattle.gi_spelling.specs.Documents.{is_key_true, is_missing, is_true, list_under, lower, missing_wrongs};
+ghost use Rattle.gi_spelling.specs.Documents.{is_key_true, is_missing, is_true, key_word, list_under, lower, missing_wrongs};
 ghost use Rattle.gi_spelling.specs.Items.{value_items};
 ghost use Rattle.gi_spelling.specs.Lines as spelled;
-ghost use Rattle.gi_mir_read.specs.Keyed.{AreFirsts, AreFirstsIn, under_bar, value_stated, word_of};
+ghost use Rattle.gi_mir_read.specs.Keyed.{AreFirsts, AreFirstsIn, under_bar, value_stated};
 ghost use Rattle.gi_mir_read.specs.Placed.{IsLineIn, line_at, lines_at};
 
 use crate::entries::{has_bar, list_of, name_value};
-use crate::keys::{Firsts, Key};
+use crate::keys::Firsts;
 use crate::lines::Line;
 use crate::values::{is_true, value_items};
 use crate::wrongs::Lowest;
 use gi_llt::Memory;
-use gi_spelling::written::{Fault, ListValue};
+use gi_spelling::written::{Fault, Key, ListValue};
 use std::alloc::Global;
 
 /// The value behind a key, and nothing where the key is missing.
 pub(crate) fn value_of<'a>(text: &'a [u8], firsts: &Firsts<'_>, key: Key) -> &'a [u8]
     requires { AreFirstsIn text.now firsts.now }
-    ensures { (sections : List spelled.Section) → AreFirsts text.now sections firsts.now → result.now ≡ value_stated (word_of key) sections }
+    ensures { (sections : List spelled.Section) → AreFirsts text.now sections firsts.now → result.now ≡ value_stated (key_word key) sections }
 {
     match firsts.first(key) {
         Some(section) => name_value(text, section.head),
@@ -48,7 +48,7 @@ pub(crate) fn is_key_true(
 ) -> Result<bool, Memory>
     requires within { AreFirstsIn text.now firsts.now }
     requires short { length text.now < 2 ^ 32 - 1 }
-    ensures { IfOk result (λ truth. (sections : List spelled.Section) → AreFirsts text.now sections firsts.now → truth ≡ is_key_true text.now (word_of key) sections) }
+    ensures { IfOk result (λ truth. (sections : List spelled.Section) → AreFirsts text.now sections firsts.now → truth ≡ is_key_true text.now (key_word key) sections) }
 {
     match firsts.first(key) {
         Some(section) => truth_of(alloc, text, section.head),
@@ -65,7 +65,7 @@ pub(crate) fn list_under<'a>(
 ) -> Result<&'a [Line], Memory>
     requires within { AreFirstsIn text.now firsts.now }
     requires short { length text.now < 2 ^ 32 - 1 }
-    ensures lines { IfOk result (λ lines. (sections : List spelled.Section) → AreFirsts text.now sections firsts.now → lines_at text.now lines.now ≡ list_under text.now (word_of key) sections) }
+    ensures lines { IfOk result (λ lines. (sections : List spelled.Section) → AreFirsts text.now sections firsts.now → lines_at text.now lines.now ≡ list_under text.now (key_word key) sections) }
     ensures within { IfOk result (λ lines. All (IsLineIn text.now) lines.now) }
 {
     match firsts.first(key) {
@@ -86,7 +86,7 @@ pub(crate) fn lines_under_bar<'a>(
 ) -> Result<&'a [Line], Memory>
     requires within { AreFirstsIn text.now firsts.now }
     requires short { length text.now < 2 ^ 32 - 1 }
-    ensures lines { IfOk result (λ lines. (sections : List spelled.Section) → AreFirsts text.now sections firsts.now → lines_at text.now lines.now ≡ under_bar text.now (word_of key) sections) }
+    ensures lines { IfOk result (λ lines. (sections : List spelled.Section) → AreFirsts text.now sections firsts.now → lines_at text.now lines.now ≡ under_bar text.now (key_word key) sections) }
     ensures within { IfOk result (λ lines. All (IsLineIn text.now) lines.now) }
 {
     match firsts.first(key) {
@@ -103,7 +103,7 @@ pub(crate) fn lines_under_bar<'a>(
 
 /// Whether a key is missing.
 fn is_missing(firsts: &Firsts<'_>, key: Key) -> bool
-    ensures { (text : List ℕ) (sections : List spelled.Section) → AreFirsts text sections firsts.now → result ≡ is_missing (word_of key) sections }
+    ensures { (text : List ℕ) (sections : List spelled.Section) → AreFirsts text sections firsts.now → result ≡ is_missing (key_word key) sections }
 {
     match firsts.first(key) {
         Some(_) => false,

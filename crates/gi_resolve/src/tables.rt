@@ -7,7 +7,7 @@ use crate::numbering::{Classes, Numbering};
 use gi_llt::Llt;
 use gi_mir::operand::{Kind, Operand, Reg};
 use gi_spelling::token::RegisterClass;
-use gi_spelling::written::Definition;
+use gi_spelling::written::{Definition, FIRST_OF_NO_BLOCK};
 use std::marker::Model;
 
 /// The classes that `registers` gives, the numbers of the blocks in layout, and how many stack objects there are.
@@ -48,13 +48,13 @@ fn typed(reg: Reg, ty: Llt, class: Option<RegisterClass>) -> Option<Operand>
 }
 
 impl Tables {
-    /// The place of a block. A number of no block is kept, 65536 higher.
+    /// The place of a block. A number of no block is kept behind all places.
     pub fn place(&self, number: u32) -> u32
         ensures { result ≡ block_place self.now.blocks number }
     {
         match self.blocks.place(number) {
             Some(place) => place,
-            None => number.saturating_add(65536),
+            None => number.saturating_add(FIRST_OF_NO_BLOCK),
         }
     }
 

@@ -1,6 +1,6 @@
 -- Tokens between commas, and tokens split at `=` and at `::`.
 use Rattle.std.proofs.Common.{◌≡◌, ℕ, Bool, true, false, List, [], ◌∷◌, ◌++◌, Some, None, Ok, map, refl, sym, ap, ◌∙◌, append_assoc}
-use Rattle.std.specs.Prelude.{◌&&◌, flat_map, if◌then◌else◌}
+use Rattle.std.specs.Prelude.{◌&&◌, drop, flat_map, if◌then◌else◌}
 use Rattle.std.specs.List.{AllZip}
 use Rattle.std.proofs.lemmas.Bool.{and_parts}
 use Rattle.std.proofs.lemmas.List.Elements.{filter_map-append}
@@ -9,7 +9,8 @@ use Rattle.gi_spelling.specs.declared.token.What.{What}
 use Rattle.gi_spelling.specs.declared.token.What.TheVariants as what
 use Rattle.gi_spelling.specs.declared.token.Item.{Item}
 use Rattle.gi_spelling.specs.Items.{what_in}
-use Rattle.gi_spelling.specs.Reading.{Read, then_read, onto_first_part, parts_of, read_all, is_equals, is_colon, onto_split, split_at_equals, split_at_colons, begins_with_colon, without_first}
+use Rattle.gi_spelling.specs.declared.written.Separator.TheVariants.{Equals, Colons}
+use Rattle.gi_spelling.specs.Reading.{Read, then_read, onto_first_part, parts_of, read_all, is_equals, is_colon, onto_split, split_at, begins_with_colon}
 use Rattle.gi_spelling.specs.Spelling.{name_place, name_places, listed_whats}
 use Rattle.gi_spelling.proofs.TokenLists.{Tokens, then_ok, settled}
 
@@ -108,49 +109,49 @@ all_ok {X} spell places read each (part ∷ parts) xs e =
 
 -- ══ Splitting ══
 
-pub equals_split : (items rest : List Item) → (split_at_equals items).after ≡ Some rest → (item : Item) × (item.what ≡ what.Equals) × (items ≡ (split_at_equals items).before ++ (item ∷ rest))
+pub equals_split : (items rest : List Item) → (split_at Equals items).after ≡ Some rest → (item : Item) × (item.what ≡ what.Equals) × (items ≡ (split_at Equals items).before ++ (item ∷ rest))
 equals_split [] rest e = absurd (cc)
 equals_split (item ∷ items) rest e = chosen (is_equals item.what) refl (equals_split items rest) e
   where
     chosen : (found : Bool) → is_equals item.what ≡ found
-        → ((split_at_equals items).after ≡ Some rest → (eq : Item) × (eq.what ≡ what.Equals) × (items ≡ (split_at_equals items).before ++ (eq ∷ rest)))
-        → (if found then record { before = []; after = Some items } else onto_split item (split_at_equals items)).after ≡ Some rest
-        → (eq : Item) × (eq.what ≡ what.Equals) × (item ∷ items ≡ (if found then record { before = []; after = Some items } else onto_split item (split_at_equals items)).before ++ (eq ∷ rest))
+        → ((split_at Equals items).after ≡ Some rest → (eq : Item) × (eq.what ≡ what.Equals) × (items ≡ (split_at Equals items).before ++ (eq ∷ rest)))
+        → (if found then record { before = []; after = Some items } else onto_split item (split_at Equals items)).after ≡ Some rest
+        → (eq : Item) × (eq.what ≡ what.Equals) × (item ∷ items ≡ (if found then record { before = []; after = Some items } else onto_split item (split_at Equals items)).before ++ (eq ∷ rest))
     chosen true is later e = (item, equals_is item.what is, cc)
     chosen false is later e =
         let p = later e in
         (p.0, p.1, ap (λ more. item ∷ more) p.2)
 
-pub no_colons_split : (items : List Item) → (split_at_colons items).after ≡ None → (split_at_colons items).before ≡ items
+pub no_colons_split : (items : List Item) → (split_at Colons items).after ≡ None → (split_at Colons items).before ≡ items
 no_colons_split [] e = refl
 no_colons_split (item ∷ items) e = chosen (is_colon item.what && begins_with_colon items) (no_colons_split items) e
   where
-    chosen : (found : Bool) → ((split_at_colons items).after ≡ None → (split_at_colons items).before ≡ items)
-        → (if found then record { before = []; after = Some (without_first items) } else onto_split item (split_at_colons items)).after ≡ None
-        → (if found then record { before = []; after = Some (without_first items) } else onto_split item (split_at_colons items)).before ≡ item ∷ items
+    chosen : (found : Bool) → ((split_at Colons items).after ≡ None → (split_at Colons items).before ≡ items)
+        → (if found then record { before = []; after = Some (drop 1 items) } else onto_split item (split_at Colons items)).after ≡ None
+        → (if found then record { before = []; after = Some (drop 1 items) } else onto_split item (split_at Colons items)).before ≡ item ∷ items
     chosen true later e = absurd (cc)
     chosen false later e = ap (λ more. item ∷ more) (later e)
 
-first_colon : (items : List Item) → begins_with_colon items ≡ true → (item : Item) × (item.what ≡ what.Colon) × (items ≡ item ∷ without_first items)
+first_colon : (items : List Item) → begins_with_colon items ≡ true → (item : Item) × (item.what ≡ what.Colon) × (items ≡ item ∷ drop 1 items)
 first_colon [] e = absurd (cc)
 first_colon (item ∷ items) e = (item, colon_is item.what e, refl)
 
-pub colons_split : (items rest : List Item) → (split_at_colons items).after ≡ Some rest
-    → (first second : Item) × (first.what ≡ what.Colon) × (second.what ≡ what.Colon) × (items ≡ (split_at_colons items).before ++ (first ∷ second ∷ rest))
+pub colons_split : (items rest : List Item) → (split_at Colons items).after ≡ Some rest
+    → (first second : Item) × (first.what ≡ what.Colon) × (second.what ≡ what.Colon) × (items ≡ (split_at Colons items).before ++ (first ∷ second ∷ rest))
 colons_split [] rest e = absurd (cc)
 colons_split (item ∷ items) rest e = chosen (is_colon item.what && begins_with_colon items) refl (colons_split items rest) e
   where
     chosen : (found : Bool) → (is_colon item.what && begins_with_colon items) ≡ found
-        → ((split_at_colons items).after ≡ Some rest
-        → (first second : Item) × (first.what ≡ what.Colon) × (second.what ≡ what.Colon) × (items ≡ (split_at_colons items).before ++ (first ∷ second ∷ rest)))
-        → (if found then record { before = []; after = Some (without_first items) } else onto_split item (split_at_colons items)).after ≡ Some rest
+        → ((split_at Colons items).after ≡ Some rest
+        → (first second : Item) × (first.what ≡ what.Colon) × (second.what ≡ what.Colon) × (items ≡ (split_at Colons items).before ++ (first ∷ second ∷ rest)))
+        → (if found then record { before = []; after = Some (drop 1 items) } else onto_split item (split_at Colons items)).after ≡ Some rest
         → (first second : Item) × (first.what ≡ what.Colon) × (second.what ≡ what.Colon)
-        × (item ∷ items ≡ (if found then record { before = []; after = Some (without_first items) } else onto_split item (split_at_colons items)).before ++ (first ∷ second ∷ rest))
+        × (item ∷ items ≡ (if found then record { before = []; after = Some (drop 1 items) } else onto_split item (split_at Colons items)).before ++ (first ∷ second ∷ rest))
     chosen true is later e =
         let parts = and_parts (is_colon item.what) (begins_with_colon items) is in
         let second = first_colon items parts.1 in
-        let whole : items ≡ second.0 ∷ without_first items = second.2 in
-        let same : without_first items ≡ rest = cc in
+        let whole : items ≡ second.0 ∷ drop 1 items = second.2 in
+        let same : drop 1 items ≡ rest = cc in
         (item, second.0, colon_is item.what parts.0, second.1, cc (whole, same))
     chosen false is later e =
         let p = later e in

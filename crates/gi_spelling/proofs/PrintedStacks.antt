@@ -18,7 +18,7 @@ use Rattle.gi_spelling.specs.declared.written.EntryState.TheVariants as state
 use Rattle.gi_spelling.specs.declared.written.Fields.{Fields}
 use Rattle.gi_spelling.specs.Documents.{entry_front, continued_by, continued, behind_line, stack_entry, ended_by, next_by, is_last, stack_entries_from, stack_entries, object_by, objects_from}
 use Rattle.gi_spelling.specs.Entries.{entry, no_fields, step, steps}
-use Rattle.gi_spelling.specs.Items.{item_of, what_in, items_of_line}
+use Rattle.gi_spelling.specs.Items.{item_of, what_in}
 use Rattle.gi_spelling.specs.Lines.{Line}
 use Rattle.gi_spelling.specs.Printable.{is_writable_object}
 use Rattle.gi_spelling.specs.Printed.{mark, word as word_piece, object_line, object_lines}

@@ -18,7 +18,8 @@ use Rattle.gi_spelling.specs.declared.written.Source.{Source}
 use Rattle.gi_spelling.specs.declared.written.Memory.{Memory}
 use Rattle.gi_spelling.specs.declared.written.Fault.TheVariants as fault
 use Rattle.gi_spelling.specs.Written.{WrittenData}
-use Rattle.gi_spelling.specs.Reading.{unknown, then_read, closed_by, closed, read_definition, read_operand, parts_of, read_all, read_operands, read_type, access_by, align_word_by, is_memory_word, wrong_memory_word, size_by, passed_word_by, read_passed_word, align_end_by, read_align_end, read_align_number, read_align, memory_end_by, read_memory_end, memory_closed_by, read_memory_closed, read_memory_type, memory_opened_by, read_memory_opened, read_access, memory_by, read_memory, split_at_equals, split_at_colons, flag_at, past_flag, is_no_unsigned_wrap, is_no_signed_wrap, is_exact, is_disjoint, is_non_negative, read_flags, opcode_by, is_constant_op, read_sources, read_memory_behind, read_tail, read_opcode, read_body, begins_definition, read_behind, read_defined_line, read_instr}
+use Rattle.gi_spelling.specs.declared.written.Separator.TheVariants.{Equals, Colons}
+use Rattle.gi_spelling.specs.Reading.{unknown, then_read, closed_by, closed, read_definition, read_operand, parts_of, read_all, read_operands, read_type, access_by, align_word_by, is_memory_word, wrong_memory_word, size_by, passed_word_by, read_passed_word, align_end_by, read_align_end, read_align_number, read_align, memory_end_by, read_memory_end, memory_closed_by, read_memory_closed, read_memory_type, memory_opened_by, read_memory_opened, read_access, memory_by, read_memory, split_at, flag_at, past_flag, is_no_unsigned_wrap, is_no_signed_wrap, is_exact, is_disjoint, is_non_negative, read_flags, opcode_by, is_constant_op, read_sources, read_memory_behind, read_tail, read_opcode, read_body, begins_definition, read_behind, read_defined_line, read_instr}
 use Rattle.gi_spelling.specs.Spelling.{word_what, type_whats, definition_whats, source_whats, listed_whats, defined_whats, flag_whats, flags_whats, plain_size, align_whats, memory_whats, whats_of, place_of_source, places_of, AreWritten}
 use Rattle.gi_spelling.proofs.TokenLists.{Tokens, no_tokens, one_more, both_tokens, then_ok, closed_ok, ended_ok, settled}
 use Rattle.gi_spelling.proofs.ReadPieces.{type_ok, definition_ok, operand_ok}
@@ -277,11 +278,11 @@ opcode_ok w item op e = absurd (cc)
 abbrev tail_whats : WrittenData → List What
 tail_whats written = listed_whats (map source_whats written.sources) ++ memory_whats written.memory
 
-behind_ok : (items : List Item) (places : List ℕ) (whats : List What) (memory : Option Memory) → read_memory_behind (split_at_colons items).after ≡ Ok memory
-    → Tokens (split_at_colons items).before whats places → Tokens items (whats ++ memory_whats memory) places
-behind_ok items places whats memory e before = chosen (split_at_colons items).after refl e
+behind_ok : (items : List Item) (places : List ℕ) (whats : List What) (memory : Option Memory) → read_memory_behind (split_at Colons items).after ≡ Ok memory
+    → Tokens (split_at Colons items).before whats places → Tokens items (whats ++ memory_whats memory) places
+behind_ok items places whats memory e before = chosen (split_at Colons items).after refl e
   where
-    chosen : (after : Option (List Item)) → (split_at_colons items).after ≡ after → read_memory_behind after ≡ Ok memory → Tokens items (whats ++ memory_whats memory) places
+    chosen : (after : Option (List Item)) → (split_at Colons items).after ≡ after → read_memory_behind after ≡ Ok memory → Tokens items (whats ++ memory_whats memory) places
     chosen None is e =
         settled (λ memory. Tokens items (whats ++ memory_whats memory) places) None memory e
         (subst (λ all. Tokens items all places) (sym (append-nil whats)) (subst (λ items. Tokens items whats places) (no_colons_split items is) before))
@@ -295,8 +296,8 @@ behind_ok items places whats memory e before = chosen (split_at_colons items).af
         one_more first (second ∷ rest) what.Colon (what.Colon ∷ inner) [] q.2 refl (one_more second rest what.Colon inner [] q.3 refl (read_memory_ok p.0 rest p.1)) in
         settled (λ memory. Tokens items (whats ++ memory_whats memory) places) (Some p.0) memory p.2
         (subst (λ items. Tokens items (whats ++ memory_whats (Some p.0)) places) (sym q.4)
-        (subst (Tokens ((split_at_colons items).before ++ (first ∷ second ∷ rest)) (whats ++ memory_whats (Some p.0))) (append-nil places)
-        (both_tokens (split_at_colons items).before (first ∷ second ∷ rest) whats (what.Colon ∷ what.Colon ∷ inner) places [] before colons)))
+        (subst (Tokens ((split_at Colons items).before ++ (first ∷ second ∷ rest)) (whats ++ memory_whats (Some p.0))) (append-nil places)
+        (both_tokens (split_at Colons items).before (first ∷ second ∷ rest) whats (what.Colon ∷ what.Colon ∷ inner) places [] before colons)))
 
 -- what is read with definitions and flags
 pub record IsRead (definitions : List Definition) (flags : Flags) (op : Opcode) (items : List Item) (written : WrittenData) : Type 0 where
@@ -308,16 +309,16 @@ pub record IsRead (definitions : List Definition) (flags : Flags) (op : Opcode) 
 tail_ok : (definitions : List Definition) (flags : Flags) (op : Opcode) (items : List Item) (written : WrittenData) → read_tail definitions flags op items ≡ Ok written
     → IsRead definitions flags op items written
 tail_ok definitions flags op items written e =
-    let p = then_ok (read_sources op (split_at_colons items).before) (λ (sources : List Source). then_read (read_memory_behind (split_at_colons items).after)
+    let p = then_ok (read_sources op (split_at Colons items).before) (λ (sources : List Source). then_read (read_memory_behind (split_at Colons items).after)
     (λ (memory : Option Memory). Ok (record { definitions = definitions; flags = flags; op = op; sources = sources; memory = memory }))) written e in
-    let q = then_ok (read_memory_behind (split_at_colons items).after)
+    let q = then_ok (read_memory_behind (split_at Colons items).after)
     (λ (memory : Option Memory). Ok (record { definitions = definitions; flags = flags; op = op; sources = p.0; memory = memory })) written p.2 in
     let whole : WrittenData = record { definitions = definitions; flags = flags; op = op; sources = p.0; memory = q.0 } in
     settled (IsRead definitions flags op items) whole written q.2 (record {
       defined = refl;
       flagged = refl;
       named = refl;
-      tokens = behind_ok items (places_of whole) (listed_whats (map source_whats p.0)) q.0 q.1 (read_sources_ok op (split_at_colons items).before p.0 p.1);
+      tokens = behind_ok items (places_of whole) (listed_whats (map source_whats p.0)) q.0 q.1 (read_sources_ok op (split_at Colons items).before p.0 p.1);
     })
 
 abbrev body_whats : WrittenData → List What
@@ -373,29 +374,29 @@ first_definition : (part : List Item) (parts : List (List Item)) (definitions : 
 first_definition part parts [] all = absurd all
 first_definition part parts (d ∷ definitions) all = refl
 
-defined_line_ok : (items : List Item) (written : WrittenData) → read_defined_line (split_at_equals items) ≡ Ok written → AreWritten items written
+defined_line_ok : (items : List Item) (written : WrittenData) → read_defined_line (split_at Equals items) ≡ Ok written → AreWritten items written
 defined_line_ok items written e =
-    let before = (split_at_equals items).before in
-    let p = then_ok (read_all read_definition (parts_of before)) (λ (definitions : List Definition). read_behind definitions (split_at_equals items).after) written e in
+    let before = (split_at Equals items).before in
+    let p = then_ok (read_all read_definition (parts_of before)) (λ (definitions : List Definition). read_behind definitions (split_at Equals items).after) written e in
     let zip = all_ok definition_whats no_places read_definition definition_part (parts_of before) p.0 p.1 in
     let parts = some_parts before in
     let one = first_definition parts.0 parts.1 p.0 (subst (λ parts. AllZip (IsPart definition_whats no_places) parts p.0) parts.2 zip) in
     let defines : Tokens before (listed_whats (map definition_whats p.0)) [] = subst (Tokens before (listed_whats (map definition_whats p.0))) (no_places_at p.0) (parts_spelled definition_whats no_places before p.0 zip) in
-    chosen p.0 one defines (split_at_equals items).after refl p.2
+    chosen p.0 one defines (split_at Equals items).after refl p.2
   where
     chosen : (definitions : List Definition) → defined_whats (map definition_whats definitions) ≡ listed_whats (map definition_whats definitions) ++ (what.Equals ∷ [])
-        → Tokens (split_at_equals items).before (listed_whats (map definition_whats definitions)) []
-        → (after : Option (List Item)) → (split_at_equals items).after ≡ after → read_behind definitions after ≡ Ok written → AreWritten items written
+        → Tokens (split_at Equals items).before (listed_whats (map definition_whats definitions)) []
+        → (after : Option (List Item)) → (split_at Equals items).after ≡ after → read_behind definitions after ≡ Ok written → AreWritten items written
     chosen definitions one defines None is e = absurd (cc)
     chosen definitions one defines (Some rest) is e =
         let q = equals_split items rest is in
         are_written items written (subst (λ items. Tokens items (whats_of written) (places_of written)) (sym q.2)
-        (defined_ok (split_at_equals items).before rest q.0 definitions written q.1 defines one (body_ok definitions rest written e)))
+        (defined_ok (split_at Equals items).before rest q.0 definitions written q.1 defines one (body_ok definitions rest written e)))
 
 pub line_written : (items : List Item) (written : WrittenData) → read_instr items ≡ Ok written → AreWritten items written
 line_written items written e = chosen (begins_definition items) e
   where
-    chosen : (defines : Bool) → (if defines then read_defined_line (split_at_equals items) else read_body [] items) ≡ Ok written → AreWritten items written
+    chosen : (defines : Bool) → (if defines then read_defined_line (split_at Equals items) else read_body [] items) ≡ Ok written → AreWritten items written
     chosen true e = defined_line_ok items written e
     chosen false e =
         let body = body_ok [] items written e in

@@ -18,6 +18,7 @@ use Rattle.gi_mir.specs.Data.{InstrData, BlockData, FunctionData, ModuleData}
 use Rattle.gi_mir.specs.Edit.{block_with, empty_block, empty_function, with_block, with_stack, with_keys}
 use Rattle.gi_mir.specs.Formed.{is_formed}
 use Rattle.gi_spelling.specs.declared.written.Fault.TheVariants as fault
+use Rattle.gi_spelling.specs.declared.written.Key.TheVariants.{Name, Legalized, Banked, Selected, Registers, Stack, Body as OfBody}
 use Rattle.gi_spelling.specs.declared.written.ListKind.TheVariants.{Successors, Liveins}
 use Rattle.gi_spelling.specs.Written.{WrittenData}
 use Rattle.gi_spelling.specs.Items.{kept_items}
@@ -351,20 +352,20 @@ document_spelled text names document f right read =
     let types : (reg : Reg) → type_of_register (kinds_in bodies) reg ≡ types_in f reg.0 = λ reg. types_same text names bodies f reg same in
     let blocks = blocks_spelled text names tables (types_in f) (kinds_in bodies) types [] 0 parsed.blocks.sections olds f.blocks inner.0 (shown_fine bodies inner.1) built.built named.blocks in
     let stack : f.stack ≡ parsed.objects = named.stack ∙ built.stack in
-    let registers = list_spells text (codes "registers") sections (register_wrongs text) refl (at_most_one text (codes "registers") [] sections refl entries) (λ section. refl) in
-    let objects = list_spells text (codes "stack") sections (λ lines. object_wrongs 0 (stack_entries text lines)) refl (at_most_one text (codes "stack") [] sections refl entries) (λ section. refl) in
+    let registers = list_spells text Registers sections (register_wrongs text) refl (at_most_one text Registers [] sections entries) (λ section. refl) in
+    let objects = list_spells text Stack sections (λ lines. object_wrongs 0 (stack_entries text lines)) refl (at_most_one text Stack [] sections entries) (λ section. refl) in
     record {
       from_a_key = map_none (λ (line : Line). wrong line.number fault.Syntax) (document_entries document).before wrongs_a.0;
       to_the_end = map_none (λ (line : Line). wrong line.number fault.Syntax) (document_strays document) wrongs_d.1;
       entries = record {
         keyed = all_keyed text [] sections entries;
-        named = subst (λ own. SpellsName own (entries_with (codes "name") sections)) (sym read.name) (name_spells text sections (at_most_one text (codes "name") [] sections refl entries) there.0);
+        named = subst (λ own. SpellsName own (entries_with (codes "name") sections)) (sym read.name) (name_spells text sections (at_most_one text Name [] sections entries) there.0);
         legal = subst (λ own. SpellsTruth text (entries_with (codes "legalized") sections) own) (sym (named.legalized ∙ built.legalized))
-            (truth_spells text (codes "legalized") sections (at_most_one text (codes "legalized") [] sections refl entries) (λ section. refl));
+            (truth_spells text Legalized sections (at_most_one text Legalized [] sections entries) (λ section. refl));
         banked = subst (λ own. SpellsTruth text (entries_with (codes "regBankSelected") sections) own) (sym (named.banked ∙ built.banked))
-            (truth_spells text (codes "regBankSelected") sections (at_most_one text (codes "regBankSelected") [] sections refl entries) (λ section. refl));
+            (truth_spells text Banked sections (at_most_one text Banked [] sections entries) (λ section. refl));
         chosen = subst (λ own. SpellsTruth text (entries_with (codes "selected") sections) own) (sym (named.selected ∙ built.selected))
-            (truth_spells text (codes "selected") sections (at_most_one text (codes "selected") [] sections refl entries) (λ section. refl));
+            (truth_spells text Selected sections (at_most_one text Selected [] sections entries) (λ section. refl));
         registers = list_under text (codes "registers") sections;
         registered = registers.lists;
         each_register = each_register text (list_under text (codes "registers") sections) registers.right;
@@ -373,7 +374,7 @@ document_spelled text names document f right read =
         stack = stack;
         each_object = ap length stack ∙ each_object 0 (stack_entries text (list_under text (codes "stack") sections)) objects.right;
         lines = body_lines text sections;
-        bodied = body_spells text sections (at_most_one text (codes "body") [] sections refl entries) there.1;
+        bodied = body_spells text sections (at_most_one text OfBody [] sections entries) there.1;
         from_a_head = map_none (outer_wrong text) parsed.blocks.before outer.0;
         distinct = distinct_numbers text tables [] 0 parsed.blocks.sections inner.0;
         blocks = subst (λ n. SpellsBlocks text names (record { classes = parsed.classes; blocks = tables.blocks; objects = n }) (types_in f) 0 parsed.blocks.sections f.blocks) (ap length (sym stack)) blocks;

@@ -18,6 +18,8 @@ use Rattle.gi_spelling.specs.declared.written.Fault.{Fault}
 use Rattle.gi_spelling.specs.declared.written.Fault.TheVariants as fault
 use Rattle.gi_spelling.specs.declared.written.ListValue.{ListValue}
 use Rattle.gi_spelling.specs.declared.written.ListValue.TheVariants.{Entries, NoEntries, NoList}
+use Rattle.gi_spelling.specs.declared.written.Key.{Key}
+use Rattle.gi_spelling.specs.declared.written.Key.TheVariants.{Name, Legalized, Banked, Selected, Registers, Stack, Body}
 use Rattle.gi_spelling.specs.declared.written.Wrong.{Wrong}
 use Rattle.gi_mir.specs.declared.operand.StackObject.{StackObject}
 use Rattle.gi_spelling.specs.Items.{what_in, value_items, items_of_line}
@@ -26,7 +28,7 @@ use Rattle.gi_spelling.specs.Reading.{Read}
 use Rattle.gi_spelling.specs.declared.written.Entry.{Entry}
 use Rattle.gi_spelling.specs.Entries.{is_at_end, has_all, whole_entry, steps, entry, no_fields, read_entry}
 use Rattle.gi_spelling.specs.Blocks.{wrong}
-use Rattle.gi_spelling.specs.Documents.{is_name, name_value, is_true, truth_by, truth_fault, square_by, list_value, bar_by, is_bar, read_line_entry, line_entry, fields_wrong, register_wrongs, register_by, registers_in, object_at, objects_from, object_wrong, object_wrongs, known_keys, under_wrongs, fault_then, list_wrongs, key_wrongs, is_again, entry_wrongs, entries_wrongs, entry_of, is_key_true, list_under, body_lines, is_missing, lower, lowest, first_wrong}
+use Rattle.gi_spelling.specs.Documents.{is_name, name_value, is_true, truth_by, truth_fault, square_by, list_value, bar_by, is_bar, read_line_entry, line_entry, fields_wrong, register_wrongs, register_by, registers_in, object_at, objects_from, object_wrong, object_wrongs, known_keys, key_word, key_spelled, under_wrongs, fault_then, list_wrongs, key_wrongs, keyed_wrongs, is_again, entry_wrongs, entries_wrongs, entry_of, is_key_true, list_under, body_lines, is_missing, lower, lowest, first_wrong}
 use Rattle.gi_spelling.specs.Spelling.{word_what, entries_with, SpellsTruth, Lists, SpellsName, SpellsBody}
 use Rattle.gi_spelling.proofs.TokenLists.{then_ok}
 
@@ -64,13 +66,13 @@ map_none f (x ∷ xs) e = absurd (cc)
 record IsFine (text : List ℕ) (earlier : List Section) (section : Section) : Type 0 where
   is_one : is_entry section.head.bytes ≡ true
   once : is_again earlier section ≡ false
-  right : key_wrongs text (key_of section.head.bytes) section ≡ []
+  right : keyed_wrongs text (key_spelled (key_of section.head.bytes)) section ≡ []
 
 fine_entry : (text : List ℕ) (earlier : List Section) (section : Section) → entry_wrongs text earlier section ≡ [] → IsFine text earlier section
 fine_entry text earlier section e = chosen (is_entry section.head.bytes) refl (is_again earlier section) refl e
   where
     chosen : (one : Bool) → is_entry section.head.bytes ≡ one → (again : Bool) → is_again earlier section ≡ again
-        → (if not one || again then wrong section.head.number fault.Syntax ∷ [] else key_wrongs text (key_of section.head.bytes) section) ≡ [] → IsFine text earlier section
+        → (if not one || again then wrong section.head.number fault.Syntax ∷ [] else keyed_wrongs text (key_spelled (key_of section.head.bytes)) section) ≡ [] → IsFine text earlier section
     chosen true one false again e = record { is_one = one; once = again; right = e }
     chosen true one true again e = absurd (cc)
     chosen false one again is e = absurd (cc)
@@ -101,52 +103,78 @@ same_bytes (x ∷ xs) (y ∷ ys) e =
     let parts = and_parts (x == y) (bytes_eq xs ys) e in
     cc (eqb-true x y parts.0, same_bytes xs ys parts.1)
 
--- the key of an entry of a known key, which stood before
-key_is : (key : List ℕ) (section : Section) → is_entry_of key section ≡ true → key_of section.head.bytes ≡ key
-key_is key section e = same_bytes (key_of section.head.bytes) key (and_parts (is_entry section.head.bytes) (bytes_eq (key_of section.head.bytes) key) e).1
-
-stood_before : (text key : List ℕ) (earlier : List Section) (section : Section) → list_any (bytes_eq key) known_keys ≡ true → is_entry_of key section ≡ true → IsFine text earlier section
-    → list_any (is_entry_of key) earlier ≡ false
-stood_before text key earlier section known one fine =
-    let again : (list_any (bytes_eq key) known_keys && list_any (is_entry_of key) earlier) ≡ false =
-    subst (λ (own : List ℕ). (list_any (bytes_eq own) known_keys && list_any (is_entry_of own) earlier) ≡ false) (key_is key section one) fine.once in
-    ap (λ b. b && list_any (is_entry_of key) earlier) (sym known) ∙ again
-
-none_later : (text key : List ℕ) (earlier sections : List Section) → list_any (bytes_eq key) known_keys ≡ true → list_any (is_entry_of key) earlier ≡ true → entries_wrongs text earlier sections ≡ []
-    → filter (is_entry_of key) sections ≡ []
-none_later text key earlier [] known before e = refl
-none_later text key earlier (section ∷ sections) known before e =
-    let parts = append_none (entry_wrongs text earlier section) (entries_wrongs text (earlier ++ (section ∷ [])) sections) e in
-    let later = none_later text key (earlier ++ (section ∷ [])) sections known (any_earlier (is_entry_of key) earlier (section ∷ []) before) parts.1 in
-    chosen (is_entry_of key section) refl (fine_entry text earlier section parts.0) later
+-- words and keys
+found_is : {X : Type 0} (p : X → Bool) (xs : List X) (x : X) → find p xs ≡ Some x → p x ≡ true
+found_is p [] x e = absurd (cc)
+found_is p (y ∷ ys) x e = chosen (p y) refl e (found_is p ys x)
   where
-    chosen : (one : Bool) → is_entry_of key section ≡ one → IsFine text earlier section → filter (is_entry_of key) sections ≡ []
-        → (if one then section ∷ filter (is_entry_of key) sections else filter (is_entry_of key) sections) ≡ []
+    chosen : (b : Bool) → p y ≡ b → (if b then Some y else find p ys) ≡ Some x → (find p ys ≡ Some x → p x ≡ true) → p x ≡ true
+    chosen true is e later =
+        let same : y ≡ x = cc in
+        ap p (sym same) ∙ is
+    chosen false is e later = later e
+
+pub spelled_word : (bytes : List ℕ) (key : Key) → key_spelled bytes ≡ Some key → bytes ≡ key_word key
+spelled_word bytes key is = same_bytes bytes (key_word key) (found_is (λ key. bytes_eq bytes (key_word key)) known_keys key is)
+
+pub spelled_back : (key : Key) → key_spelled (key_word key) ≡ Some key
+spelled_back Name = refl
+spelled_back Legalized = refl
+spelled_back Banked = refl
+spelled_back Selected = refl
+spelled_back Registers = refl
+spelled_back Stack = refl
+spelled_back Body = refl
+
+-- the word of an entry of a key, which stood before
+key_is : (word : List ℕ) (section : Section) → is_entry_of word section ≡ true → key_of section.head.bytes ≡ word
+key_is word section e = same_bytes (key_of section.head.bytes) word (and_parts (is_entry section.head.bytes) (bytes_eq (key_of section.head.bytes) word) e).1
+
+stood_before : (text : List ℕ) (key : Key) (earlier : List Section) (section : Section) → is_entry_of (key_word key) section ≡ true → IsFine text earlier section
+    → list_any (is_entry_of (key_word key)) earlier ≡ false
+stood_before text key earlier section one fine =
+    let again : (is_some (key_spelled (key_word key)) && list_any (is_entry_of (key_word key)) earlier) ≡ false =
+    subst (λ (own : List ℕ). (is_some (key_spelled own) && list_any (is_entry_of own) earlier) ≡ false) (key_is (key_word key) section one) fine.once in
+    ap (λ spelled. is_some spelled && list_any (is_entry_of (key_word key)) earlier) (sym (spelled_back key)) ∙ again
+
+none_later : (text : List ℕ) (key : Key) (earlier sections : List Section) → list_any (is_entry_of (key_word key)) earlier ≡ true → entries_wrongs text earlier sections ≡ []
+    → filter (is_entry_of (key_word key)) sections ≡ []
+none_later text key earlier [] before e = refl
+none_later text key earlier (section ∷ sections) before e =
+    let parts = append_none (entry_wrongs text earlier section) (entries_wrongs text (earlier ++ (section ∷ [])) sections) e in
+    let later = none_later text key (earlier ++ (section ∷ [])) sections (any_earlier (is_entry_of (key_word key)) earlier (section ∷ []) before) parts.1 in
+    chosen (is_entry_of (key_word key) section) refl (fine_entry text earlier section parts.0) later
+  where
+    chosen : (one : Bool) → is_entry_of (key_word key) section ≡ one → IsFine text earlier section → filter (is_entry_of (key_word key)) sections ≡ []
+        → (if one then section ∷ filter (is_entry_of (key_word key)) sections else filter (is_entry_of (key_word key)) sections) ≡ []
     chosen true is fine later =
-        let none : list_any (is_entry_of key) earlier ≡ false = stood_before text key earlier section known is fine in
+        let none : list_any (is_entry_of (key_word key)) earlier ≡ false = stood_before text key earlier section is fine in
         absurd (cc)
     chosen false is fine later = later
 
 -- none or one
-pub data AtMostOne (text key : List ℕ) (sections : List Section) : Type 0 where
-  NoEntry : filter (is_entry_of key) sections ≡ [] → find (is_entry_of key) sections ≡ None → AtMostOne text key sections
-  OneEntry : (section : Section) → filter (is_entry_of key) sections ≡ section ∷ [] → find (is_entry_of key) sections ≡ Some section → key_wrongs text key section ≡ [] → AtMostOne text key sections
+pub data AtMostOne (text : List ℕ) (key : Key) (sections : List Section) : Type 0 where
+  NoEntry : filter (is_entry_of (key_word key)) sections ≡ [] → find (is_entry_of (key_word key)) sections ≡ None → AtMostOne text key sections
+  OneEntry : (section : Section) → filter (is_entry_of (key_word key)) sections ≡ section ∷ [] → find (is_entry_of (key_word key)) sections ≡ Some section → key_wrongs text key section ≡ [] → AtMostOne text key sections
 
-pub at_most_one : (text key : List ℕ) (earlier sections : List Section) → list_any (bytes_eq key) known_keys ≡ true → entries_wrongs text earlier sections ≡ [] → AtMostOne text key sections
-at_most_one text key earlier [] known e = NoEntry refl refl
-at_most_one text key earlier (section ∷ sections) known e =
+pub at_most_one : (text : List ℕ) (key : Key) (earlier sections : List Section) → entries_wrongs text earlier sections ≡ [] → AtMostOne text key sections
+at_most_one text key earlier [] e = NoEntry refl refl
+at_most_one text key earlier (section ∷ sections) e =
     let parts = append_none (entry_wrongs text earlier section) (entries_wrongs text (earlier ++ (section ∷ [])) sections) e in
-    chosen (is_entry_of key section) refl (fine_entry text earlier section parts.0) (at_most_one text key (earlier ++ (section ∷ [])) sections known parts.1)
-    (λ is. none_later text key (earlier ++ (section ∷ [])) sections known (any_last (is_entry_of key) earlier section is) parts.1)
+    chosen (is_entry_of (key_word key) section) refl (fine_entry text earlier section parts.0) (at_most_one text key (earlier ++ (section ∷ [])) sections parts.1)
+    (λ is. none_later text key (earlier ++ (section ∷ [])) sections (any_last (is_entry_of (key_word key)) earlier section is) parts.1)
   where
-    unlike : is_entry_of key section ≡ false → AtMostOne text key sections → AtMostOne text key (section ∷ sections)
+    unlike : is_entry_of (key_word key) section ≡ false → AtMostOne text key sections → AtMostOne text key (section ∷ sections)
     unlike is (NoEntry none not_found) = NoEntry (rw is none) (rw is not_found)
     unlike is (OneEntry own one found right) = OneEntry own (rw is one) (rw is found) right
 
-    chosen : (one : Bool) → is_entry_of key section ≡ one → IsFine text earlier section → AtMostOne text key sections → (is_entry_of key section ≡ true → filter (is_entry_of key) sections ≡ [])
-        → AtMostOne text key (section ∷ sections)
-    chosen true is fine rest none =
-        OneEntry section (rw (is, none is) refl) (rw is refl) (subst (λ (own : List ℕ). key_wrongs text own section ≡ []) (key_is key section is) fine.right)
+    right_of : is_entry_of (key_word key) section ≡ true → IsFine text earlier section → key_wrongs text key section ≡ []
+    right_of is fine =
+        ap (λ spelled. keyed_wrongs text spelled section) (sym (spelled_back key) ∙ ap key_spelled (sym (key_is (key_word key) section is))) ∙ fine.right
+
+    chosen : (one : Bool) → is_entry_of (key_word key) section ≡ one → IsFine text earlier section → AtMostOne text key sections
+        → (is_entry_of (key_word key) section ≡ true → filter (is_entry_of (key_word key)) sections ≡ []) → AtMostOne text key (section ∷ sections)
+    chosen true is fine rest none = OneEntry section (rw (is, none is) refl) (rw is refl) (right_of is fine)
     chosen false is fine rest none = unlike is rest
 
 -- ══ Values ══
@@ -175,9 +203,9 @@ fault_none : (line : ℕ) (found : Option Fault) (rest : List Wrong) → fault_t
 fault_none line None rest e = (refl, e)
 fault_none line (Some error) rest e = absurd (cc)
 
-pub truth_spells : (text key : List ℕ) (sections : List Section) → AtMostOne text key sections
+pub truth_spells : (text : List ℕ) (key : Key) (sections : List Section) → AtMostOne text key sections
     → ((section : Section) → key_wrongs text key section ≡ fault_then section.head.number (truth_fault (value_items text section.head)) (under_wrongs section.under))
-    → SpellsTruth text (entries_with key sections) (is_key_true text key sections)
+    → SpellsTruth text (entries_with (key_word key) sections) (is_key_true text (key_word key) sections)
 truth_spells text key sections (NoEntry none not_found) by = rw (none, not_found) refl
 truth_spells text key sections (OneEntry section one found right) by =
     let parts = fault_none section.head.number (truth_fault (value_items text section.head)) (under_wrongs section.under) (sym (by section) ∙ right) in
@@ -208,34 +236,34 @@ no_entries_value (Some (first ∷ second ∷ [])) e = ap Some (square_is first s
 no_entries_value (Some (first ∷ second ∷ third ∷ rest)) e = absurd (cc)
 
 -- the lines of a list, in which nothing is wrong
-pub record IsList (text key : List ℕ) (sections : List Section) (wrongs : List Line → List Wrong) : Type 0 where
-  pub lists : Lists text (entries_with key sections) (list_under text key sections)
-  pub right : wrongs (list_under text key sections) ≡ []
+pub record IsList (text : List ℕ) (key : Key) (sections : List Section) (wrongs : List Line → List Wrong) : Type 0 where
+  pub lists : Lists text (entries_with (key_word key) sections) (list_under text (key_word key) sections)
+  pub right : wrongs (list_under text (key_word key) sections) ≡ []
 
-list_by_value : (text key : List ℕ) (sections : List Section) (wrongs : List Line → List Wrong) (section : Section) (value : ListValue) → wrongs [] ≡ []
-    → filter (is_entry_of key) sections ≡ section ∷ [] → find (is_entry_of key) sections ≡ Some section → list_value (value_items text section.head) ≡ value
+list_by_value : (text : List ℕ) (key : Key) (sections : List Section) (wrongs : List Line → List Wrong) (section : Section) (value : ListValue) → wrongs [] ≡ []
+    → filter (is_entry_of (key_word key)) sections ≡ section ∷ [] → find (is_entry_of (key_word key)) sections ≡ Some section → list_value (value_items text section.head) ≡ value
     → list_wrongs value section (wrongs section.under) ≡ [] → IsList text key sections wrongs
 list_by_value text key sections wrongs section Entries nothing one found is e =
-    let lines : list_under text key sections ≡ section.under = rw (found, is) refl in
+    let lines : list_under text (key_word key) sections ≡ section.under = rw (found, is) refl in
     record {
-      lists = subst (λ lines. Lists text (entries_with key sections) lines) (sym lines) (rw one (inl (entries_value (value_items text section.head) is, refl)));
+      lists = subst (λ lines. Lists text (entries_with (key_word key) sections) lines) (sym lines) (rw one (inl (entries_value (value_items text section.head) is, refl)));
       right = ap wrongs lines ∙ e;
     }
 list_by_value text key sections wrongs section NoEntries nothing one found is e =
-    let lines : list_under text key sections ≡ [] = rw (found, is) refl in
+    let lines : list_under text (key_word key) sections ≡ [] = rw (found, is) refl in
     record {
-      lists = subst (λ lines. Lists text (entries_with key sections) lines) (sym lines) (rw one (inr (no_entries_value (value_items text section.head) is, no_under section.under e, refl)));
+      lists = subst (λ lines. Lists text (entries_with (key_word key) sections) lines) (sym lines) (rw one (inr (no_entries_value (value_items text section.head) is, no_under section.under e, refl)));
       right = ap wrongs lines ∙ nothing;
     }
 list_by_value text key sections wrongs section NoList nothing one found is e = absurd (cc)
 
-pub list_spells : (text key : List ℕ) (sections : List Section) (wrongs : List Line → List Wrong) → wrongs [] ≡ [] → AtMostOne text key sections
+pub list_spells : (text : List ℕ) (key : Key) (sections : List Section) (wrongs : List Line → List Wrong) → wrongs [] ≡ [] → AtMostOne text key sections
     → ((section : Section) → key_wrongs text key section ≡ list_wrongs (list_value (value_items text section.head)) section (wrongs section.under))
     → IsList text key sections wrongs
 list_spells text key sections wrongs nothing (NoEntry none not_found) by =
-    let lines : list_under text key sections ≡ [] = rw not_found refl in
+    let lines : list_under text (key_word key) sections ≡ [] = rw not_found refl in
     record {
-      lists = subst (λ lines. Lists text (entries_with key sections) lines) (sym lines) (rw none refl);
+      lists = subst (λ lines. Lists text (entries_with (key_word key) sections) lines) (sym lines) (rw none refl);
       right = ap wrongs lines ∙ nothing;
     }
 list_spells text key sections wrongs nothing (OneEntry section one found right) by =
@@ -297,7 +325,7 @@ any_filtered p (x ∷ xs) e = chosen (p x) e (any_filtered p xs)
     chosen true e later = absurd (cc)
     chosen false e later = later e
 
-pub name_spells : (text : List ℕ) (sections : List Section) → AtMostOne text (codes "name") sections → is_missing (codes "name") sections ≡ false
+pub name_spells : (text : List ℕ) (sections : List Section) → AtMostOne text Name sections → is_missing (codes "name") sections ≡ false
     → SpellsName (option_map_or name_value (entry_of (codes "name") sections) []) (entries_with (codes "name") sections)
 name_spells text sections (NoEntry none not_found) there =
     let none_any : list_any (is_entry_of (codes "name")) sections ≡ false = any_filtered (is_entry_of (codes "name")) sections none in
@@ -319,7 +347,7 @@ bar_value (Some []) e = absurd (cc)
 bar_value (Some (item ∷ [])) e = ap (λ w. Some (w ∷ [])) (bar_what item item.what refl e)
 bar_value (Some (item ∷ next ∷ rest)) e = absurd (cc)
 
-pub body_spells : (text : List ℕ) (sections : List Section) → AtMostOne text (codes "body") sections → is_missing (codes "body") sections ≡ false
+pub body_spells : (text : List ℕ) (sections : List Section) → AtMostOne text Body sections → is_missing (codes "body") sections ≡ false
     → SpellsBody text (entries_with (codes "body") sections) (body_lines text sections)
 body_spells text sections (NoEntry none not_found) there =
     let none_any : list_any (is_entry_of (codes "body")) sections ≡ false = any_filtered (is_entry_of (codes "body")) sections none in

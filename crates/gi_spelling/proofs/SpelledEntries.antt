@@ -1,6 +1,6 @@
 -- Nothing is wrong in the entries of a document that spells a function.
 use Rattle.std.proofs.Common.{◌≡◌, ℕ, suc, ◌≤◌, Bool, true, false, List, [], ◌∷◌, ◌++◌, length, Option, Some, None, Ok, Err, map, refl, sym, ap, ◌∙◌, subst, inl, inr, arith, append_assoc}
-use Rattle.std.specs.Prelude.{◌&&◌, ◌==◌, filter, filter_map, find, bytes_eq, option_map, codes, if◌then◌else◌}
+use Rattle.std.specs.Prelude.{◌&&◌, ◌==◌, filter, filter_map, find, bytes_eq, is_some, option_map, codes, if◌then◌else◌}
 use Rattle.std.specs.List.{list_all, list_any, cons_option}
 use Rattle.std.proofs.lemmas.Bool.{and_parts, and_right}
 use Rattle.std.proofs.lemmas.Bool.Decides.{nat_tests}
@@ -14,79 +14,24 @@ use Rattle.gi_spelling.specs.declared.token.Item.{Item}
 use Rattle.gi_spelling.specs.declared.written.Fields.{Fields}
 use Rattle.gi_spelling.specs.declared.written.StackEntry.{StackEntry}
 use Rattle.gi_spelling.specs.declared.written.ListValue.TheVariants.{Entries, NoEntries}
+use Rattle.gi_spelling.specs.declared.written.Key.{Key}
+use Rattle.gi_spelling.specs.declared.written.Key.TheVariants.{Name, Body}
 use Rattle.gi_spelling.specs.declared.written.Wrong.{Wrong}
 use Rattle.gi_spelling.specs.Items.{what_in, value_items}
 use Rattle.gi_spelling.specs.Lines.{Line, Section, is_entry, is_entry_of, key_of}
 use Rattle.gi_spelling.specs.Reading.{Read}
-use Rattle.gi_spelling.specs.Documents.{is_name, name_value, truth_fault, list_value, line_entry, fields_wrong, register_wrongs, register_by, registers_in, object_at, objects_from, object_wrong, object_wrongs, known_keys, under_wrongs, fault_then, list_wrongs, key_wrongs, is_again, entry_wrongs, entries_wrongs, list_under}
+use Rattle.gi_spelling.specs.Documents.{is_name, name_value, truth_fault, list_value, line_entry, fields_wrong, register_wrongs, register_by, registers_in, object_at, objects_from, object_wrong, object_wrongs, key_word, key_spelled, under_wrongs, fault_then, list_wrongs, key_wrongs, keyed_wrongs, is_again, entry_wrongs, entries_wrongs, list_under}
 use Rattle.gi_spelling.specs.Spelling.{word_what, entries_with, SpellsTruth, Lists, SpellsName, SpellsBody}
-use Rattle.gi_spelling.proofs.ReadWrongs.{any_filtered, same_bytes}
-
--- ══ The keys that count ══
-
-pub data KnownKey : Type 0 where
-  NameKey : KnownKey
-  LegalKey : KnownKey
-  BankedKey : KnownKey
-  ChosenKey : KnownKey
-  RegistersKey : KnownKey
-  StackKey : KnownKey
-  BodyKey : KnownKey
-
-abbrev pub key_bytes : KnownKey → List ℕ
-key_bytes NameKey = codes "name"
-key_bytes LegalKey = codes "legalized"
-key_bytes BankedKey = codes "regBankSelected"
-key_bytes ChosenKey = codes "selected"
-key_bytes RegistersKey = codes "registers"
-key_bytes StackKey = codes "stack"
-key_bytes BodyKey = codes "body"
-
-record IsUnknown (key : List ℕ) : Type 0 where
-  no_name : bytes_eq key (codes "name") ≡ false
-  no_legal : bytes_eq key (codes "legalized") ≡ false
-  no_banked : bytes_eq key (codes "regBankSelected") ≡ false
-  no_chosen : bytes_eq key (codes "selected") ≡ false
-  no_registers : bytes_eq key (codes "registers") ≡ false
-  no_stack : bytes_eq key (codes "stack") ≡ false
-  no_body : bytes_eq key (codes "body") ≡ false
-
-data WhichKey (key : List ℕ) : Type 0 where
-  Known : (k : KnownKey) → key ≡ key_bytes k → WhichKey key
-  Unknown : IsUnknown key → WhichKey key
-
-which : (key : List ℕ) → WhichKey key
-which key =
-    chosen (bytes_eq key (codes "name")) refl (bytes_eq key (codes "legalized")) refl (bytes_eq key (codes "regBankSelected")) refl (bytes_eq key (codes "selected")) refl
-    (bytes_eq key (codes "registers")) refl (bytes_eq key (codes "stack")) refl (bytes_eq key (codes "body")) refl
-  where
-    chosen : (a : Bool) → bytes_eq key (codes "name") ≡ a → (b : Bool) → bytes_eq key (codes "legalized") ≡ b → (c : Bool) → bytes_eq key (codes "regBankSelected") ≡ c
-        → (d : Bool) → bytes_eq key (codes "selected") ≡ d → (r : Bool) → bytes_eq key (codes "registers") ≡ r → (s : Bool) → bytes_eq key (codes "stack") ≡ s
-        → (o : Bool) → bytes_eq key (codes "body") ≡ o → WhichKey key
-    chosen true is b b_is c c_is d d_is r r_is s s_is o o_is = Known NameKey (same_bytes key (codes "name") is)
-    chosen false a_is true is c c_is d d_is r r_is s s_is o o_is = Known LegalKey (same_bytes key (codes "legalized") is)
-    chosen false a_is false b_is true is d d_is r r_is s s_is o o_is = Known BankedKey (same_bytes key (codes "regBankSelected") is)
-    chosen false a_is false b_is false c_is true is r r_is s s_is o o_is = Known ChosenKey (same_bytes key (codes "selected") is)
-    chosen false a_is false b_is false c_is false d_is true is s s_is o o_is = Known RegistersKey (same_bytes key (codes "registers") is)
-    chosen false a_is false b_is false c_is false d_is false r_is true is o o_is = Known StackKey (same_bytes key (codes "stack") is)
-    chosen false a_is false b_is false c_is false d_is false r_is false s_is true is = Known BodyKey (same_bytes key (codes "body") is)
-    chosen false a_is false b_is false c_is false d_is false r_is false s_is false o_is =
-        Unknown (record { no_name = a_is; no_legal = b_is; no_banked = c_is; no_chosen = d_is; no_registers = r_is; no_stack = s_is; no_body = o_is })
-
-unknown_again : (key : List ℕ) (earlier : List Section) → IsUnknown key → (list_any (bytes_eq key) known_keys && list_any (is_entry_of key) earlier) ≡ false
-unknown_again key earlier u = rw (u.no_name, u.no_legal, u.no_banked, u.no_chosen, u.no_registers, u.no_stack, u.no_body) refl
-
-unknown_right : (text key : List ℕ) (section : Section) → IsUnknown key → key_wrongs text key section ≡ []
-unknown_right text key section u = rw (u.no_name, u.no_legal, u.no_banked, u.no_chosen, u.no_registers, u.no_stack, u.no_body) refl
+use Rattle.gi_spelling.proofs.ReadWrongs.{any_filtered, spelled_word}
 
 -- ══ Entries that stand once ══
 
-pub data Single (text key : List ℕ) (sections : List Section) : Type 0 where
-  Absent : filter (is_entry_of key) sections ≡ [] → Single text key sections
-  Present : (section : Section) → filter (is_entry_of key) sections ≡ section ∷ [] → key_wrongs text key section ≡ [] → Single text key sections
+pub data Single (text : List ℕ) (key : Key) (sections : List Section) : Type 0 where
+  Absent : filter (is_entry_of (key_word key)) sections ≡ [] → Single text key sections
+  Present : (section : Section) → filter (is_entry_of (key_word key)) sections ≡ section ∷ [] → key_wrongs text key section ≡ [] → Single text key sections
 
-record StandsOnce (text key : List ℕ) (earlier : List Section) (section : Section) : Type 0 where
-  new : list_any (is_entry_of key) earlier ≡ false
+record StandsOnce (text : List ℕ) (key : Key) (earlier : List Section) (section : Section) : Type 0 where
+  new : list_any (is_entry_of (key_word key)) earlier ≡ false
   right : key_wrongs text key section ≡ []
 
 only_one : (xs ys : List Section) (a s : Section) → xs ++ (a ∷ ys) ≡ s ∷ [] → (xs ≡ []) × (a ≡ s)
@@ -98,18 +43,18 @@ never_none : (xs ys : List Section) (a : Section) → xs ++ (a ∷ ys) ≡ [] �
 never_none [] ys a e = cc
 never_none (x ∷ xs) ys a e = cc
 
-stands_once : (text key : List ℕ) (earlier later : List Section) (section : Section) → Single text key (earlier ++ (section ∷ later)) → is_entry_of key section ≡ true → StandsOnce text key earlier section
+stands_once : (text : List ℕ) (key : Key) (earlier later : List Section) (section : Section) → Single text key (earlier ++ (section ∷ later)) → is_entry_of (key_word key) section ≡ true → StandsOnce text key earlier section
 stands_once text key earlier later section single one = chosen single
   where
-    cut : filter (is_entry_of key) (earlier ++ (section ∷ later)) ≡ filter (is_entry_of key) earlier ++ (section ∷ filter (is_entry_of key) later)
-    cut = filter-append (is_entry_of key) earlier (section ∷ later)
-        ∙ ap (λ b. filter (is_entry_of key) earlier ++ (if b then section ∷ filter (is_entry_of key) later else filter (is_entry_of key) later)) one
+    cut : filter (is_entry_of (key_word key)) (earlier ++ (section ∷ later)) ≡ filter (is_entry_of (key_word key)) earlier ++ (section ∷ filter (is_entry_of (key_word key)) later)
+    cut = filter-append (is_entry_of (key_word key)) earlier (section ∷ later)
+        ∙ ap (λ b. filter (is_entry_of (key_word key)) earlier ++ (if b then section ∷ filter (is_entry_of (key_word key)) later else filter (is_entry_of (key_word key)) later)) one
 
     chosen : Single text key (earlier ++ (section ∷ later)) → StandsOnce text key earlier section
-    chosen (Absent none) = absurd (never_none (filter (is_entry_of key) earlier) (filter (is_entry_of key) later) section (sym cut ∙ none))
+    chosen (Absent none) = absurd (never_none (filter (is_entry_of (key_word key)) earlier) (filter (is_entry_of (key_word key)) later) section (sym cut ∙ none))
     chosen (Present own alone right) =
-        let parts = only_one (filter (is_entry_of key) earlier) (filter (is_entry_of key) later) section own (sym cut ∙ alone) in
-        record { new = any_filtered (is_entry_of key) earlier parts.0; right = subst (λ s. key_wrongs text key s ≡ []) (sym parts.1) right }
+        let parts = only_one (filter (is_entry_of (key_word key)) earlier) (filter (is_entry_of (key_word key)) later) section own (sym cut ∙ alone) in
+        record { new = any_filtered (is_entry_of (key_word key)) earlier parts.0; right = subst (λ s. key_wrongs text key s ≡ []) (sym parts.1) right }
 
 same_byte : (byte : ℕ) → (byte == byte) ≡ true
 same_byte byte = grind (arith, nat_tests)
@@ -121,28 +66,30 @@ same_key (byte ∷ bytes) = rw (same_byte byte) (same_key bytes)
 own_key : (section : Section) (key : List ℕ) → is_entry section.head.bytes ≡ true → key_of section.head.bytes ≡ key → is_entry_of key section ≡ true
 own_key section key one is = rw (one, is) (same_key key)
 
-entry_right : (text : List ℕ) (earlier later : List Section) (section : Section) → ((k : KnownKey) → Single text (key_bytes k) (earlier ++ (section ∷ later))) → is_entry section.head.bytes ≡ true
+entry_right : (text : List ℕ) (earlier later : List Section) (section : Section) → ((key : Key) → Single text key (earlier ++ (section ∷ later))) → is_entry section.head.bytes ≡ true
     → entry_wrongs text earlier section ≡ []
-entry_right text earlier later section singles one = chosen (which (key_of section.head.bytes))
+entry_right text earlier later section singles one = chosen (key_spelled (key_of section.head.bytes)) refl
   where
-    right_by : is_again earlier section ≡ false → key_wrongs text (key_of section.head.bytes) section ≡ [] → entry_wrongs text earlier section ≡ []
+    right_by : is_again earlier section ≡ false → keyed_wrongs text (key_spelled (key_of section.head.bytes)) section ≡ [] → entry_wrongs text earlier section ≡ []
     right_by again right = rw (one, again) right
 
-    chosen : WhichKey (key_of section.head.bytes) → entry_wrongs text earlier section ≡ []
-    chosen (Unknown unknown) = right_by (unknown_again (key_of section.head.bytes) earlier unknown) (unknown_right text (key_of section.head.bytes) section unknown)
-    chosen (Known k is) =
-        let once = stands_once text (key_bytes k) earlier later section (singles k) (own_key section (key_bytes k) one is) in
-        let again : list_any (is_entry_of (key_of section.head.bytes)) earlier ≡ false = ap (λ key. list_any (is_entry_of key) earlier) is ∙ once.new in
-        right_by (ap (λ b. list_any (bytes_eq (key_of section.head.bytes)) known_keys && b) again ∙ and_right (list_any (bytes_eq (key_of section.head.bytes)) known_keys) false refl)
-        (ap (λ key. key_wrongs text key section) is ∙ once.right)
+    chosen : (spelled : Option Key) → key_spelled (key_of section.head.bytes) ≡ spelled → entry_wrongs text earlier section ≡ []
+    chosen None is =
+        right_by (ap (λ spelled. is_some spelled && list_any (is_entry_of (key_of section.head.bytes)) earlier) is) (ap (λ spelled. keyed_wrongs text spelled section) is)
+    chosen (Some key) is =
+        let same = spelled_word (key_of section.head.bytes) key is in
+        let once = stands_once text key earlier later section (singles key) (own_key section (key_word key) one same) in
+        let again : list_any (is_entry_of (key_of section.head.bytes)) earlier ≡ false = ap (λ bytes. list_any (is_entry_of bytes) earlier) same ∙ once.new in
+        right_by (ap (λ b. is_some (key_spelled (key_of section.head.bytes)) && b) again ∙ and_right (is_some (key_spelled (key_of section.head.bytes))) false refl)
+        (ap (λ spelled. keyed_wrongs text spelled section) is ∙ once.right)
 
-pub entries_right : (text : List ℕ) (earlier sections : List Section) → ((k : KnownKey) → Single text (key_bytes k) (earlier ++ sections)) → list_all (λ (section : Section). is_entry section.head.bytes) sections ≡ true
+pub entries_right : (text : List ℕ) (earlier sections : List Section) → ((key : Key) → Single text key (earlier ++ sections)) → list_all (λ (section : Section). is_entry section.head.bytes) sections ≡ true
     → entries_wrongs text earlier sections ≡ []
 entries_right text earlier [] singles keyed = refl
 entries_right text earlier (section ∷ sections) singles keyed =
     let parts = and_parts (is_entry section.head.bytes) (list_all (λ (section : Section). is_entry section.head.bytes) sections) keyed in
     let here = entry_right text earlier sections section singles parts.0 in
-    let later = entries_right text (earlier ++ (section ∷ [])) sections (λ k. subst (Single text (key_bytes k)) (sym (append_assoc earlier (section ∷ []) sections)) (singles k)) parts.1 in
+    let later = entries_right text (earlier ++ (section ∷ [])) sections (λ key. subst (Single text key) (sym (append_assoc earlier (section ∷ []) sections)) (singles key)) parts.1 in
     rw (here, later) refl
 
 -- ══ Each key ══
@@ -177,21 +124,21 @@ truth_right items false e =
     let p = one_item items (word_what word.False) e in
     rw (p.1, p.2) refl
 
-pub truth_single : (text key : List ℕ) (sections found : List Section) (truth : Bool) → entries_with key sections ≡ found → SpellsTruth text found truth
+pub truth_single : (text : List ℕ) (key : Key) (sections found : List Section) (truth : Bool) → entries_with (key_word key) sections ≡ found → SpellsTruth text found truth
     → ((section : Section) → key_wrongs text key section ≡ fault_then section.head.number (truth_fault (value_items text section.head)) (under_wrongs section.under)) → Single text key sections
 truth_single text key sections [] truth e spelled by = Absent e
 truth_single text key sections (section ∷ []) truth e spelled by =
     Present section e (by section ∙ rw (truth_right (value_items text section.head) truth spelled.0, spelled.1) refl)
 truth_single text key sections (section ∷ other ∷ more) truth e spelled by = absurd spelled
 
-pub name_single : (text name : List ℕ) (sections found : List Section) → entries_with (codes "name") sections ≡ found → SpellsName name found → Single text (codes "name") sections
+pub name_single : (text name : List ℕ) (sections found : List Section) → entries_with (codes "name") sections ≡ found → SpellsName name found → Single text Name sections
 name_single text name sections [] e spelled = Absent e
 name_single text name sections (section ∷ []) e spelled =
     let named : is_name (name_value section) ≡ true = ap is_name spelled.0 ∙ spelled.1 in
     Present section e (rw (named, spelled.2) refl)
 name_single text name sections (section ∷ other ∷ more) e spelled = absurd spelled
 
-pub body_single : (text : List ℕ) (sections found : List Section) (lines : List Line) → entries_with (codes "body") sections ≡ found → SpellsBody text found lines → Single text (codes "body") sections
+pub body_single : (text : List ℕ) (sections found : List Section) (lines : List Line) → entries_with (codes "body") sections ≡ found → SpellsBody text found lines → Single text Body sections
 body_single text sections [] lines e spelled = Absent e
 body_single text sections (section ∷ []) lines e spelled =
     let p = one_item (value_items text section.head) what.Bar spelled.0 in
@@ -214,24 +161,24 @@ square_items (Some (first ∷ second ∷ [])) e =
 square_items (Some (first ∷ second ∷ third ∷ rest)) e = absurd (cc)
 
 -- a list, and the lines that are read of it
-pub record ListRead (text key : List ℕ) (sections : List Section) (lines : List Line) : Type 0 where
+pub record ListRead (text : List ℕ) (key : Key) (sections : List Section) (lines : List Line) : Type 0 where
   pub single : Single text key sections
-  pub under : list_under text key sections ≡ lines
+  pub under : list_under text (key_word key) sections ≡ lines
 
-pub list_read : (text key : List ℕ) (sections found : List Section) (lines : List Line) (wrongs : List Line → List Wrong) → entries_with key sections ≡ found → Lists text found lines → wrongs lines ≡ []
+pub list_read : (text : List ℕ) (key : Key) (sections found : List Section) (lines : List Line) (wrongs : List Line → List Wrong) → entries_with (key_word key) sections ≡ found → Lists text found lines → wrongs lines ≡ []
     → ((section : Section) → key_wrongs text key section ≡ list_wrongs (list_value (value_items text section.head)) section (wrongs section.under)) → ListRead text key sections lines
-list_read text key sections [] lines wrongs e listed right by = record { single = Absent e; under = rw (find_none (is_entry_of key) sections e) (sym listed) }
+list_read text key sections [] lines wrongs e listed right by = record { single = Absent e; under = rw (find_none (is_entry_of (key_word key)) sections e) (sym listed) }
 list_read text key sections (section ∷ []) lines wrongs e (inl listed) right by =
     let value = no_items (value_items text section.head) listed.0 in
     record {
       single = Present section e (by section ∙ rw value (ap wrongs (sym listed.1) ∙ right));
-      under = rw (find_by (is_entry_of key) sections section e, value) (sym listed.1);
+      under = rw (find_by (is_entry_of (key_word key)) sections section e, value) (sym listed.1);
     }
 list_read text key sections (section ∷ []) lines wrongs e (inr listed) right by =
     let value = square_items (value_items text section.head) listed.0 in
     record {
       single = Present section e (by section ∙ rw (value, listed.1) refl);
-      under = rw (find_by (is_entry_of key) sections section e, value) (sym listed.2);
+      under = rw (find_by (is_entry_of (key_word key)) sections section e, value) (sym listed.2);
     }
 list_read text key sections (section ∷ other ∷ more) lines wrongs e listed right by = absurd listed
 

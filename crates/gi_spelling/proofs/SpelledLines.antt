@@ -20,7 +20,8 @@ use Rattle.gi_spelling.specs.declared.written.Source.TheVariants as source
 use Rattle.gi_spelling.specs.declared.written.Memory.{Memory}
 use Rattle.gi_spelling.specs.Items.{what_in}
 use Rattle.gi_spelling.specs.Written.{WrittenData}
-use Rattle.gi_spelling.specs.Reading.{split_at_equals, is_equals, is_debug, read_flags, opcode_place, is_debug_line}
+use Rattle.gi_spelling.specs.declared.written.Separator.TheVariants.{Equals}
+use Rattle.gi_spelling.specs.Reading.{split_at, is_equals, is_debug, read_flags, opcode_place, is_debug_line}
 use Rattle.gi_spelling.specs.Blocks.{head_by, head_in, list_by, list_kind_in}
 use Rattle.gi_spelling.specs.Spelling.{word_what, definition_whats, source_whats, symbol_flag_whats, listed_whats, defined_whats, flag_whats, flags_whats, align_whats, memory_whats, whats_of, AreWritten}
 use Rattle.gi_spelling.proofs.WrittenParts.{no_equals, equals_written}
@@ -126,7 +127,7 @@ memory_no_equals : (memory : Option Memory) → list_all no_equals (memory_whats
 memory_no_equals None = refl
 memory_no_equals (Some memory) = align_no_equals memory.align
 
-no_split : (whats : List What) (items : List Item) → list_all no_equals whats ≡ true → map what_in items ≡ whats → (split_at_equals items).after ≡ None
+no_split : (whats : List What) (items : List Item) → list_all no_equals whats ≡ true → map what_in items ≡ whats → (split_at Equals items).after ≡ None
 no_split whats [] none e = refl
 no_split [] (item ∷ rest) none e = absurd (cc)
 no_split (w ∷ ws) (item ∷ rest) none e =

@@ -10,6 +10,8 @@ use Rattle.gi_llt.specs.declared.Llt.{Llt}
 use Rattle.gi_mir.specs.declared.operand.Kind.{Kind}
 use Rattle.gi_mir.specs.declared.operand.Reg.{Reg}
 use Rattle.gi_mir.specs.Data.{InstrData, BlockData, FunctionData, ModuleData}
+use Rattle.gi_spelling.specs.declared.written.Key.{Key}
+use Rattle.gi_spelling.specs.declared.written.Key.TheVariants.{Name, Legalized, Banked, Selected, Registers, Stack, Body as OfBody}
 use Rattle.gi_spelling.specs.declared.written.Shown.{Shown}
 use Rattle.gi_spelling.specs.declared.token.Item.{Item}
 use Rattle.gi_spelling.specs.declared.token.What.TheVariants as what
@@ -20,7 +22,7 @@ use Rattle.gi_spelling.specs.Blocks.{is_head, head_number, head_faults, number_a
 use Rattle.gi_spelling.specs.Documents.{is_bar, read_document, tables_of, entries_of, body_lines, register_wrongs, registers_in, stack_entries, objects_from, object_wrongs, is_missing, missing_wrongs, block_wrongs, line_wrongs, document_wrongs, first_wrong, wrong_in}
 use Rattle.gi_spelling.specs.Spelling.{types_in, SpellsName, SpellsBody, SpellsBlock, SpellsBlocks, are_distinct, entries_with, SpellsEntries, SpellsDocument, Spells}
 use Rattle.gi_spelling.proofs.ReadKinds.{SharesOperands, SameOperands, types_shared}
-use Rattle.gi_spelling.proofs.SpelledEntries.{KnownKey, NameKey, LegalKey, BankedKey, ChosenKey, RegistersKey, StackKey, BodyKey, key_bytes, Single, entries_right, find_by, truth_single, name_single, body_single, list_read, registers_right, objects_right}
+use Rattle.gi_spelling.proofs.SpelledEntries.{Single, entries_right, find_by, truth_single, name_single, body_single, list_read, registers_right, objects_right}
 use Rattle.gi_spelling.proofs.SpelledReads.{successors_fit, liveins_fit, ReadFrom, fits_type, block_runs}
 
 -- ══ Blocks ══
@@ -159,15 +161,15 @@ bar_is (Some (item ∷ [])) e =
     rw is refl
 bar_is (Some (item ∷ next ∷ rest)) e = absurd (cc)
 
-singles_of : (text : List ℕ) (names : List (List ℕ)) (f : FunctionData) (sections : List Section) → SpellsEntries text names sections f → Single text (codes "registers") sections → Single text (codes "stack") sections
-    → (k : KnownKey) → Single text (key_bytes k) sections
-singles_of text names f sections own registers stack NameKey = name_single text _ sections (entries_with (codes "name") sections) refl own.named
-singles_of text names f sections own registers stack LegalKey = truth_single text (codes "legalized") sections (entries_with (codes "legalized") sections) f.legalized refl own.legal (λ section. refl)
-singles_of text names f sections own registers stack BankedKey = truth_single text (codes "regBankSelected") sections (entries_with (codes "regBankSelected") sections) f.banked refl own.banked (λ section. refl)
-singles_of text names f sections own registers stack ChosenKey = truth_single text (codes "selected") sections (entries_with (codes "selected") sections) f.selected refl own.chosen (λ section. refl)
-singles_of text names f sections own registers stack RegistersKey = registers
-singles_of text names f sections own registers stack StackKey = stack
-singles_of text names f sections own registers stack BodyKey = body_single text sections (entries_with (codes "body") sections) own.lines refl own.bodied
+singles_of : (text : List ℕ) (names : List (List ℕ)) (f : FunctionData) (sections : List Section) → SpellsEntries text names sections f → Single text Registers sections → Single text Stack sections
+    → (key : Key) → Single text key sections
+singles_of text names f sections own registers stack Name = name_single text _ sections (entries_with (codes "name") sections) refl own.named
+singles_of text names f sections own registers stack Legalized = truth_single text Legalized sections (entries_with (codes "legalized") sections) f.legalized refl own.legal (λ section. refl)
+singles_of text names f sections own registers stack Banked = truth_single text Banked sections (entries_with (codes "regBankSelected") sections) f.banked refl own.banked (λ section. refl)
+singles_of text names f sections own registers stack Selected = truth_single text Selected sections (entries_with (codes "selected") sections) f.selected refl own.chosen (λ section. refl)
+singles_of text names f sections own registers stack Registers = registers
+singles_of text names f sections own registers stack Stack = stack
+singles_of text names f sections own registers stack OfBody = body_single text sections (entries_with (codes "body") sections) own.lines refl own.bodied
 
 there_name : (name : List ℕ) (sections found : List Section) → entries_with (codes "name") sections ≡ found → SpellsName name found → is_missing (codes "name") sections ≡ false
 there_name name sections [] e spelled = absurd spelled
@@ -186,10 +188,10 @@ document_right : (text : List ℕ) (names : List (List ℕ)) (document : Section
 document_right text names document f spelled =
     let sections = entries_of document in
     let own = spelled.entries in
-    let registers = list_read text (codes "registers") sections (entries_with (codes "registers") sections) own.registers (register_wrongs text) refl own.registered (registers_right text own.registers own.each_register) (λ section. refl) in
-    let objects = list_read text (codes "stack") sections (entries_with (codes "stack") sections) own.objects (λ lines. object_wrongs 0 (stack_entries text lines)) refl own.stacked
+    let registers = list_read text Registers sections (entries_with (codes "registers") sections) own.registers (register_wrongs text) refl own.registered (registers_right text own.registers own.each_register) (λ section. refl) in
+    let objects = list_read text Stack sections (entries_with (codes "stack") sections) own.objects (λ lines. object_wrongs 0 (stack_entries text lines)) refl own.stacked
     (objects_right 0 (stack_entries text own.objects) (sym (ap length own.stack) ∙ own.each_object)) (λ section. refl) in
-    let singles : (k : KnownKey) → Single text (key_bytes k) sections = singles_of text names f sections own registers.single objects.single in
+    let singles : (key : Key) → Single text key sections = singles_of text names f sections own registers.single objects.single in
     let entries = entries_right text [] sections singles own.keyed in
     let parsed = read_document text sections in
     let lines : body_lines text sections ≡ own.lines = body_under text sections (entries_with (codes "body") sections) own.lines refl own.bodied in

@@ -8,7 +8,8 @@ use Rattle.gi_spelling.specs.declared.token.What.{What}
 use Rattle.gi_spelling.specs.declared.token.What.TheVariants as what
 use Rattle.gi_spelling.specs.declared.token.Item.{Item}
 use Rattle.gi_spelling.specs.Items.{what_in}
-use Rattle.gi_spelling.specs.Reading.{onto_first_part, parts_of, is_equals, is_colon, Split, onto_split, split_at_equals, split_at_colons}
+use Rattle.gi_spelling.specs.declared.written.Separator.TheVariants.{Equals, Colons}
+use Rattle.gi_spelling.specs.Reading.{onto_first_part, parts_of, is_equals, is_colon, Split, onto_split, split_at}
 use Rattle.gi_spelling.specs.Spelling.{name_place, name_places, listed_whats}
 use Rattle.gi_spelling.proofs.TokenLists.{names_nothing, no_place}
 use Rattle.gi_spelling.proofs.ItemParts.{parts_whats}
@@ -109,7 +110,7 @@ abbrev pub no_equals : What → Bool
 no_equals w = not (is_equals w)
 
 pub equals_written : (first second : List What) (items : List Item) → list_all no_equals first ≡ true → map what_in items ≡ first ++ (what.Equals ∷ second)
-    → SplitsAt split_at_equals items first second
+    → SplitsAt (split_at Equals) items first second
 equals_written first second [] none e = absurd (clash first e)
   where
     clash : (first : List What) → [] ≡ first ++ (what.Equals ∷ second) → ⊥
@@ -135,7 +136,7 @@ abbrev pub no_colon : What → Bool
 no_colon w = not (is_colon w)
 
 pub no_colons_written : (whats : List What) (items : List Item) → list_all no_colon whats ≡ true → map what_in items ≡ whats
-    → split_at_colons items ≡ record { before = items; after = None }
+    → split_at Colons items ≡ record { before = items; after = None }
 no_colons_written whats [] none e = refl
 no_colons_written [] (item ∷ rest) none e = absurd (cc)
 no_colons_written (w ∷ ws) (item ∷ rest) none e =
@@ -146,7 +147,7 @@ no_colons_written (w ∷ ws) (item ∷ rest) none e =
     rw other (ap (onto_split item) (no_colons_written ws rest parts.1 later))
 
 pub colons_written : (first second : List What) (items : List Item) → list_all no_colon first ≡ true → map what_in items ≡ first ++ (what.Colon ∷ what.Colon ∷ second)
-    → SplitsAt split_at_colons items first second
+    → SplitsAt (split_at Colons) items first second
 colons_written first second [] none e = absurd (clash first e)
   where
     clash : (first : List What) → [] ≡ first ++ (what.Colon ∷ what.Colon ∷ second) → ⊥

@@ -1,7 +1,7 @@
 -- The documents of a text: the function that each one is, and at which lines something is wrong. A name stands for its
 -- number by its bytes, and a global by the place of its token in the text.
 -- (Machine IR (MIR) Format Reference Manual, "High Level Structure", "Machine Functions".)
-use Rattle.std.specs.Prelude.{ℕ, suc, Bool, true, false, not, ◌&&◌, ◌||◌, List, [], ◌∷◌, ◌++◌, Option, Some, None, Ok, Err, length, map, filter, filter_map, flat_map, fold, find, min, nat_lt, ◌==◌, bytes_eq, if◌then◌else◌, codes, unwrap_or}
+use Rattle.std.specs.Prelude.{ℕ, suc, Bool, true, false, not, ◌&&◌, ◌||◌, List, [], ◌∷◌, ◌++◌, Option, Some, None, is_some, Ok, Err, length, map, filter, filter_map, flat_map, fold, find, min, nat_lt, ◌==◌, bytes_eq, if◌then◌else◌, codes, unwrap_or}
 use Rattle.std.specs.List.{list_all, list_any, cons_option}
 use Rattle.std.specs.Option.{option_map_or}
 use Rattle.std.specs.Str.{is_utf8}
@@ -25,6 +25,8 @@ use Rattle.gi_spelling.specs.declared.written.Fault.{Fault}
 use Rattle.gi_spelling.specs.declared.written.Fault.TheVariants as fault
 use Rattle.gi_spelling.specs.declared.written.ListValue.{ListValue}
 use Rattle.gi_spelling.specs.declared.written.ListValue.TheVariants.{Entries, NoEntries, NoList}
+use Rattle.gi_spelling.specs.declared.written.Key.{Key}
+use Rattle.gi_spelling.specs.declared.written.Key.TheVariants.{Name, Legalized, Banked, Selected, Registers, Stack, Body as OfBody}
 use Rattle.gi_spelling.specs.declared.written.Wrong.{Wrong}
 use Rattle.gi_spelling.specs.Lines.{Line, Section, Sections, value_bytes, behind_colon, key_of, is_entry, is_entry_of, Parts, parts_of_text, document_entries, document_strays, document_end}
 use Rattle.gi_spelling.specs.Items.{items_of_line, value_items}
@@ -178,9 +180,20 @@ object_wrongs place (first ∷ more) = object_wrong first.line (object_at place 
 
 -- ══ The entries of a document ══
 
-abbrev pub known_keys : List (List ℕ)
-known_keys =
-    codes "name" ∷ codes "legalized" ∷ codes "regBankSelected" ∷ codes "selected" ∷ codes "registers" ∷ codes "stack" ∷ codes "body" ∷ []
+abbrev pub known_keys : List Key
+known_keys = Name ∷ Legalized ∷ Banked ∷ Selected ∷ Registers ∷ Stack ∷ OfBody ∷ []
+
+abbrev pub key_word : Key → List ℕ
+key_word Name = codes "name"
+key_word Legalized = codes "legalized"
+key_word Banked = codes "regBankSelected"
+key_word Selected = codes "selected"
+key_word Registers = codes "registers"
+key_word Stack = codes "stack"
+key_word OfBody = codes "body"
+
+abbrev pub key_spelled : List ℕ → Option Key
+key_spelled bytes = find (λ key. bytes_eq bytes (key_word key)) known_keys
 
 -- nothing may stand under the line
 abbrev pub under_wrongs : List Line → List Wrong
@@ -196,30 +209,33 @@ list_wrongs Entries section entries = entries
 list_wrongs NoEntries section entries = under_wrongs section.under
 list_wrongs NoList section entries = wrong section.head.number fault.Syntax ∷ []
 
--- what is wrong under each key that counts, but for the blocks
-abbrev pub key_wrongs : (text : List ℕ) → (key : List ℕ) → Section → List Wrong
-key_wrongs text key section =
-    if bytes_eq key (codes "name") then
-    (if is_name (name_value section) then under_wrongs section.under else wrong section.head.number fault.Syntax ∷ [])
-    else if bytes_eq key (codes "legalized") || bytes_eq key (codes "regBankSelected") || bytes_eq key (codes "selected") then
-    fault_then section.head.number (truth_fault (value_items text section.head)) (under_wrongs section.under)
-    else if bytes_eq key (codes "registers") then
-    list_wrongs (list_value (value_items text section.head)) section (register_wrongs text section.under)
-    else if bytes_eq key (codes "stack") then
-    list_wrongs (list_value (value_items text section.head)) section (object_wrongs 0 (stack_entries text section.under))
-    else if bytes_eq key (codes "body") then
-    (if is_bar (value_items text section.head) then [] else wrong section.head.number fault.Syntax ∷ [])
-    else []
+abbrev pub truth_wrongs : (text : List ℕ) → Section → List Wrong
+truth_wrongs text section = fault_then section.head.number (truth_fault (value_items text section.head)) (under_wrongs section.under)
+
+-- what is wrong in the entry of a key, but for the blocks
+abbrev pub key_wrongs : (text : List ℕ) → Key → Section → List Wrong
+key_wrongs text Name section = if is_name (name_value section) then under_wrongs section.under else wrong section.head.number fault.Syntax ∷ []
+key_wrongs text Legalized section = truth_wrongs text section
+key_wrongs text Banked section = truth_wrongs text section
+key_wrongs text Selected section = truth_wrongs text section
+key_wrongs text Registers section = list_wrongs (list_value (value_items text section.head)) section (register_wrongs text section.under)
+key_wrongs text Stack section = list_wrongs (list_value (value_items text section.head)) section (object_wrongs 0 (stack_entries text section.under))
+key_wrongs text OfBody section = if is_bar (value_items text section.head) then [] else wrong section.head.number fault.Syntax ∷ []
+
+-- an entry of another key may say anything
+abbrev pub keyed_wrongs : (text : List ℕ) → Option Key → Section → List Wrong
+keyed_wrongs text None section = []
+keyed_wrongs text (Some key) section = key_wrongs text key section
 
 -- an entry of a key that counts stands once
 abbrev pub is_again : (earlier : List Section) → Section → Bool
 is_again earlier section =
-    list_any (bytes_eq (key_of section.head.bytes)) known_keys && list_any (is_entry_of (key_of section.head.bytes)) earlier
+    is_some (key_spelled (key_of section.head.bytes)) && list_any (is_entry_of (key_of section.head.bytes)) earlier
 
 abbrev pub entry_wrongs : (text : List ℕ) → (earlier : List Section) → Section → List Wrong
 entry_wrongs text earlier section =
     if not (is_entry section.head.bytes) || is_again earlier section then wrong section.head.number fault.Syntax ∷ []
-    else key_wrongs text (key_of section.head.bytes) section
+    else keyed_wrongs text (key_spelled (key_of section.head.bytes)) section
 
 abbrev pub entries_wrongs : (text : List ℕ) → (earlier : List Section) → List Section → List Wrong
 entries_wrongs text earlier [] = []

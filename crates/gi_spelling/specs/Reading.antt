@@ -4,7 +4,7 @@
 -- A word in the place of an opcode, a type, a class, a predicate, a routine or a word of memory that is in no table
 -- there is unknown; whatever else goes wrong is a matter of syntax. Whether the operands agree with the opcode's row
 -- is looked at later.
-use Rattle.std.specs.Prelude.{ℕ, Bool, true, false, ◌&&◌, List, [], ◌∷◌, Option, Some, None, Result, Ok, Err, unwrap_or, if◌then◌else◌}
+use Rattle.std.specs.Prelude.{ℕ, Bool, true, false, ◌&&◌, List, [], ◌∷◌, Option, Some, None, Result, Ok, Err, drop, unwrap_or, if◌then◌else◌}
 use Rattle.gi_spelling.specs.Kept.{is_comma}
 use Rattle.gi_llt.specs.declared.Llt.{Llt}
 use Rattle.gi_mir.specs.declared.opcode.Opcode.{Opcode}
@@ -29,6 +29,8 @@ use Rattle.gi_spelling.specs.declared.written.Definition.TheVariants as definiti
 use Rattle.gi_spelling.specs.declared.written.Source.{Source}
 use Rattle.gi_spelling.specs.declared.written.Source.TheVariants as source
 use Rattle.gi_spelling.specs.declared.written.Memory.{Memory}
+use Rattle.gi_spelling.specs.declared.written.Separator.{Separator}
+use Rattle.gi_spelling.specs.declared.written.Separator.TheVariants.{Comma, Equals, Colons}
 use Rattle.gi_spelling.specs.declared.written.Fault.{Fault}
 use Rattle.gi_spelling.specs.declared.written.Fault.TheVariants as fault
 use Rattle.gi_spelling.specs.Written.{WrittenData}
@@ -370,25 +372,29 @@ pub record Split : Type 0 where
 abbrev pub onto_split : Item → Split → Split
 onto_split item split = record split { before = item ∷ split.before }
 
--- at the first `=`
-abbrev pub split_at_equals : List Item → Split
-split_at_equals [] = record { before = []; after = None }
-split_at_equals (item ∷ rest) = if is_equals item.what then record { before = []; after = Some rest } else onto_split item (split_at_equals rest)
-
--- at the first `::`
 abbrev pub begins_with_colon : List Item → Bool
 begins_with_colon [] = false
 begins_with_colon (item ∷ rest) = is_colon item.what
 
-abbrev pub without_first : List Item → List Item
-without_first [] = []
-without_first (item ∷ rest) = rest
+-- how many tokens a separator has
+abbrev pub width_of : Separator → ℕ
+width_of Comma = 1
+width_of Equals = 1
+width_of Colons = 2
 
-abbrev pub split_at_colons : List Item → Split
-split_at_colons [] = record { before = []; after = None }
-split_at_colons (item ∷ rest) =
-    if is_colon item.what && begins_with_colon rest then record { before = []; after = Some (without_first rest) }
-    else onto_split item (split_at_colons rest)
+-- the tokens begin with a separator
+abbrev pub begins : Separator → List Item → Bool
+begins separator [] = false
+begins Comma (item ∷ rest) = is_comma item.what
+begins Equals (item ∷ rest) = is_equals item.what
+begins Colons (item ∷ rest) = is_colon item.what && begins_with_colon rest
+
+-- at the first such separator
+abbrev pub split_at : Separator → List Item → Split
+split_at separator [] = record { before = []; after = None }
+split_at separator (item ∷ rest) =
+    if begins separator (item ∷ rest) then record { before = []; after = Some (drop (width_of separator) (item ∷ rest)) }
+    else onto_split item (split_at separator rest)
 
 -- the flags in their order, each once at most
 abbrev pub flag_at : List Item → Option What
@@ -420,7 +426,7 @@ pub record Flagged : Type 0 where
   pub rest : List Item
 
 abbrev pub past_flag : Bool → List Item → List Item
-past_flag true items = without_first items
+past_flag true items = drop 1 items
 past_flag false items = items
 
 abbrev pub read_flags : List Item → Flagged
@@ -457,8 +463,8 @@ read_memory_behind (Some items) = then_read (read_memory items) (λ memory. Ok (
 -- what stands behind the opcode
 abbrev pub read_tail : List Definition → Flags → Opcode → List Item → Read WrittenData
 read_tail definitions flags op items =
-    then_read (read_sources op (split_at_colons items).before) (λ sources.
-    then_read (read_memory_behind (split_at_colons items).after) (λ memory.
+    then_read (read_sources op (split_at Colons items).before) (λ sources.
+    then_read (read_memory_behind (split_at Colons items).after) (λ memory.
     Ok (record { definitions = definitions; flags = flags; op = op; sources = sources; memory = memory })))
 
 abbrev pub read_opcode : List Definition → Flags → List Item → Read WrittenData
@@ -488,7 +494,7 @@ read_defined_line split = then_read (read_all read_definition (parts_of split.be
 
 -- an instruction
 abbrev pub read_instr : List Item → Read WrittenData
-read_instr items = if begins_definition items then read_defined_line (split_at_equals items) else read_body [] items
+read_instr items = if begins_definition items then read_defined_line (split_at Equals items) else read_body [] items
 
 -- ══ Lines that are passed over ══
 
@@ -503,7 +509,7 @@ is_debug (item ∷ rest) = debug_by item.what
 
 -- what stands in the place of the opcode: behind the first `=` if there is one, and behind the flags
 abbrev pub opcode_place : List Item → List Item
-opcode_place items = (read_flags (unwrap_or (split_at_equals items).after items)).rest
+opcode_place items = (read_flags (unwrap_or (split_at Equals items).after items)).rest
 
 abbrev pub is_debug_line : List Item → Bool
 is_debug_line items = is_debug (opcode_place items)

@@ -20,6 +20,9 @@ pub enum Definition {
     Physical(u8),
 }
 
+/// Where the numbers of no block begin among the places of blocks.
+pub const FIRST_OF_NO_BLOCK: u32 = 65536;
+
 /// An operand that is no definition.
 #[derive(Clone, Copy, Debug, PartialEq, Eq)]
 pub enum Source {
@@ -59,6 +62,14 @@ pub struct Memory {
     pub load: bool,
     pub ty: Llt,
     pub align: Option<u128>,
+}
+
+/// What stands between two parts of a line: `,`, `=` or `::`.
+#[derive(Clone, Copy, Debug, PartialEq, Eq)]
+pub enum Separator {
+    Comma,
+    Equals,
+    Colons,
 }
 
 /// An instruction.
@@ -151,6 +162,18 @@ pub struct StackEntry {
 pub enum EntryKind {
     Register,
     Object,
+}
+
+/// A key of a document that counts.
+#[derive(Clone, Copy, Debug, PartialEq, Eq)]
+pub enum Key {
+    Name,
+    Legalized,
+    Banked,
+    Selected,
+    Registers,
+    Stack,
+    Body,
 }
 
 /// What a line at the head of a block lists.

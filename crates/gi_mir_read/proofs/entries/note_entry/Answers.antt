@@ -1,8 +1,7 @@
 use Rattle.std.proofs.Common.{sym, ap, ◌∙◌}
 use Rattle.std.specs.Prelude.{fold}
-use Rattle.gi_spelling.specs.Documents.{lower}
+use Rattle.gi_spelling.specs.Documents.{key_spelled, key_word, lower}
 use Rattle.gi_spelling.specs.Lines.{is_entry, key_of}
-use Rattle.gi_mir_read.specs.Keyed.{key_spelled, word_of}
 use Rattle.gi_mir_read.specs.Sectioned.{section_at}
 use Rattle.gi_mir_read.proofs.EntryLemmas.{none_is, on_ok, some_is}
 use Rattle.gi_mir_read.proofs.KeyLemmas.{firsts_again, firsts_kept, firsts_skip, no_entry_of, other_entry_of, wrong_again, wrong_first}
@@ -11,7 +10,7 @@ use Rattle.gi_mir_read.proofs.entries.note_entry.Goals as goal
 pub returns-then-not-is_entry-clause-firsts : goal.returns-then-not-is_entry-clause-firsts
 returns-then-not-is_entry-clause-firsts c = λ earlier are.
     firsts_skip c.args.text.now earlier c.args.firsts.now c.args.section are
-    (λ key. no_entry_of (section_at c.args.text.now c.args.section) (word_of key) (sym (c.if-not-is_entry.ensures ∙ ap is_entry c.bytes-line.ensures)))
+    (λ key. no_entry_of (section_at c.args.text.now c.args.section) (key_word key) (sym (c.if-not-is_entry.ensures ∙ ap is_entry c.bytes-line.ensures)))
 
 pub returns-in_default-clause-firsts : goal.returns-in_default-clause-firsts
 returns-in_default-clause-firsts c = λ earlier are.

@@ -1,5 +1,5 @@
 use Rattle.std.proofs.Common.{sym, ap, ◌∙◌, arith}
-use Rattle.gi_mir_read.specs.Splits.{begins}
+use Rattle.gi_spelling.specs.Reading.{begins}
 use Rattle.gi_mir_read.proofs.SplitLemmas.{split-past}
 use Rattle.gi_mir_read.proofs.split.split_at.Goals as goal
 

@@ -1,5 +1,5 @@
 use Rattle.std.proofs.Common.{◌≡◌, drop, take}
-use Rattle.gi_mir_read.specs.Splits.{split_at}
+use Rattle.gi_spelling.specs.Reading.{split_at}
 use Rattle.gi_mir_read.proofs.SplitLemmas.{onto_all}
 use Rattle.gi_mir_read.proofs.split.split_at.Given as goal
 
