@@ -11,7 +11,7 @@ use Rattle.gi_refine.specs.Agreement.{Agree, AgreeAt}
 use Rattle.gi_refine.specs.Kept.{without_kind, IsKept, AreKept, AllSeenAs}
 use Rattle.gi_refine.specs.OnePlace.{only_virtual, OnePlace, StaysAt, RewritesOnePlace}
 use Rattle.gi_refine.specs.Refinement.{RefinesUnchecked}
-use Rattle.gi_refine.specs.Worded.{classed_instr}
+use Rattle.gi_refine.specs.Worded.{classed_instr, classed_pair}
 use Rattle.gi_refine.proofs.Classed.{classed_kept}
 use Rattle.gi_refine.proofs.OnePlaceFollows.{one_place_refines}
 use Rattle.gi_refine.proofs.Reaching.{followed_within, nothing_followed}
@@ -24,7 +24,7 @@ use Rattle.gi_answer.proofs.SelectSteps.{any_nothing}
 
 -- the instructions with each register of class `gpr`
 abbrev pub classed_pairs : List (ℕ × InstrData) → List (ℕ × InstrData)
-classed_pairs is = map (λ i. (i.0, classed_instr i.1)) is
+classed_pairs is = map classed_pair is
 
 -- ══ They are kept ══
 

@@ -10,7 +10,7 @@ use Rattle.gi_mir.specs.Data.{InstrData, BlockData, FunctionData, reg_of}
 use Rattle.gi_mir.specs.Edit.{HeadData, above_registers, defines, with_block, block_with, block_at, head_of, is_use_of}
 use Rattle.gi_mir.specs.Formed.{is_formed}
 use Rattle.gi_meaning.specs.Runs.{is_among}
-use Rattle.gi_refine.specs.Worded.{classed_instr, classed_block}
+use Rattle.gi_refine.specs.Worded.{classed_instr, classed_pair, classed_block}
 use Rattle.gi_answer.specs.Shapes.{ShapedInstr, CopyIn, MakeConstant, AddUp, CopyOut, Return, shaped_instr, IsShapedInstr, stands_behind, defined_after}
 use Rattle.gi_answer.specs.NormalForm.{IsNormalForm, last_site, next_at}
 use Rattle.gi_answer.specs.Rows.{short_where, selection_rows}
@@ -206,7 +206,7 @@ put_all_there f b front reg id (i ∷ is) =
     }
 
 same_instrs : (back pairs : List (ℕ × InstrData)) → AllZip (λ (d : InstrData) (p : ℕ × InstrData). p.1 ≡ d) (classed_all back) pairs
-    → AllZip IsSameInstr (map (λ (i : ℕ × InstrData). (i.0, classed_instr i.1)) back) pairs
+    → AllZip IsSameInstr (map classed_pair back) pairs
 same_instrs [] [] h = tt
 same_instrs [] (p ∷ pairs) h = absurd h
 same_instrs (i ∷ back) [] h = absurd h
