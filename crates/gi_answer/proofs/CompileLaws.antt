@@ -1,5 +1,6 @@
 -- A text that is printed of what is selected from a read one keeps the promise.
 use Rattle.std.proofs.Common.{◌≡◌, ℕ, suc, true, List, [], ◌∷◌, length, map, inl, inr, refl, sym, ap, ap₂, ◌∙◌, subst}
+use Rattle.gi_mir.specs.Names.{name_at}
 use Rattle.std.specs.Prelude.{nat_le, nat_lt, ◌^◌}
 use Rattle.std.specs.List.{AllByRecursion, AllZip, list_all}
 use Rattle.std.specs.Cmp.Derive.{both_true}
@@ -9,7 +10,7 @@ use Rattle.gi_mir.specs.declared.operand.StackObject.{StackObject}
 use Rattle.gi_mir.specs.Numbering.{order_of, number_in, numbered, numbered_module}
 use Rattle.gi_spelling.specs.Documents.{is_name}
 use Rattle.gi_spelling.specs.Printable.{Counts, counts_of, IsPrintableInstr, IsPrintableBlock, is_writable_object, is_live_first, IsPrintableFunction, are_ir_lines, IsPrintableModule}
-use Rattle.gi_spelling.specs.Printed.{name_at, printed}
+use Rattle.gi_spelling.specs.Printed.{printed}
 use Rattle.gi_spelling.specs.Read.{IsReadModule}
 use Rattle.gi_spelling.specs.Spelling.{Spells}
 use Rattle.gi_spelling.specs.There.{NamesBlocksThatAreThere}

@@ -1,5 +1,6 @@
 -- For words and an input there is one text: names may be numbered in several ways when it is read, and this shows nowhere.
 use Rattle.std.proofs.Common.{◌≡◌, ℕ, zero, suc, Bool, true, false, ◌&&◌, List, [], ◌∷◌, map, Option, Some, None, option_map, inl, inr, refl, sym, ap, ap₂, ◌∙◌, subst}
+use Rattle.gi_mir.specs.Names.{name_at}
 use Rattle.std.specs.Prelude.{Result, Ok}
 use Rattle.std.specs.List.{AllZip, list_all}
 use Rattle.std.proofs.lemmas.Bool.{and_parts, false≢true}
@@ -15,7 +16,7 @@ use Rattle.gi_refine.specs.Kept.{without_kind}
 use Rattle.gi_spelling.specs.Documents.{function_of, read_document, entries_of}
 use Rattle.gi_spelling.specs.Lines.{Section, parts_of_text}
 use Rattle.gi_spelling.specs.Named.{IsNamedOperand, IsNamedEntry, IsNamedBlock, IsNamedFunction}
-use Rattle.gi_spelling.specs.Printed.{name_at, printed}
+use Rattle.gi_spelling.specs.Printed.{printed}
 use Rattle.gi_spelling.specs.Read.{IsReadFunction, IsReadModule}
 use Rattle.gi_spelling.specs.Same as alike
 use Rattle.gi_spelling.proofs.NumberedSame.{numbered_same}

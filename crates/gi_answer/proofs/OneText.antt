@@ -1,11 +1,12 @@
 -- What is selected from one module is printed with the same bytes, whatever the ids are.
 use Rattle.std.proofs.Common.{◌≡◌, ℕ, List, [], ◌∷◌, refl, sym, ap, ◌∙◌, subst}
+use Rattle.gi_mir.specs.Names.{name_at}
 use Rattle.std.specs.List.{AllZip}
 use Rattle.gi_mir.specs.Data.{InstrData, BlockData, FunctionData, ModuleData}
 use Rattle.gi_mir.specs.Numbering.{numbered_module}
 use Rattle.gi_mir.specs.declared.operand.Operand.{Operand}
 use Rattle.gi_mir.specs.declared.operand.Operand.TheVariants.{Global}
-use Rattle.gi_spelling.specs.Printed.{name_at, printed}
+use Rattle.gi_spelling.specs.Printed.{printed}
 use Rattle.gi_spelling.specs.Same as alike
 use Rattle.gi_spelling.proofs.NumberedSame.{numbered_same}
 use Rattle.gi_spelling.proofs.SamePrints.{printed_alike}

@@ -1,8 +1,8 @@
 -- What the program promises of the text that it writes.
 use Rattle.std.specs.Prelude.{◌≡◌, ℕ, true, List, ◌++◌, Option, Ok}
+use Rattle.gi_mir.specs.Names.{name_at}
 use Rattle.std.specs.List.{AllByRecursion, AllZip}
 use Rattle.gi_mir.specs.Data.{FunctionData, ModuleData}
-use Rattle.gi_spelling.specs.Printed.{name_at}
 use Rattle.gi_spelling.specs.Read.{IsReadModule}
 use Rattle.gi_spelling.specs.Spelling.{Spells}
 use Rattle.gi_meaning.specs.State.{World, IsWorld, Outcome}

@@ -12,6 +12,7 @@ use gi_mir::operand::Operand;
 use gi_mir::stage::Stage;
 use gi_observe::Pass;
 use gi_options::machine::Machine;
+use gi_spelling::written::FIRST_OF_NO_BLOCK;
 use gi_valid::{Fault, Invalid};
 use gi_verify::{VerifyError, verify};
 use std::alloc::Global;
@@ -79,7 +80,7 @@ fn invalid_words(alloc: Global, what: Invalid) -> Result<String, Memory>
             format!(in alloc; "type mismatch {word}").map_err(|_| Memory)
         }
         Invalid::UnknownBlock(block) => {
-            let number = block.saturating_sub(65536);
+            let number = block.saturating_sub(FIRST_OF_NO_BLOCK);
             format!(in alloc; "unknown block {number}").map_err(|_| Memory)
         }
         Invalid::PhiEntries => String::from_str(alloc, "phi entries").map_err(|_| Memory),

@@ -1,7 +1,7 @@
 -- A rule as data, seen on values alone: its instructions as operations on an environment, where x is the width of a machine
 -- register in bits, the registers at the rule's places have types, and the binding tells its numbers and its predicate.
 use Rattle.std.specs.Prelude.{ℕ, pos, min, ◌+◌, Bool, ◌||◌, ◌==◌, List, [], ◌∷◌, ◌++◌, Option, Some, None, flat_map, length, map, if◌then◌else◌}
-use Rattle.std.specs.List.{list_any}
+use Rattle.gi_meaning.specs.Runs.{is_among}
 use Rattle.gi_llt.specs.Bits.{unsigned}
 use Rattle.gi_llt.specs.Llt.{width_of}
 use Rattle.gi_llt.specs.declared.Llt.{Llt}
@@ -56,9 +56,6 @@ abbrev pub sources_of : List Slot → List ℕ
 sources_of [] = []
 sources_of (slot.Use place ∷ slots) = place ∷ sources_of slots
 sources_of (_ ∷ slots) = sources_of slots
-
-abbrev pub is_among : ℕ → List ℕ → Bool
-is_among place places = list_any (λ p. p == place) places
 
 -- the places of a match besides those that are known already and the root's results
 abbrev pub with_place : (results known : List ℕ) → ℕ → List ℕ

@@ -1,12 +1,13 @@
 -- The text of a function, with its registers numbered by their first appearance.
 use Rattle.std.proofs.Common.{◌≡◌, ℕ, suc, ◌+◌, Bool, true, false, List, [], ◌∷◌, ◌++◌, length, map, refl, sym, ap, ap₂, ◌∙◌, append_assoc, append-nil, unwrap_or, add-one, zero-add, Some}
+use Rattle.gi_mir.specs.Names.{name_at}
 use Rattle.std.specs.Prelude.{codes}
 use Rattle.gi_llt.specs.Tokens.{Spaces, piece_bytes}
 use Rattle.gi_mir.specs.Data.{InstrData, BlockData, FunctionData}
 use Rattle.gi_mir.specs.Numbering.{number_in, order_of, numbered}
 use Rattle.gi_mir.specs.Registers.{kind_of, kind_in_blocks, type_of_kind}
 use Rattle.gi_mir.specs.Renaming.{renamed_operand, renamed_instr, renamed_pair, renamed_block, renamed}
-use Rattle.gi_spelling.specs.Printed.{definitions_of, sources_of, source_forms, first_row, is_typed_by, forms_after, use_pieces, operand_pieces, definition_pieces, defined_pieces, source_pieces, sources_pieces, flags_pieces, word, memory_pieces, instr_pieces, instr_lines, block_head_pieces, set_off, successors_lines, liveins_lines, implied_successors, block_lines, blocks_lines, key_lines, stack_lines, name_at, printed_lines, ir_lines, text_of}
+use Rattle.gi_spelling.specs.Printed.{definitions_of, sources_of, source_forms, first_row, is_typed_by, forms_after, use_pieces, operand_pieces, definition_pieces, defined_pieces, source_pieces, sources_pieces, flags_pieces, word, memory_pieces, instr_pieces, instr_lines, block_head_pieces, set_off, successors_lines, liveins_lines, implied_successors, block_lines, blocks_lines, key_lines, stack_lines, printed_lines, ir_lines, text_of}
 use Rattle.gi_mir.specs.Row.{word_of, rows_of}
 use Rattle.gi_mir.specs.declared.operand.Kind.{Kind}
 use Rattle.gi_mir.specs.declared.operand.Kind.TheVariants.{Class}

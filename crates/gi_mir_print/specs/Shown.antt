@@ -1,5 +1,6 @@
 -- What a printer knows of a function's registers, and what it shows by it.
 use Rattle.std.specs.Prelude.{◌≡◌, ℕ, ◌-◌, Bool, true, false, ◌∷◌, List, [], ◌++◌, ◌&&◌, Option, nat_eq, nat_lt, if◌then◌else◌, length, fold, map, slice_index, unwrap_or, codes}
+use Rattle.gi_mir.specs.Names.{name_at}
 use Rattle.std.specs.Map.{lookup}
 use Rattle.gi_mir.specs.Data.{InstrData, BlockData, FunctionData}
 use Rattle.gi_mir.specs.Numbering.{number_in, with_register}
@@ -10,7 +11,7 @@ use Rattle.gi_mir.specs.declared.operand.Kind.TheVariants.{Class}
 use Rattle.gi_mir.specs.declared.operand.Operand.{Operand}
 use Rattle.gi_mir.specs.declared.operand.Operand.TheVariants as operand
 use Rattle.gi_mir.specs.Row.{is_branch_op}
-use Rattle.gi_spelling.specs.Printed.{successors_pieces, name_at, key_lines, stack_lines, blocks_lines, text_of}
+use Rattle.gi_spelling.specs.Printed.{successors_pieces, key_lines, stack_lines, blocks_lines, text_of}
 use Rattle.gi_llt.specs.Tokens.{Spaces, piece_bytes}
 use Rattle.std.specs.List.{list_any}
 use Rattle.gi_mir.specs.declared.row.Form.{Form}

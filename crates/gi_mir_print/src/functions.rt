@@ -7,8 +7,9 @@ ghost use Rattle.gi_mir.specs.Numbering.{numbered, numbered_module};
 ghost use Rattle.gi_mir_print.specs.Appended.{AppendsSpelling};
 ghost use Rattle.gi_spelling.specs.Spelled.{IsSpelled};
 ghost use Rattle.gi_spelling.specs.There.{NamesBlocksThatAreThere};
-ghost use Rattle.gi_spelling.specs.Printed.{instr_pieces, block_lines, blocks_lines, key_lines, object_line, object_lines, stack_lines, printed_lines, functions_lines, ir_lines, name_at, text_of, printed};
+ghost use Rattle.gi_spelling.specs.Printed.{instr_pieces, block_lines, blocks_lines, key_lines, object_line, object_lines, stack_lines, printed_lines, functions_lines, ir_lines, text_of, printed};
 ghost use Rattle.gi_mir_print.specs.Shown.{kind_at, shown_block, shown_blocks, begun_lines, shown_function};
+ghost use Rattle.gi_mir.specs.Names.{name_at};
 
 use crate::blocks::push_block_lines;
 use crate::instruction::push_instr;

@@ -6,7 +6,8 @@ ghost use Rattle.std.specs.Fmt.{signed_decimal};
 ghost use Rattle.gi_llt.specs.Bits.{signed};
 ghost use Rattle.gi_llt.specs.Tokens.{Number, Global, Routine, Spaces, token, piece_bytes};
 ghost use Rattle.gi_mir.specs.Routines.{routine_names};
-ghost use Rattle.gi_spelling.specs.Printed.{word, bracketed, type_piece, kind_pieces, shown_type, block_piece, frame_piece, physical_piece, symbol_flag_pieces, constant_pieces, predicate_word, name_at, flag_pieces, flags_pieces, usual_align, align_pieces, memory_pieces};
+ghost use Rattle.gi_spelling.specs.Printed.{word, bracketed, type_piece, kind_pieces, shown_type, block_piece, frame_piece, physical_piece, symbol_flag_pieces, constant_pieces, predicate_word, flag_pieces, flags_pieces, usual_align, align_pieces, memory_pieces};
+ghost use Rattle.gi_mir.specs.Names.{name_at};
 
 use gi_llt::{Llt, Memory};
 use gi_mir::names::Names;

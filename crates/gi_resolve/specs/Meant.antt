@@ -1,12 +1,12 @@
 -- What is meant, where each global has the number of its name.
 use Rattle.std.specs.Prelude.{◌≡◌, ◌<◌, ℕ, Bool, true, false, List, ◌++◌, Option, Some, length}
+use Rattle.gi_mir.specs.Names.{name_at}
 use Rattle.std.specs.List.{AllZip}
 use Rattle.gi_mir.specs.Data.{InstrData}
 use Rattle.gi_mir.specs.declared.operand.Operand.{Operand}
 use Rattle.gi_spelling.specs.declared.written.Source.{Source}
 use Rattle.gi_spelling.specs.declared.written.Source.TheVariants as source
 use Rattle.gi_spelling.specs.Named.{IsNamedOperand, IsNamedInstr}
-use Rattle.gi_spelling.specs.Printed.{name_at}
 
 -- a name has this number
 pub record IsNumberOf (names : List (List ℕ)) (name : List ℕ) (number : ℕ) : Type 0 where

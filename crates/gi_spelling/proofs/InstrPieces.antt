@@ -1,5 +1,6 @@
 -- The pieces of an instruction's line stand apart.
 use Rattle.std.proofs.Common.{◌≡◌, ℕ, Bool, true, false, List, [], ◌∷◌, ◌++◌, Option, Some, None, sym, refl, subst, append_assoc}
+use Rattle.gi_mir.specs.Names.{name_at}
 use Rattle.std.specs.Prelude.{◌==◌, if◌then◌else◌, codes, decimal, ⊤}
 use Rattle.std.specs.Fmt.{signed_decimal}
 use Rattle.std.specs.List.{list_all}
@@ -27,7 +28,7 @@ use Rattle.gi_mir.specs.Data.{InstrData}
 use Rattle.gi_mir.specs.Registers.{type_of_kind}
 use Rattle.gi_mir.specs.Row.{word_of, rows_of}
 use Rattle.gi_mir.specs.Routines.{routine_names}
-use Rattle.gi_spelling.specs.Printed.{mark, word, listed, bracketed, type_piece, register_piece, physical_piece, block_piece, frame_piece, kind_pieces, shown_type, predicate_word, symbol_flag_pieces, name_at, constant_pieces, use_pieces, operand_pieces, definitions_of, sources_of, source_forms, first_row, is_typed_by, forms_after, source_pieces, definition_pieces, defined_pieces, flag_pieces, flags_pieces, sources_pieces, usual_align, align_pieces, memory_pieces, instr_pieces}
+use Rattle.gi_spelling.specs.Printed.{mark, word, listed, bracketed, type_piece, register_piece, physical_piece, block_piece, frame_piece, kind_pieces, shown_type, predicate_word, symbol_flag_pieces, constant_pieces, use_pieces, operand_pieces, definitions_of, sources_of, source_forms, first_row, is_typed_by, forms_after, source_pieces, definition_pieces, defined_pieces, flag_pieces, flags_pieces, sources_pieces, usual_align, align_pieces, memory_pieces, instr_pieces}
 use Rattle.gi_spelling.specs.Documents.{is_name}
 use Rattle.gi_spelling.proofs.Nameable.{is_named_operand}
 

@@ -1,11 +1,11 @@
 -- Instructions and blocks in which each name is a name.
 use Rattle.std.specs.Prelude.{ℕ, Bool, true, List}
+use Rattle.gi_mir.specs.Names.{name_at}
 use Rattle.std.specs.List.{list_all}
 use Rattle.gi_mir.specs.declared.operand.Operand.{Operand}
 use Rattle.gi_mir.specs.declared.operand.Operand.TheVariants.{Global, Routine}
 use Rattle.gi_mir.specs.Data.{InstrData, BlockData}
 use Rattle.gi_mir.specs.Routines.{routine_names}
-use Rattle.gi_spelling.specs.Printed.{name_at}
 use Rattle.gi_spelling.specs.Documents.{is_name}
 
 abbrev pub is_named_operand : (names : List (List ℕ)) → Operand → Bool

@@ -1,13 +1,12 @@
 -- What is named stays named where names grow.
-use Rattle.std.proofs.Common.{◌≡◌, ℕ, List, [], ◌∷◌, ◌++◌, ◌<◌, length, sym, ap, ◌∙◌, append_assoc, arith}
+use Rattle.std.proofs.Common.{◌≡◌, ℕ, List, [], ◌∷◌, ◌++◌, ◌<◌, length, ap, ◌∙◌, append_assoc, arith}
+use Rattle.gi_mir.specs.Names.{name_at}
 use Rattle.std.proofs.lemmas.List.{get_or_append_left, length-append}
-use Rattle.std.proofs.lemmas.Option.{unwrap_or-slice_get}
 use Rattle.std.specs.List.{AllZip}
 use Rattle.gi_mir.specs.Data.{InstrData, BlockData, FunctionData}
 use Rattle.gi_mir.specs.declared.operand.Operand.{Operand}
 use Rattle.gi_mir.specs.declared.operand.Operand.TheVariants as operand
 use Rattle.gi_mir.specs.declared.operand.SymbolFlag.{SymbolFlag}
-use Rattle.gi_spelling.specs.Printed.{name_at}
 use Rattle.gi_spelling.specs.Named.{Extends, IsNamedGlobal, IsNamedOperand, IsNamedInstr, IsNamedEntry, IsNamedBlock, IsNamedFunction}
 
 pub AllZip-implies : {A B : Type 0} (P Q : A → B → Type 0) → ((x : A) (y : B) → P x y → Q x y) → (xs : List A) (ys : List B) → AllZip P xs ys → AllZip Q xs ys
@@ -20,8 +19,7 @@ pub extends_more : (first second third : List (List ℕ)) → Extends first seco
 extends_more first second third a b = record { more = a.more ++ b.more; grown = b.grown ∙ ap (λ names. names ++ b.more) a.grown ∙ append_assoc first a.more b.more }
 
 pub name_kept : (names more : List (List ℕ)) (number : ℕ) → number < length names → name_at (names ++ more) number ≡ name_at names number
-name_kept names more number within =
-    unwrap_or-slice_get (names ++ more) number [] ∙ get_or_append_left names more [] number within ∙ sym (unwrap_or-slice_get names number [])
+name_kept names more number within = get_or_append_left names more [] number within
 
 module _ (text : List ℕ) (old new : List (List ℕ)) (grows : Extends old new) where
   named_global : (flag : SymbolFlag) (place : ℕ) (to : Operand) → IsNamedGlobal text old flag place to → IsNamedGlobal text new flag place to

@@ -1,5 +1,6 @@
 -- Two modules that one text spells are the same.
 use Rattle.std.proofs.Common.{◌≡◌, ℕ, zero, suc, Bool, true, false, List, [], ◌∷◌, length, Option, Some, Ok, map, refl, sym, ap, ◌∙◌, subst, inl, inr}
+use Rattle.gi_mir.specs.Names.{name_at}
 use Rattle.std.specs.Prelude.{codes}
 use Rattle.std.specs.List.{AllZip}
 use Rattle.gi_llt.specs.Tokens.{past_run}
@@ -13,7 +14,7 @@ use Rattle.gi_spelling.specs.declared.written.ListKind.TheVariants.{Successors, 
 use Rattle.gi_spelling.specs.Items.{kept_items}
 use Rattle.gi_spelling.specs.Lines.{Line, Section, parts_of_text}
 use Rattle.gi_spelling.specs.Named.{IsNamedOperand}
-use Rattle.gi_spelling.specs.Printed.{name_at, implied_successors}
+use Rattle.gi_spelling.specs.Printed.{implied_successors}
 use Rattle.gi_spelling.specs.Reading.{read_instr}
 use Rattle.gi_spelling.specs.Resolved.{Tables, resolved, block_place}
 use Rattle.gi_spelling.specs.Same.{IsSameOperand, IsSameInstr, IsSameBlock, IsSameFunction, IsSameModule}

@@ -1,5 +1,6 @@
 -- The lines of a printed function, with its stack objects, spell that function.
 use Rattle.std.proofs.Common.{◌≡◌, ℕ, suc, ◌^◌, ◌≤◌, Bool, true, false, List, [], ◌∷◌, ◌++◌, length, Some, sym, refl, ap, ◌∙◌, subst, arith, inl}
+use Rattle.gi_mir.specs.Names.{name_at}
 use Rattle.std.specs.Prelude.{not, filter, replicate, codes, if◌then◌else◌}
 use Rattle.std.specs.List.{list_all, AllZip}
 use Rattle.std.proofs.lemmas.Bool.Decides.{nat_tests}
@@ -18,7 +19,7 @@ use Rattle.gi_spelling.proofs.PlainLines.{Section, Sections, with_head, sections
 use Rattle.gi_spelling.specs.Documents.{is_name}
 use Rattle.gi_spelling.proofs.Nameable.{is_named_block}
 use Rattle.gi_spelling.specs.Printable.{is_writable_object, IsPrintableFunction, counts_of}
-use Rattle.gi_spelling.specs.Printed.{name_at, key_lines, object_lines, stack_lines, blocks_lines}
+use Rattle.gi_spelling.specs.Printed.{key_lines, object_lines, stack_lines, blocks_lines}
 use Rattle.gi_spelling.specs.Spelling.{types_in, SpellsBlocks, entries_with, value_whats, Lists, SpellsBody, are_distinct, SpellsEntries, SpellsDocument}
 use Rattle.gi_spelling.proofs.BlockLines.{EachLine, each-append, each-weaker, IsInner}
 use Rattle.gi_spelling.proofs.Blocks.{kept-append, kept_each, kept_blocks, kept_blocks_lines, kept_blocks_inner, each_blocks, sections_of-append, IsRaw, raw_inner, block_sections, sections_of-blocks}

@@ -1,5 +1,6 @@
 -- The line of an instruction as it is printed spells that instruction.
 use Rattle.std.proofs.Common.{◌≡◌, ℕ, zero, suc, ◌^◌, ◌<◌, ◌≤◌, Bool, true, false, List, [], ◌∷◌, ◌++◌, Option, Some, None, map, refl, sym, ap, ◌∙◌, subst, append_assoc, arith, inl, inr}
+use Rattle.gi_mir.specs.Names.{name_at}
 use Rattle.std.specs.Prelude.{◌&&◌, ◌⊎◌, ◌==◌, not, filter_map, min, nat_le, codes, decimal, option_map, nat_lt, Ok, if◌then◌else◌}
 use Rattle.std.specs.Int.{is_power_of_two}
 use Rattle.std.specs.List.{list_all, AllZip}
@@ -42,7 +43,7 @@ use Rattle.gi_spelling.specs.Named.{name_of_token, IsNamedOperand}
 use Rattle.gi_spelling.specs.Documents.{is_name}
 use Rattle.gi_spelling.specs.Printable.{Counts, is_writable_type, is_writable_operand, is_writable_memory, IsPrintableInstr}
 use Rattle.gi_spelling.proofs.Nameable.{is_named_operand}
-use Rattle.gi_spelling.specs.Printed.{mark, word as word_piece, listed, bracketed, type_piece, name_at, definitions_of, sources_of, source_forms, first_row, source_pieces, definition_pieces, defined_pieces, flag_pieces, flags_pieces, sources_pieces, usual_align, align_pieces, memory_pieces, instr_pieces, instr_line}
+use Rattle.gi_spelling.specs.Printed.{mark, word as word_piece, listed, bracketed, type_piece, definitions_of, sources_of, source_forms, first_row, source_pieces, definition_pieces, defined_pieces, flag_pieces, flags_pieces, sources_pieces, usual_align, align_pieces, memory_pieces, instr_pieces, instr_line}
 use Rattle.gi_spelling.specs.Resolved.{Tables, is_written_alignment, aligned, resolved_memory, formed as resolved_formed, resolved}
 use Rattle.gi_spelling.specs.Spelling.{word_what, type_whats, definition_whats, source_whats, listed_whats, defined_whats, flag_whats, flags_whats, plain_size, align_whats, memory_whats, whats_of, name_places}
 use Rattle.gi_spelling.proofs.AlikeFormed.{IsAlike, formed_alike, named_alike}

@@ -1,5 +1,6 @@
 -- An operand as it is printed is a written operand that means it.
 use Rattle.std.proofs.Common.{◌≡◌, ℕ, ◌^◌, ◌<◌, ◌≤◌, Bool, true, false, List, [], ◌∷◌, ◌++◌, Option, Some, None, refl, sym, ap, ◌∙◌, subst, arith}
+use Rattle.gi_mir.specs.Names.{name_at}
 use Rattle.std.specs.Prelude.{◌==◌, not, nat_lt, nat_le, codes, decimal, if◌then◌else◌}
 use Rattle.std.specs.Fmt.{signed_decimal}
 use Rattle.std.specs.Option.{option_map_or}
@@ -31,7 +32,7 @@ use Rattle.gi_spelling.specs.declared.written.Source.TheVariants as source
 use Rattle.gi_spelling.specs.Words.{number_written, is_plain_signed}
 use Rattle.gi_spelling.specs.Blocks.{typed_use}
 use Rattle.gi_spelling.specs.Printable.{Counts, is_writable_type, is_writable_kind, is_writable_operand}
-use Rattle.gi_spelling.specs.Printed.{mark, word, bracketed, type_piece, register_piece, kind_pieces, symbol_flag_pieces, name_at, predicate_word, constant_pieces, use_pieces, operand_pieces, is_definition}
+use Rattle.gi_spelling.specs.Printed.{mark, word, bracketed, type_piece, register_piece, kind_pieces, symbol_flag_pieces, predicate_word, constant_pieces, use_pieces, operand_pieces, is_definition}
 use Rattle.gi_spelling.specs.Resolved.{Tables, block_place, resolved_source, resolved_definition}
 use Rattle.gi_spelling.specs.Spelling.{type_whats, kind_whats, definition_whats, symbol_flag_whats, source_whats, place_of_source, type_at}
 use Rattle.gi_spelling.proofs.KeptLines.{are_loud, opens_next}

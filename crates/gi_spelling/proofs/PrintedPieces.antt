@@ -1,5 +1,6 @@
 -- What pieces of printed lines say: their tokens by what they are, and the names among these.
 use Rattle.std.proofs.Common.{◌≡◌, ℕ, zero, suc, ◌-◌, ◌^◌, ◌<◌, ◌≤◌, Bool, true, false, List, [], ◌∷◌, ◌++◌, drop, Option, Some, None, refl, sym, ap, ◌∙◌, subst, arith, lit<, pos, negsuc, inl, inr}
+use Rattle.gi_mir.specs.Names.{name_at}
 use Rattle.std.specs.Prelude.{◌⊎◌, ◌||◌, ◌==◌, not, nat_lt, bytes_eq, filter_map, find, option_map, codes, decimal, ℤ, neg_ℤ, min}
 use Rattle.std.specs.Fmt.{signed_decimal}
 use Rattle.std.specs.List.{list_all}
@@ -30,7 +31,7 @@ use Rattle.gi_spelling.specs.declared.token.What.{What}
 use Rattle.gi_spelling.specs.declared.token.What.TheVariants as what
 use Rattle.gi_spelling.specs.Words.{words, fixed_word, what_of, whats, word_of, number_written, is_plain, is_plain_signed}
 use Rattle.gi_spelling.specs.Printable.{is_whole}
-use Rattle.gi_spelling.specs.Printed.{predicate_word, name_at}
+use Rattle.gi_spelling.specs.Printed.{predicate_word}
 use Rattle.gi_spelling.specs.Resolved.{whole_number, resolved_constant}
 use Rattle.gi_spelling.proofs.Numerals.{numeral-decimal, decimal_value, decimal_plain}
 use Rattle.gi_spelling.proofs.PlacedLines.{is_sized}

@@ -1,5 +1,6 @@
 -- The operands of a line as it is printed are written operands that mean them.
 use Rattle.std.proofs.Common.{◌≡◌, ℕ, ◌<◌, ◌≤◌, Bool, true, false, List, [], ◌∷◌, ◌++◌, Option, Some, None, map, refl, sym, ap, ◌∙◌, subst, append_assoc, arith}
+use Rattle.gi_mir.specs.Names.{name_at}
 use Rattle.std.specs.Prelude.{◌==◌, filter_map, length, nat_lt, unwrap_or, if◌then◌else◌}
 use Rattle.std.specs.Fmt.{signed_decimal}
 use Rattle.std.specs.List.{list_all, AllZip}
@@ -7,7 +8,7 @@ use Rattle.std.specs.Option.{option_map_or}
 use Rattle.std.specs.Cmp.Derive.{both_true}
 use Rattle.std.proofs.lemmas.Bool.{and_parts, not-true, false≢true}
 use Rattle.std.proofs.lemmas.Bool.Decides.{nat_tests}
-use Rattle.std.proofs.lemmas.Option.{slice_get_past}
+use Rattle.std.proofs.lemmas.Option.{slice_get_past, unwrap_or-slice_get}
 use Rattle.gi_llt.specs.Bits.{signed}
 use Rattle.gi_llt.specs.declared.Llt.{Llt}
 use Rattle.gi_llt.specs.Tokens.{Mark as OfMark, lexeme, Spaces}
@@ -28,7 +29,7 @@ use Rattle.gi_spelling.specs.Blocks.{typed_use}
 use Rattle.gi_spelling.specs.Documents.{is_name}
 use Rattle.gi_spelling.specs.Named.{name_of_token, IsNamedOperand}
 use Rattle.gi_spelling.specs.Printable.{Counts, is_writable_operand}
-use Rattle.gi_spelling.specs.Printed.{mark, listed, name_at, operand_pieces, is_definition, is_typed_by, forms_after, source_pieces, definition_pieces}
+use Rattle.gi_spelling.specs.Printed.{mark, listed, operand_pieces, is_definition, is_typed_by, forms_after, source_pieces, definition_pieces}
 use Rattle.gi_spelling.specs.Resolved.{Tables, resolved_source, resolved_definition, each}
 use Rattle.gi_spelling.specs.Spelling.{definition_whats, source_whats, listed_whats, place_of_source, type_at}
 use Rattle.gi_spelling.proofs.KeptLines.{are_loud}
@@ -203,7 +204,7 @@ name_within names number named = chosen (nat_lt number (length names)) refl
     chosen true is = grind (arith, nat_tests)
     chosen false is =
         let past : length names ≤ number = grind (arith, nat_tests) in
-        let none : is_name (name_at names number) ≡ false = ap (λ o. is_name (unwrap_or o [])) (slice_get_past names number past) in
+        let none : is_name (name_at names number) ≡ false = ap is_name (sym (unwrap_or-slice_get names number []) ∙ ap (λ o. unwrap_or o []) (slice_get_past names number past)) in
         absurd (false≢true (sym none ∙ named))
 
 pub operands_named : (text : List ℕ) (names : List (List ℕ)) (counts : Counts) (places : List ℕ) (operands : List Operand) → AreNamed text names places operands

@@ -1,5 +1,6 @@
 -- The printed text of a module spells that module.
 use Rattle.std.proofs.Common.{◌≡◌, ℕ, Bool, true, false, List, [], ◌∷◌, ◌++◌, length, Option, Some, None, map, sym, refl, ap, ◌∙◌, subst, append_assoc}
+use Rattle.gi_mir.specs.Names.{name_at}
 use Rattle.std.specs.Prelude.{◌&&◌, ◌||◌, ◌==◌, not, filter, option_map, codes}
 use Rattle.std.specs.List.{list_all, AllByRecursion, AllZip}
 use Rattle.std.specs.Str.{is_utf8}
@@ -16,7 +17,7 @@ use Rattle.gi_spelling.specs.Lines as line_specs
 use Rattle.gi_spelling.specs.Lines.{Line, Section as LineSection, is_stray, in_documents, Parts, parts_of_text, parts_from, past_end, ends_document, behind_block, block_lines_in, lines_in, lines_of, is_start, is_end}
 use Rattle.gi_spelling.proofs.PlainLines.{Section, Sections, with_head, sections_of}
 use Rattle.gi_spelling.specs.Printable.{is_ir_line, are_ir_lines, IsPrintableFunction, IsPrintableModule}
-use Rattle.gi_spelling.specs.Printed.{name_at, blocks_lines, key_lines, stack_lines, printed_lines, functions_lines, ir_lines, text_of, printed}
+use Rattle.gi_spelling.specs.Printed.{blocks_lines, key_lines, stack_lines, printed_lines, functions_lines, ir_lines, text_of, printed}
 use Rattle.gi_spelling.specs.Spelling.{SpellsDocument, Spells}
 use Rattle.gi_spelling.proofs.BlockLines.{EachLine, each-append, each-weaker}
 use Rattle.gi_spelling.proofs.Blocks.{sections_of-append, IsRaw}

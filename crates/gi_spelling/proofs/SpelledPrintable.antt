@@ -1,5 +1,6 @@
 -- What a text spells is printable where it names no block that isn't there.
 use Rattle.std.proofs.Common.{◌≡◌, ℕ, zero, suc, ◌≤◌, Bool, true, false, List, [], ◌∷◌, length, Option, Some, None, map, refl, sym, ap, ◌∙◌, arith}
+use Rattle.gi_mir.specs.Names.{name_at}
 use Rattle.std.specs.Prelude.{◌&&◌, ◌||◌, ◌==◌, ◌^◌, not, nat_eq, nat_lt, nat_le, filter, option_map, unwrap_or, if◌then◌else◌, codes}
 use Rattle.std.specs.List.{list_all, list_any, AllByRecursion, AllZip, IsDistinct}
 use Rattle.std.specs.Cmp.Derive.{both_true}
@@ -17,7 +18,6 @@ use Rattle.gi_spelling.specs.Documents.{is_name, ir_wrongs, line_wrongs, is_no_t
 use Rattle.gi_spelling.specs.Items.{what_in, kept_items}
 use Rattle.gi_spelling.specs.Lines.{Line, Section, onto_first, lines_of, numbered_from, lines_in, is_dropped, is_start, is_end, is_block_start, ends_document, block_lines_in, parts_from, parts_of_text}
 use Rattle.gi_spelling.specs.Printable.{is_none_live, is_live_first, IsPrintableInstr, IsPrintableBlock, IsPrintableFunction, is_ir_line, are_ir_lines, IsPrintableModule}
-use Rattle.gi_spelling.specs.Printed.{name_at}
 use Rattle.gi_spelling.specs.Resolved.{Tables}
 use Rattle.gi_spelling.specs.Spelling.{is_list_line, lists_of, physical_whats, States, SpellsInstr, SpellsLiveins, SpellsBlocks, SpellsName, entries_with, are_distinct, types_in, SpellsDocument, Spells}
 use Rattle.gi_spelling.specs.There.{names_there, is_block_within, names_blocks_there, NamesBlocksThatAreThere}

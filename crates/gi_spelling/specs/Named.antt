@@ -1,12 +1,12 @@
 -- A function in which each name has its number, from one in which a global has the place of its token in the text.
 use Rattle.std.specs.Prelude.{◌≡◌, ℕ, suc, ◌<◌, List, ◌++◌, drop, length}
+use Rattle.gi_mir.specs.Names.{name_at}
 use Rattle.std.specs.List.{AllZip}
 use Rattle.gi_llt.specs.Tokens.{is_word_byte, run_of}
 use Rattle.gi_mir.specs.Data.{InstrData, BlockData, FunctionData}
 use Rattle.gi_mir.specs.declared.operand.Operand.{Operand}
 use Rattle.gi_mir.specs.declared.operand.Operand.TheVariants.{Global}
 use Rattle.gi_mir.specs.declared.operand.SymbolFlag.{SymbolFlag}
-use Rattle.gi_spelling.specs.Printed.{name_at}
 
 -- the name of the token `@name` at a place
 abbrev pub name_of_token : (text : List ℕ) → (place : ℕ) → List ℕ

@@ -2,6 +2,7 @@
 -- (Machine IR (MIR) Format Reference Manual, "High Level Structure", "Machine Functions", "Machine Basic Blocks",
 -- "Machine Operands"; the greatest numbers of tokens are this project's own.)
 use Rattle.std.specs.Prelude.{◌≡◌, ℕ, suc, ◌^◌, Bool, true, false, not, ◌&&◌, List, [], ◌∷◌, Option, length, nat_lt, nat_le, ◌==◌, ℤ, pos, negsuc}
+use Rattle.gi_mir.specs.Names.{name_at}
 use Rattle.std.specs.List.{list_all, AllByRecursion}
 use Rattle.std.specs.Option.{option_map_or}
 use Rattle.std.specs.Str.{is_utf8}
@@ -19,7 +20,6 @@ use Rattle.gi_mir.specs.Routines.{routine_names}
 use Rattle.gi_spelling.specs.Words.{greatest_register, greatest_width, greatest_block, greatest_size}
 use Rattle.gi_spelling.specs.Lines.{is_start, is_end}
 use Rattle.gi_spelling.specs.Documents.{is_name}
-use Rattle.gi_spelling.specs.Printed.{name_at}
 
 -- ══ What a token can write ══
 

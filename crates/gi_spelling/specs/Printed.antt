@@ -2,7 +2,8 @@
 -- (Machine IR (MIR) Format Reference Manual, "High Level Structure", "Machine Functions", "Machine Basic
 -- Blocks", "Machine Instructions" and "Machine Operands"; which keys stand, in what order, and which uses
 -- show their types are this project's own.)
-use Rattle.std.specs.Prelude.{ℕ, suc, ◌+◌, ◌/◌, Bool, true, false, not, ◌&&◌, List, [], ◌∷◌, ◌++◌, Option, Some, None, length, ◌==◌, if◌then◌else◌, slice_get, unwrap_or, codes, decimal}
+use Rattle.std.specs.Prelude.{ℕ, suc, ◌+◌, ◌/◌, Bool, true, false, not, ◌&&◌, List, [], ◌∷◌, ◌++◌, Option, Some, None, length, ◌==◌, if◌then◌else◌, codes, decimal}
+use Rattle.gi_mir.specs.Names.{name_at}
 use Rattle.std.specs.Fmt.{signed_decimal}
 use Rattle.std.specs.List.{list_any}
 use Rattle.gi_llt.specs.Bits.{signed}
@@ -91,10 +92,6 @@ symbol_flag_pieces Plain = []
 symbol_flag_pieces Call = word (codes "target-flags") ∷ bracketed (word (codes "riscv-call") ∷ []) ++ (Spaces 1 ∷ [])
 symbol_flag_pieces Hi = word (codes "target-flags") ∷ bracketed (word (codes "riscv-hi") ∷ []) ++ (Spaces 1 ∷ [])
 symbol_flag_pieces Lo = word (codes "target-flags") ∷ bracketed (word (codes "riscv-lo") ∷ []) ++ (Spaces 1 ∷ [])
-
--- the bytes of a name by its number, and none where no name has it
-abbrev pub name_at : List (List ℕ) → ℕ → List ℕ
-name_at names number = unwrap_or (slice_get names number) []
 
 -- `i32 -5`, and of one bit `i1 true` or `i1 false`
 abbrev pub constant_pieces : (bits value : ℕ) → List Piece

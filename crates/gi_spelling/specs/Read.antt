@@ -1,11 +1,11 @@
 -- What reading a text answers: the module that it spells, with the lines, ids and next numbers that reading gives; or
 -- the first line that spells nothing.
 use Rattle.std.specs.Prelude.{◌≡◌, ◌<◌, ⊤, ℕ, List, length, Option, Some, None, map, option_map}
+use Rattle.gi_mir.specs.Names.{name_at}
 use Rattle.std.specs.List.{AllZip}
 use Rattle.gi_text.specs.declared.token.TextError.{TextError}
 use Rattle.gi_text.specs.declared.token.TextError.TheVariants as error
 use Rattle.gi_mir.specs.Data.{FunctionData, ModuleData}
-use Rattle.gi_spelling.specs.Printed.{name_at}
 use Rattle.gi_spelling.specs.declared.written.Fault.TheVariants as fault
 use Rattle.gi_spelling.specs.Lines.{Line, Section, parts_of_text}
 use Rattle.gi_spelling.specs.declared.written.Wrong.{Wrong}

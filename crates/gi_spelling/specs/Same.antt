@@ -1,12 +1,12 @@
 -- Modules that are the same but for what a text doesn't show: the lines and ids of instructions, the two next numbers of
 -- a function, and the numbers of names.
 use Rattle.std.specs.Prelude.{◌≡◌, ℕ, List}
+use Rattle.gi_mir.specs.Names.{name_at}
 use Rattle.std.specs.List.{AllZip}
 use Rattle.gi_mir.specs.Data.{InstrData, BlockData, FunctionData, ModuleData}
 use Rattle.gi_mir.specs.declared.operand.Operand.{Operand}
 use Rattle.gi_mir.specs.declared.operand.Operand.TheVariants.{Global}
 use Rattle.gi_mir.specs.declared.operand.SymbolFlag.{SymbolFlag}
-use Rattle.gi_spelling.specs.Printed.{name_at}
 
 -- the same symbol, whose name may have another number
 pub record IsSameGlobal (names others : List (List ℕ)) (flag : SymbolFlag) (number : ℕ) (other : Operand) : Type 0 where

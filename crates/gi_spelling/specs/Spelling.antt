@@ -8,6 +8,7 @@
 -- shows its type or doesn't, a definition its class or (where `registers` gives it) doesn't, an alignment that is the
 -- size may be written, and a constant is any number of its width.
 use Rattle.std.specs.Prelude.{◌≡◌, ◌≢◌, ◌⊎◌, ⊤, ℕ, zero, suc, Bool, true, false, not, ◌&&◌, nat_eq, is_some, List, [], ◌∷◌, ◌++◌, Option, Some, None, map, filter, filter_map, length, option_map, if◌then◌else◌, codes}
+use Rattle.gi_mir.specs.Names.{name_at}
 use Rattle.std.specs.List.{list_all, list_any, AllZip}
 use Rattle.gi_llt.specs.Tokens.{run_of, past_run}
 use Rattle.gi_llt.specs.declared.Llt.{Llt}
@@ -20,7 +21,7 @@ use Rattle.gi_mir.specs.declared.operand.SymbolFlag.{SymbolFlag}
 use Rattle.gi_mir.specs.declared.operand.SymbolFlag.TheVariants as symbol_flag
 use Rattle.gi_mir.specs.Data.{InstrData, BlockData, FunctionData, ModuleData}
 use Rattle.gi_mir.specs.Registers.{kind_of, type_of_kind}
-use Rattle.gi_spelling.specs.Printed.{name_at, implied_successors}
+use Rattle.gi_spelling.specs.Printed.{implied_successors}
 use Rattle.gi_spelling.specs.declared.token.Flag.{Flag}
 use Rattle.gi_spelling.specs.declared.token.Flag.TheVariants as flag
 use Rattle.gi_spelling.specs.declared.token.RegisterClass.TheVariants as class

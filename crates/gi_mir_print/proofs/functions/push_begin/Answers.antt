@@ -1,5 +1,6 @@
 use Rattle.std.proofs.Common.{◌++◌, codes, ap, ◌∙◌}
-use Rattle.gi_spelling.specs.Printed.{key_lines, name_at, text_of}
+use Rattle.gi_mir.specs.Names.{name_at}
+use Rattle.gi_spelling.specs.Printed.{key_lines, text_of}
 use Rattle.gi_mir_print.proofs.ListSteps.{on_ok_joined}
 use Rattle.gi_mir_print.proofs.functions.push_begin.Goals as goal
 
