@@ -38,12 +38,12 @@ use Rattle.gi_mir_read.specs.declared.sizes.Fault.{Fault}
 abbrev pub is_before : Fault → Fault → Bool
 is_before one other = nat_lt one.line other.line || (one.line == other.line) && nat_lt one.rank other.rank
 
-abbrev pub lower : Option Fault → Fault → Option Fault
-lower None fault = Some fault
-lower (Some first) fault = if is_before fault first then Some fault else Some first
+abbrev pub sooner_fault : Option Fault → Fault → Option Fault
+sooner_fault None fault = Some fault
+sooner_fault (Some first) fault = if is_before fault first then Some fault else Some first
 
 abbrev pub lowest_after : Option Fault → List Fault → Option Fault
-lowest_after lowest faults = fold lower lowest faults
+lowest_after lowest faults = fold sooner_fault lowest faults
 
 abbrev pub width_fault : (line bits : ℕ) → Fault
 width_fault line bits = record { line = line; rank = 0; error = Width line bits }

@@ -6,7 +6,7 @@ ghost use Rattle.gi_mir.specs.Registers.{kind_of, type_of_kind};
 ghost use Rattle.gi_mir.specs.Row.{rows_of};
 ghost use Rattle.gi_mir.specs.Types.{is_any};
 ghost use Rattle.gi_spelling.specs.Printed.{definitions_of, first_row, is_definition, sources_of, forms_after, is_typed_by, is_typed_form, source_forms};
-ghost use Rattle.gi_mir_read.specs.Sizes.{above, access_faults, blocks_faults, count_after, count_faults, counted, first_line, forms_behind, function_faults, functions_faults, head_faults, line_of, low_faults, is_before, is_copy, is_definition_form, is_extension, is_physical, is_physical_copy, is_right_result, is_right_source, instr_faults, instrs_faults, is_word, lower, lowest_after, memory_faults, number_faults, numbers_faults, numbers_of, object_faults, objects_faults, operand_faults, operands_faults, parts_of, register_faults, result_type, results_after, shown_faults, size_fault, sources_after, told_number, type_faults, width_unless};
+ghost use Rattle.gi_mir_read.specs.Sizes.{above, access_faults, blocks_faults, count_after, count_faults, counted, first_line, forms_behind, function_faults, functions_faults, head_faults, line_of, low_faults, is_before, is_copy, is_definition_form, is_extension, is_physical, is_physical_copy, is_right_result, is_right_source, instr_faults, instrs_faults, is_word, sooner_fault, lowest_after, memory_faults, number_faults, numbers_faults, numbers_of, object_faults, objects_faults, operand_faults, operands_faults, parts_of, register_faults, result_type, results_after, shown_faults, size_fault, sources_after, told_number, type_faults, width_unless};
 
 use gi_llt::{Llt, Target, width};
 use gi_mir::accepted::{
@@ -38,8 +38,8 @@ fn is_before(one: Fault, other: Fault) -> bool
 }
 
 /// The first of two faults that is told.
-fn lower(lowest: Option<Fault>, fault: Fault) -> Option<Fault>
-    ensures { result ≡ lower lowest fault }
+fn sooner_fault(lowest: Option<Fault>, fault: Fault) -> Option<Fault>
+    ensures { result ≡ sooner_fault lowest fault }
 {
     match lowest {
         Some(first) => {
@@ -58,7 +58,7 @@ fn with_limit(lowest: Option<Fault>, line: u32, rank: u8, limit: u32, number: u6
     ensures { result ≡ lowest_after lowest (above line rank limit number) }
 {
     if u64::from(limit) < number {
-        lower(
+        sooner_fault(
             lowest,
             Fault {
                 line,
@@ -81,7 +81,7 @@ fn with_width(lowest: Option<Fault>, is_right: bool, line: u32, bits: u16) -> Op
     if is_right {
         lowest
     } else {
-        lower(
+        sooner_fault(
             lowest,
             Fault {
                 line,

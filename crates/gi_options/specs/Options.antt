@@ -18,14 +18,14 @@ use Rattle.gi_options.specs.Machine.{machine_of}
 -- ══ A word by itself ══
 
 -- what stands behind a prefix, if it stands there
-abbrev pub behind : (prefix word : List ℕ) → Option (List ℕ)
-behind [] word = Some word
-behind (first ∷ prefix) [] = None
-behind (first ∷ prefix) (byte ∷ word) = if first == byte then behind prefix word else None
+abbrev pub without_prefix : (prefix word : List ℕ) → Option (List ℕ)
+without_prefix [] word = Some word
+without_prefix (first ∷ prefix) [] = None
+without_prefix (first ∷ prefix) (byte ∷ word) = if first == byte then without_prefix prefix word else None
 
 -- an option less its one or two dashes; `-` alone is none
 abbrev pub option_name : List ℕ → Option (List ℕ)
-option_name word = if bytes_eq word (codes "-") then None else option_or (behind (codes "--") word) (behind (codes "-") word)
+option_name word = if bytes_eq word (codes "-") then None else option_or (without_prefix (codes "--") word) (without_prefix (codes "-") word)
 
 -- the value behind a prefix decides, if the prefix stands there
 abbrev pub by_prefix : Option (List ℕ) → (List ℕ → Option Setting) → (other : Option Setting) → Option Setting
@@ -34,8 +34,8 @@ by_prefix (Some value) meaning other = meaning value
 
 abbrev pub named_pass : List ℕ → Option Setting
 named_pass name =
-    by_prefix (behind (codes "start-after=") name) (λ word. option_map (λ pass. setting.Start pass) (pass_of word))
-    (by_prefix (behind (codes "stop-after=") name) (λ word. option_map (λ pass. setting.Stop pass) (pass_of word)) None)
+    by_prefix (without_prefix (codes "start-after=") name) (λ word. option_map (λ pass. setting.Start pass) (pass_of word))
+    (by_prefix (without_prefix (codes "stop-after=") name) (λ word. option_map (λ pass. setting.Stop pass) (pass_of word)) None)
 
 -- what an option of this name sets
 abbrev pub named : List ℕ → Option Setting
@@ -43,7 +43,7 @@ named name =
     if bytes_eq name (codes "mattr=+m") then Some setting.Attributes
     else if bytes_eq name (codes "global-isel") then Some setting.GlobalIsel
     else if bytes_eq name (codes "o") then Some setting.Output
-    else by_prefix (behind (codes "mtriple=") name) (λ triple. option_map (λ machine. setting.Triple machine) (machine_of triple)) (named_pass name)
+    else by_prefix (without_prefix (codes "mtriple=") name) (λ triple. option_map (λ machine. setting.Triple machine) (machine_of triple)) (named_pass name)
 
 -- what a word sets: a word that is no option is the FILE
 abbrev pub setting_of : List ℕ → Option Setting

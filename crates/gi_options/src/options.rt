@@ -4,7 +4,7 @@ ghost use Rattle.std.specs.Prelude.{◌≡◌, ◌≤◌, ◌<◌, ◌∷◌, So
 ghost use Rattle.std.specs.Option.{option_copied};
 ghost use Rattle.gi_observe.specs.Passes.{pass_of};
 ghost use Rattle.gi_options.specs.Machine.{machine_of};
-ghost use Rattle.gi_options.specs.Options.{behind, option_name, named, named_pass, setting_of, no_choice, is_set, takes_next, with_setting, setting_at, first_setting, chosen, options_in, file_name, is_before, options_of, fault_or};
+ghost use Rattle.gi_options.specs.Options.{without_prefix, option_name, named, named_pass, setting_of, no_choice, is_set, takes_next, with_setting, setting_at, first_setting, chosen, options_in, file_name, is_before, options_of, fault_or};
 
 use crate::machine::Machine;
 use gi_observe::Pass;
@@ -30,9 +30,9 @@ pub enum Setting {
 }
 
 /// What stands behind a prefix, if it stands there.
-#[tactic(auto, using(crate::proofs::OptionLemmas::behind_of, crate::proofs::OptionLemmas::behind_none))]
-fn behind<'a>(prefix: &str, word: &'a str) -> Option<&'a str>
-    ensures { option_copied result ≡ behind prefix.now word.now }
+#[tactic(auto, using(crate::proofs::OptionLemmas::without_prefix_of, crate::proofs::OptionLemmas::without_prefix_none))]
+fn without_prefix<'a>(prefix: &str, word: &'a str) -> Option<&'a str>
+    ensures { option_copied result ≡ without_prefix prefix.now word.now }
 {
     word.strip_prefix(prefix)
 }
@@ -44,9 +44,9 @@ fn option_name(word: &str) -> Option<&str>
     if word == "-" {
         return None;
     }
-    match behind("--", word) {
+    match without_prefix("--", word) {
         Some(name) => Some(name),
-        None => behind("-", word),
+        None => without_prefix("-", word),
     }
 }
 
@@ -84,9 +84,9 @@ fn set_stop(word: &str) -> Option<Setting>
 fn named_pass(name: &str) -> Option<Setting>
     ensures { result ≡ named_pass name.now }
 {
-    match behind("start-after=", name) {
+    match without_prefix("start-after=", name) {
         Some(word) => set_start(word),
-        None => match behind("stop-after=", name) {
+        None => match without_prefix("stop-after=", name) {
             Some(word) => set_stop(word),
             None => None,
         },
@@ -106,7 +106,7 @@ fn named(name: &str) -> Option<Setting>
     if name == "o" {
         return Some(Setting::Output);
     }
-    match behind("mtriple=", name) {
+    match without_prefix("mtriple=", name) {
         Some(triple) => set_target(triple),
         None => named_pass(name),
     }
