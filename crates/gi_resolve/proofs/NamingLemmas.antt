@@ -3,7 +3,6 @@ use Rattle.std.proofs.Common.{◌≡◌, ℕ, ◌<◌, Bool, true, false, List, 
 use Rattle.std.specs.Prelude.{IfOk, OnOk, is_some, unwrap_or, bytes_eq, if◌then◌else◌}
 use Rattle.std.proofs.lemmas.List.{length-append}
 use Rattle.std.proofs.lemmas.List.Quantifiers.{position-Some}
-use Rattle.std.proofs.lemmas.Option.{unwrap_or-slice_get}
 use Rattle.std.proofs.Math.Seq.{get_or-append_seam}
 use Rattle.std.specs.Str.{IsAscii, IsUtf8, is_utf8}
 use Rattle.std.proofs.lemmas.Str.{IsUtf8-from_ascii}
@@ -32,10 +31,10 @@ name-number names name = chosen (number_of names name) refl
     chosen : (found : Option ℕ) → number_of names name ≡ found → IsNumberOf (if is_some found then names else names ++ name ∷ []) name (unwrap_or found (length names))
     chosen (Some place) is =
         let at = position-Some (bytes_eq name) names place [] is in
-        record { within = at.0; named = unwrap_or-slice_get names place [] ∙ sym ((bytes_eq-Decides name (get_or names place [])).0 at.1) }
+        record { within = at.0; named = sym ((bytes_eq-Decides name (get_or names place [])).0 at.1) }
     chosen None is = record {
       within = omega (arith, length-append names (name ∷ []));
-      named = unwrap_or-slice_get (names ++ name ∷ []) (length names) [] ∙ get_or-append_seam names name [] [];
+      named = get_or-append_seam names name [] [];
     }
 
 word_byte-ascii : (byte : ℕ) → is_word_byte byte ≡ true → byte < 128
