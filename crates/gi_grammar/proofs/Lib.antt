@@ -1,0 +1,4 @@
+pub mod ClearLemmas
+pub mod FaultLemmas
+pub mod ReadLemmas
+pub mod TokenLemmas
