@@ -36,8 +36,8 @@ fn faults_of(
     ensures { IfOk result (λ all. AreAllFaults target.xlen (phase_of stage) function.now all.items) }
 {
     let reached = reached(alloc, function)?;
-    let order = order_of(alloc, function, reached.as_slice())?;
     let predecessors = predecessors_of(alloc, function)?;
+    let order = order_of(alloc, function, reached.as_slice(), &predecessors)?;
     let way_back = has_way_back(function, &predecessors);
     let mut all = Vec::new(alloc);
     push_double(alloc, function, &mut all)?;
