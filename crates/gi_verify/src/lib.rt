@@ -8,6 +8,7 @@ mod dominators;
 mod ends;
 mod laws;
 mod lowest;
+mod marks;
 mod mismatch;
 mod operands;
 mod passed;

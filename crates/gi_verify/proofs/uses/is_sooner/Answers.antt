@@ -10,5 +10,5 @@ comes_sooner-requires-clause-live c = subst (IsLive c.args.function.now) (sym c.
 
 pub returns : goal.returns
 returns c = λ h.
-    answer_sooner c.args.function.now c.args.order.now.tree (c.comes_sooner.ensures h).0 c.args.r c.args.b c.requires.within c.args.front.now c.args.numbered.now c.requires.placed
-    (subst (IsSooner c.args.function.now c.args.order.now.tree c.args.r c.args.b) c.id_of-id.ensures (c.comes_sooner.ensures h).1)
+    answer_sooner c.args.function.now c.args.order.now.tree c.args.order.now.marks (c.comes_sooner.ensures.settled h) c.args.r (c.comes_sooner.ensures.sure h) c.args.b c.requires.within c.args.front.now c.args.numbered.now c.requires.placed
+    (subst (IsSooner c.args.function.now c.args.order.now.tree c.args.r c.args.b) c.id_of-id.ensures (c.comes_sooner.ensures.sooner h))
