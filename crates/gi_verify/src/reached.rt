@@ -3,8 +3,10 @@
 ghost use Rattle.std.specs.Prelude.{◌≡◌, ◌<◌, ◌≤◌, ◌∷◌, ◌++◌, ◌||◌, [], ℕ, Bool, true, false, length, IfOk, OnOk, slice_set, get_or};
 ghost use Rattle.gi_mir.specs.Edit.{block_at};
 ghost use Rattle.gi_meaning.specs.Runs.{is_among};
-ghost use Rattle.gi_verify.specs.Sets.{AreReachedBlocks, IsMarkedMore, IsPass, marked};
+ghost use Rattle.gi_valid.specs.Available.{IsReachedBlock};
+ghost use Rattle.gi_verify.specs.Sets.{AreMarkedOn, AreReachedBlocks, IsMarkedMore, IsPass, marked};
 
+use crate::dominators::preorder;
 use gi_llt::Memory;
 use gi_mir::function::Function;
 use std::alloc::Global;
@@ -55,6 +57,19 @@ fn mark_behind(function: &Function, a: u32, marks: &mut Vec<bool>) -> bool
     }
 }
 
+/// Marks the successors of a block, where there is that block and it is marked, and says whether one is new.
+#[tactic(auto, using(crate::proofs::Marking::marked_on_same))]
+fn mark_at(function: &Function, a: u32, marks: &mut Vec<bool>) -> bool
+    requires { length marks.old.items ≡ length function.now.blocks }
+    ensures { AreMarkedOn function.now marks.old.items marks.new.items }
+{
+    if a < function.block_count() {
+        mark_behind(function, a, marks)
+    } else {
+        false
+    }
+}
+
 /// Marks the successors of each marked block once, and says whether one is new.
 fn pass(function: &Function, marks: &mut Vec<bool>) -> bool
     requires { length marks.old.items ≡ length function.now.blocks }
@@ -91,11 +106,25 @@ fn first_marked(alloc: Global, count: u32) -> Result<Vec<bool>, Memory>
     Ok(marks)
 }
 
+/// Blocks that are reached: along a walk from the first. None is left out, which is looked at behind this.
+fn first_reached(alloc: Global, function: &Function) -> Result<Vec<bool>, Memory>
+    ensures count { IfOk result (λ marks. length marks.items ≡ length function.now.blocks) }
+    ensures first { IfOk result (λ marks. 0 < length function.now.blocks → marked marks.items 0 ≡ true) }
+    ensures sound { IfOk result (λ marks. (b : ℕ) → marked marks.items b ≡ true → IsReachedBlock function.now b) }
+{
+    let order = preorder(alloc, function)?;
+    let mut marks = first_marked(alloc, function.block_count())?;
+    for a in order.as_slice() {
+        mark_at(function, *a, &mut marks);
+    }
+    Ok(marks)
+}
+
 /// The blocks that are reached.
 pub(crate) fn reached(alloc: Global, function: &Function) -> Result<Vec<bool>, Memory>
     ensures { IfOk result (λ marks. AreReachedBlocks function.now marks.items) }
 {
-    let mut marks = first_marked(alloc, function.block_count())?;
+    let mut marks = first_reached(alloc, function)?;
     let mut is_new = true;
     while is_new {
         is_new = pass(function, &mut marks);
