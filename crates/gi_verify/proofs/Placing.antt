@@ -1,20 +1,17 @@
--- The definition of a register stands in the block of its id.
-use Rattle.std.proofs.Common.{◌≡◌, ℕ, suc, Bool, true, false, cond, List, [], ◌∷◌, Option, Some, None, find, get_or, refl, sym, ap, ◌∙◌, option_map}
+-- The definition of a register stands in a block.
+use Rattle.std.proofs.Common.{◌≡◌, ℕ, suc, Bool, true, false, cond, List, [], ◌∷◌, Option, Some, None, find, refl, sym, ap, ◌∙◌, option_map}
 use Rattle.std.specs.Option.{option_or}
 use Rattle.std.proofs.lemmas.Option.{same_Some}
 use Rattle.gi_mir.specs.Data.{InstrData, BlockData, FunctionData}
-use Rattle.gi_mir.specs.Edit.{all_instrs, block_at, defines, definition_of, empty_block, home_of, place_in_block, IsLive}
-use Rattle.gi_mir.specs.Ids.{AreOwnIds}
+use Rattle.gi_mir.specs.Edit.{all_instrs, defines, definition_of, IsLive}
 use Rattle.gi_mir.specs.Places.{id_in, nth_id}
-use Rattle.gi_mir.proofs.Located.{id_in-live, id_in-once, is_live-id_in}
-use Rattle.gi_valid.specs.Definitions.{definition}
+use Rattle.gi_mir.proofs.Located.{is_live-id_in}
 use Rattle.gi_verify.proofs.Finding.{found_in_either}
 
 record FoundAt (blocks : List BlockData) (r : ℕ) (p : ℕ × InstrData) : Type 0 where
   block : ℕ
   place : ℕ
   stands : id_in blocks block place ≡ Some p.0
-  found : find (defines r) (get_or blocks block empty_block).instrs ≡ Some p
 
 nth_of : (r : ℕ) (is : List (ℕ × InstrData)) (p : ℕ × InstrData) → find (defines r) is ≡ Some p → (k : ℕ) × (nth_id is k ≡ Some p.0)
 nth_of r [] p h = cc
@@ -31,10 +28,10 @@ found_at (b ∷ bs) r p h = by (λ l. found_at bs r p l) (find (defines r) b.ins
     by : (find (defines r) (all_instrs bs) ≡ Some p → FoundAt bs r p) → (o : Option (ℕ × InstrData)) → find (defines r) b.instrs ≡ o → option_or o (find (defines r) (all_instrs bs)) ≡ Some p → FoundAt (b ∷ bs) r p
     by again (Some q) is l =
         let at : (k : ℕ) × (nth_id b.instrs k ≡ Some p.0) = nth_of r b.instrs p (is ∙ l) in
-        record { block = 0; place = at.0; stands = at.1; found = is ∙ l }
+        record { block = 0; place = at.0; stands = at.1 }
     by again None is l =
         let at : FoundAt bs r p = again l in
-        record { block = suc at.block; place = at.place; stands = at.stands; found = at.found }
+        record { block = suc at.block; place = at.place; stands = at.stands }
 
 record IsOf (f : FunctionData) (r id : ℕ) : Type 0 where
   entry : ℕ × InstrData
@@ -53,10 +50,3 @@ live_of f r id h =
     let e : IsOf f r id = by_id f r id h in
     let at : FoundAt f.blocks r e.entry = found_at f.blocks r e.entry e.found in
     is_live-id_in id f.blocks at.block at.place (at.stands ∙ ap Some e.same)
-
-pub at_home : (f : FunctionData) (r id n : ℕ) → AreOwnIds f.blocks n → Some id ≡ definition_of f r → find (defines r) (block_at f (home_of f id)).instrs ≡ definition f r
-at_home f r id n own h =
-    let e : IsOf f r id = by_id f r id h in
-    let at : FoundAt f.blocks r e.entry = found_at f.blocks r e.entry e.found in
-    let same : home_of f id ≡ at.block = id_in-once id f.blocks n (home_of f id) at.block (place_in_block f id) at.place own (id_in-live f id (live_of f r id h)) (at.stands ∙ ap Some e.same) in
-    ap (λ b. find (defines r) (get_or f.blocks b empty_block).instrs) same ∙ at.found ∙ sym e.found

@@ -7,6 +7,7 @@ mod definitions;
 mod dominators;
 mod ends;
 mod laws;
+mod listed;
 mod lowest;
 mod marks;
 mod mismatch;
