@@ -1,6 +1,5 @@
--- Whether the functions of a module are valid in the stage in which the start leaves them, and what is said of the first
--- that isn't.
-use Rattle.std.specs.Prelude.{◌≡◌, ℕ, ◌-◌, ⊤, ◌⊎◌, List, [], ◌∷◌, ◌++◌, codes, decimal}
+-- Whether the functions of a module are valid in the stage in which the start leaves them, and what is said where one isn't.
+use Rattle.std.specs.Prelude.{◌≡◌, ℕ, suc, ◌≤◌, ◌-◌, nat_lt, ⊤, List, [], ◌∷◌, ◌++◌, Option, Some, None, if◌then◌else◌, codes, decimal}
 use Rattle.gi_mir.specs.Data.{FunctionData}
 use Rattle.gi_mir.specs.declared.operand.Operand.{Operand}
 use Rattle.gi_mir.specs.declared.operand.Operand.TheVariants.{Use, Phys, ImplicitUse}
@@ -13,8 +12,6 @@ use Rattle.gi_valid.specs.Valid.{IsInvalid, IsValid}
 use Rattle.gi_valid.specs.declared.invalid.Fault.{Fault}
 use Rattle.gi_valid.specs.declared.invalid.Invalid.{Invalid}
 use Rattle.gi_valid.specs.declared.invalid.Invalid.TheVariants.{DoubleDefinition, NotAvailable, TypeMismatch, UnknownBlock, PhiEntries, PhysicalAcross, Terminator}
-use Rattle.gi_verify.specs.declared.verifying.VerifyError.{VerifyError}
-use Rattle.gi_verify.specs.declared.verifying.VerifyError.TheVariants as refusal
 use Rattle.gi_spelling.specs.Resolved.{first_of_no_block}
 use Rattle.gi_options.specs.Machine.{width_of}
 use Rattle.gi_answer.specs.Messages.{at_line}
@@ -63,24 +60,39 @@ abbrev pub AreValid : (x : ℕ) → Phase → List FunctionData → Type 0
 AreValid x phase [] = ⊤
 AreValid x phase (f ∷ functions) = IsValid x phase f × AreValid x phase functions
 
--- the first function that isn't valid has this fault
-abbrev pub HasFault : (x : ℕ) → Phase → List FunctionData → Fault → Type 0
-HasFault x phase [] fault = ⊥
-HasFault x phase (f ∷ functions) fault = IsInvalid x phase f fault ⊎ (IsValid x phase f × HasFault x phase functions fault)
+-- each fault of these functions stands on this line or a higher one
+abbrev pub HaveFaultsFrom : (x : ℕ) → Phase → (line : ℕ) → List FunctionData → Type 0
+HaveFaultsFrom x phase line [] = ⊤
+HaveFaultsFrom x phase line (f ∷ functions) = ((fault : Fault) → IsInvalid x phase f fault → line ≤ fault.line) × HaveFaultsFrom x phase line functions
+
+-- of the faults of all functions it is that of the lowest line, and of one line that of the first function
+pub record IsLowestFault (x : ℕ) (phase : Phase) (functions : List FunctionData) (fault : Fault) : Type 0 where
+  pub before : List FunctionData
+  pub function : FunctionData
+  pub behind : List FunctionData
+  pub place : functions ≡ before ++ function ∷ behind
+  pub invalid : IsInvalid x phase function fault
+  pub sooner : HaveFaultsFrom x phase (suc fault.line) before
+  pub later : HaveFaultsFrom x phase fault.line behind
+
+-- of two faults that of the lower line, and of one line the first
+abbrev pub of_lower_line : Option Fault → (later : Fault) → Fault
+of_lower_line None later = later
+of_lower_line (Some first) later = if nat_lt later.line first.line then later else first
 
 abbrev pub AreValidFor : Machine → (start : Pass) → List FunctionData → Type 0
 AreValidFor machine start functions = AreValid (width_of machine) (phase_of (stage_after start)) functions
 
-abbrev pub HasFaultFor : Machine → (start : Pass) → List FunctionData → Fault → Type 0
-HasFaultFor machine start functions fault = HasFault (width_of machine) (phase_of (stage_after start)) functions fault
+abbrev pub IsLowestFaultFor : Machine → (start : Pass) → List FunctionData → Fault → Type 0
+IsLowestFaultFor machine start functions fault = IsLowestFault (width_of machine) (phase_of (stage_after start)) functions fault
 
--- what is said of the first that isn't valid
+-- the fault that is told of functions, and none of valid ones
+abbrev pub IsFaultOf : Machine → (start : Pass) → List FunctionData → Option Fault → Type 0
+IsFaultOf machine start functions None = AreValidFor machine start functions
+IsFaultOf machine start functions (Some fault) = IsLowestFaultFor machine start functions fault
+
+-- what is said of functions of which one isn't valid
 pub record SaysFaultOf (machine : Machine) (start : Pass) (functions : List FunctionData) (message : List ℕ) : Type 0 where
   pub fault : Fault
-  pub found : HasFaultFor machine start functions fault
+  pub lowest : IsLowestFaultFor machine start functions fault
   pub says : message ≡ message_of_invalid fault
-
--- what is said of what the verifier answers: of want of memory nothing
-abbrev pub SaysError : VerifyError → (message : List ℕ) → Type 0
-SaysError (refusal.Invalid line what) message = message ≡ message_of_invalid (record { line = line; what = what })
-SaysError refusal.Memory message = ⊥

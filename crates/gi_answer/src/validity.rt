@@ -1,8 +1,8 @@
-//! Whether the functions of a module are valid, and what is said of the first that isn't.
+//! Whether the functions of a module are valid, and what is said where one isn't.
 
 ghost use Rattle.std.specs.Prelude.{◌≡◌, IfErr, IfOk, OnOk, string_bytes};
 ghost use Rattle.gi_answer.specs.Messages.{Tells, at_line};
-ghost use Rattle.gi_answer.specs.Validity.{AreValidFor, SaysError, SaysFaultOf, invalid_words, message_of_invalid, physical_word, register_word, stage_after, used_word};
+ghost use Rattle.gi_answer.specs.Validity.{AreValidFor, IsFaultOf, SaysFaultOf, invalid_words, message_of_invalid, of_lower_line, physical_word, register_word, stage_after, used_word};
 
 use crate::messages::Refused;
 use gi_llt::Memory;
@@ -98,16 +98,45 @@ fn message_of(alloc: Global, fault: Fault) -> Result<Vec<u8>, Memory>
     at_line(alloc, fault.line, words.as_str())
 }
 
-/// Why a function that the verifier refuses is refused.
-fn refused(alloc: Global, error: VerifyError) -> Refused
-    ensures { Tells result (SaysError error) }
+/// Of two faults that of the lower line, and of one line the first.
+fn of_lower_line(first: Option<Fault>, later: Fault) -> Fault
+    ensures { result ≡ of_lower_line first later }
 {
-    match error {
-        VerifyError::Invalid { line, what } => match message_of(alloc, Fault { line, what }) {
-            Ok(message) => Refused::Message(message),
-            Err(Memory) => Refused::Memory,
-        },
-        VerifyError::Memory => Refused::Memory,
+    match first {
+        Some(first) if first.line <= later.line => first,
+        _ => later,
+    }
+}
+
+/// The fault of the lowest line of all functions, and of one line that of the first, where one isn't valid.
+fn lowest_fault(
+    alloc: Global,
+    machine: Machine,
+    start: Pass,
+    functions: &[Function],
+) -> Result<Option<Fault>, Memory>
+    ensures { IfOk result (λ fault. IsFaultOf machine start functions.now fault) }
+{
+    let mut lowest = None;
+    for function in functions {
+        match verify(alloc, function, machine.target(), stage_after(start)) {
+            Ok(()) => {}
+            Err(VerifyError::Invalid { line, what }) => {
+                lowest = Some(of_lower_line(lowest, Fault { line, what }));
+            }
+            Err(VerifyError::Memory) => return Err(Memory),
+        }
+    }
+    Ok(lowest)
+}
+
+/// Why functions with this fault are refused.
+fn refused(alloc: Global, fault: Fault) -> Refused
+    ensures { Tells result (λ message. message ≡ message_of_invalid fault) }
+{
+    match message_of(alloc, fault) {
+        Ok(message) => Refused::Message(message),
+        Err(Memory) => Refused::Memory,
     }
 }
 
@@ -121,11 +150,9 @@ pub fn check_valid(
     ensures right { OnOk result (AreValidFor machine start functions.now) }
     ensures refused { IfErr result (λ why. Tells why (SaysFaultOf machine start functions.now)) }
 {
-    for function in functions {
-        match verify(alloc, function, machine.target(), stage_after(start)) {
-            Ok(()) => {}
-            Err(error) => return Err(refused(alloc, error)),
-        }
+    match lowest_fault(alloc, machine, start, functions) {
+        Ok(None) => Ok(()),
+        Ok(Some(fault)) => Err(refused(alloc, fault)),
+        Err(Memory) => Err(Refused::Memory),
     }
-    Ok(())
 }
