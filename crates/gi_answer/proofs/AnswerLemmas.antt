@@ -47,6 +47,19 @@ its_told options read start machine source passes =
     checked_target start source (target_of options.target read source) machine
     (sized_target source (checked start source (target_of options.target read source)) machine passes.right)
 
+keyed_none : (o : Option WrongKey) (found machine : Machine) → keyed o found ≡ Ok machine → o ≡ None
+keyed_none None found machine h = refl
+keyed_none (Some wrong) found machine h = cc
+
+checked_keys : (start : Pass) (m : ModuleData) (r : Result Machine (List ℕ)) (machine : Machine) → checked start m r ≡ Ok machine → wrong_in start m ≡ None
+checked_keys start m (Ok found) machine h = keyed_none (wrong_in start m) found machine h
+checked_keys start m (Err message) machine h = cc
+
+pub its_keys : (options : OptionsData) (read : List ℕ) (start : Pass) (machine : Machine) (source : ModuleData) → IsChecked options read start machine source → wrong_in start source ≡ None
+its_keys options read start machine source passes =
+    checked_keys start source (target_of options.target read source) machine
+    (sized_target source (checked start source (target_of options.target read source)) machine passes.right)
+
 pub its_target : (options : OptionsData) (read : List ℕ) (start : Pass) (machine : Machine) (source : ModuleData) → IsChecked options read start machine source → IsTarget options.target read machine
 its_target options read start machine source passes = record {
   source = source;
@@ -68,7 +81,7 @@ its_compiled options read written start machine source passes compiles =
 
 -- ══ The text ══
 
-its_there : (options : OptionsData) (read : List ℕ) (start : Pass) (machine : Machine) (source : ModuleData) → IsChecked options read start machine source → NamesBlocksThatAreThere source
+pub its_there : (options : OptionsData) (read : List ℕ) (start : Pass) (machine : Machine) (source : ModuleData) → IsChecked options read start machine source → NamesBlocksThatAreThere source
 its_there options read start machine source passes = record { each = all_there (width_of machine) (phase_of (stage_after start)) source.functions passes.valid }
 
 -- the functions of a module that passes the checks can be selected, where selection is run and nothing of them isn't built

@@ -226,20 +226,23 @@ all_refine names [] (g ∷ gs) h made = absurd made
 all_refine names (f ∷ fs) [] h made = absurd made
 all_refine names (f ∷ fs) (g ∷ gs) h made = (numbered_refines names f g h.0 made.0, all_refine names fs gs h.1 made.1)
 
--- the text of what is selected from a module that a text is read as, where that names no absent block
-pub compiled : (text written : List ℕ) (m s : ModuleData) → IsReadModule text m → NamesBlocksThatAreThere m → AllSelectable m.functions → IsSelectedModule m s → written ≡ printed (numbered_module s)
-    → Compiles 32 text written
-compiled text written m s reads there h made wrote =
-    let spelled : Spells text m = read_spelled text m reads in
-    let fine : IsPrintableModule m = spelled_printable text m spelled there in
+-- the text of what is selected from a module that a text is read as, where that names no absent block, spells it
+pub selected_spelled : (text written : List ℕ) (m s : ModuleData) → IsReadModule text m → NamesBlocksThatAreThere m → AllSelectable m.functions → IsSelectedModule m s → written ≡ printed (numbered_module s)
+    → Spells written (numbered_module s)
+selected_spelled text written m s reads there h made wrote =
+    let fine : IsPrintableModule m = spelled_printable text m (read_spelled text m reads) there in
     let printable : IsPrintableModule s = record {
       ir = ap are_ir_lines made.ir ∙ fine.ir;
       functions = subst (λ names. AllByRecursion (IsPrintableFunction names) s.functions) (sym made.names) (all_printable m.names m.functions s.functions h fine.functions made.functions);
     } in
-    record {
-      old = m;
-      new = numbered_module s;
-      spells_old = spelled;
-      spells_new = subst (λ bytes. Spells bytes (numbered_module s)) (sym wrote) (printed_spells (numbered_module s) (numbered_printable s printable));
-      refines = subst (λ names. AllZip (Refines 32 m.names names) m.functions (map numbered s.functions)) (sym made.names) (all_refine m.names m.functions s.functions h made.functions);
-    }
+    subst (λ bytes. Spells bytes (numbered_module s)) (sym wrote) (printed_spells (numbered_module s) (numbered_printable s printable))
+
+pub compiled : (text written : List ℕ) (m s : ModuleData) → IsReadModule text m → NamesBlocksThatAreThere m → AllSelectable m.functions → IsSelectedModule m s → written ≡ printed (numbered_module s)
+    → Compiles 32 text written
+compiled text written m s reads there h made wrote = record {
+  old = m;
+  new = numbered_module s;
+  spells_old = read_spelled text m reads;
+  spells_new = selected_spelled text written m s reads there h made wrote;
+  refines = subst (λ names. AllZip (Refines 32 m.names names) m.functions (map numbered s.functions)) (sym made.names) (all_refine m.names m.functions s.functions h made.functions);
+}

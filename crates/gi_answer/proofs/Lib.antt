@@ -3,6 +3,7 @@ pub mod AnswerLemmas
 pub mod AnyTexts
 pub mod ClassedRuns
 pub mod CompileLaws
+pub mod LegalOutput
 pub mod LowestFaults
 pub mod MachineSums
 pub mod MessageLemmas

@@ -29,14 +29,17 @@ numbered_refine x names (f ∷ functions) = (
   numbered_refine x names functions,
 )
 
+pub kept_spelled : (x : ℕ) (read written : List ℕ) (phase : Phase) (source : ModuleData) → IsReadModule read source → AreValid x phase source.functions → written ≡ printed (numbered_module source)
+    → Spells written (numbered_module source)
+kept_spelled x read written phase source reads valid wrote =
+    let printable : IsPrintableModule source = spelled_printable read source (read_spelled read source reads) (record { each = all_there x phase source.functions valid }) in
+    subst (λ bytes. Spells bytes (numbered_module source)) (sym wrote) (printed_spells (numbered_module source) (numbered_printable source printable))
+
 pub kept : (x : ℕ) (read written : List ℕ) (phase : Phase) (source : ModuleData) → IsReadModule read source → AreValid x phase source.functions → written ≡ printed (numbered_module source) → Compiles x read written
-kept x read written phase source reads valid wrote =
-    let spelled : Spells read source = read_spelled read source reads in
-    let printable : IsPrintableModule source = spelled_printable read source spelled (record { each = all_there x phase source.functions valid }) in
-    record {
-      old = source;
-      new = numbered_module source;
-      spells_old = spelled;
-      spells_new = subst (λ bytes. Spells bytes (numbered_module source)) (sym wrote) (printed_spells (numbered_module source) (numbered_printable source printable));
-      refines = numbered_refine x source.names source.functions;
-    }
+kept x read written phase source reads valid wrote = record {
+  old = source;
+  new = numbered_module source;
+  spells_old = read_spelled read source reads;
+  spells_new = kept_spelled x read written phase source reads valid wrote;
+  refines = numbered_refine x source.names source.functions;
+}

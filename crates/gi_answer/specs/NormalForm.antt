@@ -1,6 +1,7 @@
 -- The normal form of a function by a table of rows: at the last generic instruction the first row that fits is
 -- applied, again and again, until there is no such instruction or no row fits there.
-use Rattle.std.specs.Prelude.{◌≡◌, ℕ, zero, suc, ◌+◌, List, [], ◌∷◌, ◌++◌, Option, Some, None, option_map, length, take, drop, fold, slice_get, slice_set, if◌then◌else◌}
+use Rattle.std.specs.Prelude.{◌≡◌, ℕ, zero, suc, ◌+◌, Bool, List, [], ◌∷◌, ◌++◌, Option, Some, None, option_map, length, take, drop, fold, slice_get, slice_set, if◌then◌else◌}
+use Rattle.std.specs.List.{list_any}
 use Rattle.std.specs.Option.{option_or}
 use Rattle.gi_mir.specs.Data.{InstrData, BlockData, FunctionData}
 use Rattle.gi_mir.specs.Edit.{block_at, above_registers}
@@ -19,6 +20,10 @@ last_site block (b ∷ bs) =
 
 abbrev pub last_generic : FunctionData → Option Site
 last_generic f = last_site 0 f.blocks
+
+-- a generic instruction stands in one of these blocks
+abbrev pub has_generic : List BlockData → Bool
+has_generic blocks = list_any (λ block. list_any is_generic block.instrs) blocks
 
 abbrev pub instr_at : FunctionData → Site → Option InstrData
 instr_at f site = option_map (λ i. i.1) (slice_get (block_at f site.block).instrs site.place)

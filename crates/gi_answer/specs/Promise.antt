@@ -1,12 +1,13 @@
 -- What the program promises of the text that it writes.
-use Rattle.std.specs.Prelude.{◌≡◌, ℕ, List, ◌++◌, Option, Ok}
-use Rattle.std.specs.List.{AllZip}
+use Rattle.std.specs.Prelude.{◌≡◌, ℕ, true, List, ◌++◌, Option, Ok}
+use Rattle.std.specs.List.{AllByRecursion, AllZip}
 use Rattle.gi_mir.specs.Data.{FunctionData, ModuleData}
 use Rattle.gi_spelling.specs.Printed.{name_at}
 use Rattle.gi_spelling.specs.Read.{IsReadModule}
 use Rattle.gi_spelling.specs.Spelling.{Spells}
 use Rattle.gi_meaning.specs.State.{World, IsWorld, Outcome}
 use Rattle.gi_meaning.specs.Runs.{Runs, Allows}
+use Rattle.gi_rules.specs.Legal.{legal_generics}
 use Rattle.gi_answer.specs.Checks.{target_of}
 use Rattle.gi_options.specs.Machine.{width_of}
 use Rattle.gi_options.specs.Options.{OptionsData, options_of}
@@ -47,3 +48,15 @@ pub record AppendsCompiled (words : List (List ℕ)) (read before after : List �
   pub written : List ℕ
   pub appended : after ≡ before ++ written
   pub compiled : IsCompiled options read written
+
+-- where a function has the key `legalized`, each of its generic instructions is legal
+abbrev pub IsLegalized : (x : ℕ) → FunctionData → Type 0
+IsLegalized x f = f.legalized ≡ true → legal_generics x f ≡ true
+
+-- so is each function of whatever module the written text spells, on the machine that the words and the read text ask for
+pub record IsLegalText (words : List (List ℕ)) (read written : List ℕ) : Type 0 where
+  pub options : OptionsData
+  pub taken : options_of words ≡ Ok options
+  pub machine : Machine
+  pub target : IsTarget options.target read machine
+  pub legal : (m : ModuleData) → Spells written m → AllByRecursion (IsLegalized (width_of machine)) m.functions

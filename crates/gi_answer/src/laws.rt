@@ -14,6 +14,7 @@ ghost use Rattle.gi_valid.specs.Typing.{Phase};
 ghost use Rattle.gi_valid.specs.Valid.{IsValid};
 ghost use Rattle.gi_answer.specs.Answers.{IsOutput};
 ghost use Rattle.gi_answer.specs.NormalForm.{IsNormalForm};
+ghost use Rattle.gi_answer.specs.Promise.{IsLegalText};
 ghost use Rattle.gi_answer.specs.Rows.{selection_rows};
 ghost use Rattle.gi_answer.specs.Selectable.{IsSelectable};
 ghost use Rattle.gi_answer.specs.Selection.{IsSelected, IsSelectedModule};
@@ -22,6 +23,12 @@ ghost use Rattle.gi_answer.specs.Unselected.{is_blank, unselected_in_function};
 /// For words and an input there is one text: the written bytes are a function of them.
 pub fn output_is_one()
     ensures { (words : List (List ℕ)) (read a b : List ℕ) → IsOutput words read a → IsOutput words read b → a ≡ b }
+{}
+
+/// Where the legaliser has run, what is written is legal: of each function with the key `legalized`, in whatever module the
+/// text spells, each generic instruction is. So far none is left in such a function.
+pub fn output_is_legal()
+    ensures { (words : List (List ℕ)) (read written : List ℕ) → IsOutput words read written → IsLegalText words read written }
 {}
 
 /// What is selected from a module is printed in one way, whatever the ids are.

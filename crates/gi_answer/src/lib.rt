@@ -16,10 +16,10 @@ mod unselected;
 mod validity;
 
 pub use answering::answer;
-pub use example::example_is_compiled;
+pub use example::{example_is_compiled, example_is_legalized};
 pub use laws::{
-    normal_form_is_there, output_is_one, printed_text_is_read_back, selected_function_refines,
-    selected_text_is_one, valid_function_is_selectable,
+    normal_form_is_there, output_is_legal, output_is_one, printed_text_is_read_back,
+    selected_function_refines, selected_text_is_one, valid_function_is_selectable,
 };
 pub use messages::Refused;
 pub use normal_form::normal_form_is_one;
