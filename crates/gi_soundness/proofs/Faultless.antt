@@ -122,16 +122,16 @@ record IsOrdered (f : FunctionData) (b : ℕ) (front : List (ℕ × InstrData)) 
 ordered : (f : FunctionData) → told (terminator f) (sites f) ≡ [] → (b : ℕ) (front : List (ℕ × InstrData)) (p : ℕ × InstrData) (back : List (ℕ × InstrData)) → IsSite f b front p back → IsOrdered f b front p
 ordered f none b front p back site = record {
   early = late_at [] front p back (subst (λ l. has_late [] l ≡ false) site.splits (none_late f none b site.block site.found));
-  aimed = by (is_first_late here) (is_astray f here) refl (at_site f (terminator f) none b site.block site.found front p back site.splits);
+  aimed = by (is_first_late here) (is_astray f here) (at_site f (terminator f) none b site.block site.found front p back site.splits);
 }
   where
     here : Site
     here = site_of b front p back
 
-    by : (s t : Bool) → is_astray f here ≡ t → cond (s || is_astray f here) (Some Terminator) None ≡ None → is_astray f here ≡ false
-    by s false so h = so
-    by true true so h = cc
-    by false true so h = cc
+    by : (s t : Bool) → cond (s || t) (Some Terminator) None ≡ None → t ≡ false
+    by s false h = refl
+    by true true h = cc
+    by false true h = cc
 
 none_told : (f : FunctionData) (site : Site) → is_late site.before site.instr ≡ false → is_astray f site ≡ false → terminator f site ≡ None
 none_told f site early aimed = ap₂ (λ s t. cond ((s && not (has_late [] site.before)) || t) (Some Terminator) None) early aimed
