@@ -1,5 +1,5 @@
 -- Where the legaliser has run, what is written is legal: so far no generic instruction is left in a function with its key.
-use Rattle.std.proofs.Common.{◌≡◌, ℕ, Bool, true, false, ◌&&◌, ◌||◌, List, [], ◌∷◌, Option, Some, None, option_map, map, inl, inr, refl, sym, ap, ap₂, ◌∙◌, subst, if◌then◌else◌, codes}
+use Rattle.std.proofs.Common.{◌≡◌, ℕ, Bool, true, false, ◌&&◌, ◌||◌, List, [], ◌∷◌, Option, Some, None, option_map, map, inl, inr, refl, sym, ap, ap₂, ◌∙◌, if◌then◌else◌, codes}
 use Rattle.std.specs.List.{AllByRecursion, AllZip, list_all, list_any}
 use Rattle.std.proofs.lemmas.Bool.{false≢true}
 use Rattle.gi_mir.specs.Data.{InstrData, BlockData, FunctionData, ModuleData}
@@ -60,7 +60,7 @@ module _ (x : ℕ) (f : FunctionData) where
       ap₂ (λ a b. a && b) (legal_instrs b.instrs parts.0) (legal_blocks bs parts.1)
 
   bare_legal : IsBare f → IsLegalized x f
-  bare_legal bare key = legal_blocks f.blocks (bare key)
+  bare_legal bare = λ key. legal_blocks f.blocks (bare key)
 
 -- ══ Neither the numbers of registers nor what a text doesn't show matter ══
 
@@ -73,7 +73,7 @@ renumbered_blocks number [] = refl
 renumbered_blocks number (b ∷ bs) = ap₂ (λ a c. a || c) (renumbered_instrs number b.instrs) (renumbered_blocks number bs)
 
 numbered_bare : (f : FunctionData) → IsBare f → IsBare (numbered f)
-numbered_bare f bare key = renumbered_blocks (number_in (order_of f)) f.blocks ∙ bare key
+numbered_bare f bare = λ key. renumbered_blocks (number_in (order_of f)) f.blocks ∙ bare key
 
 module _ (names others : List (List ℕ)) where
   same_instrs : (is js : List (ℕ × InstrData)) → AllZip (alike.IsSameInstr names others) is js → list_any is_generic js ≡ list_any is_generic is
@@ -89,7 +89,7 @@ module _ (names others : List (List ℕ)) where
   same_blocks (b ∷ bs) (c ∷ cs) same = ap₂ (λ a d. a || d) (same_instrs b.instrs c.instrs (same.0).instrs) (same_blocks bs cs same.1)
 
   same_bare : (f g : FunctionData) → alike.IsSameFunction names others f g → IsBare f → IsBare g
-  same_bare f g same bare key = same_blocks f.blocks g.blocks same.blocks ∙ bare (sym same.legalized ∙ key)
+  same_bare f g same bare = λ key. same_blocks f.blocks g.blocks same.blocks ∙ bare (sym same.legalized ∙ key)
 
   all_legal : (x : ℕ) (fs gs : List FunctionData) → AllByRecursion IsBare fs → AllZip (alike.IsSameFunction names others) (map numbered fs) gs → AllByRecursion (IsLegalized x) gs
   all_legal x [] [] bare same = tt
@@ -113,8 +113,8 @@ classed_generic (i ∷ is) [] same = absurd same
 classed_generic (i ∷ is) (j ∷ js) same = ap₂ (λ a b. a || b) (ap (λ (d : InstrData). is_generic_op d.op) same.0) (classed_generic is js same.1)
 
 selected_bare : (f : FunctionData) → IsSelectable f → (g : FunctionData) → IsSelected f g → IsBare g
-selected_bare f (inl none) g made key = ap has_generic (selected_empty f g none made).blocks
-selected_bare f (inr h) g made key =
+selected_bare f (inl none) g made = λ key. ap has_generic (selected_empty f g none made).blocks
+selected_bare f (inr h) g made = λ key.
     let one : SelectedBlock f h g = selected_block f h g made in
     ap has_generic one.blocks ∙ ap (λ a. a || false) (classed_generic one.came.back one.block.instrs one.instrs ∙ one.came.none)
 

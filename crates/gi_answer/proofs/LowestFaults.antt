@@ -7,11 +7,8 @@ use Rattle.gi_valid.specs.Valid.{IsInvalid, IsValid}
 use Rattle.gi_valid.specs.declared.invalid.Fault.{Fault}
 use Rattle.gi_valid.proofs.Greatest.{valid_or_invalid}
 use Rattle.gi_verify.proofs.Same.{one_is_told}
-use Rattle.gi_options.specs.Machine.{width_of}
-use Rattle.gi_options.specs.declared.machine.Machine.{Machine}
-use Rattle.gi_observe.specs.declared.pass.Pass.{Pass}
-use Rattle.gi_valid.specs.Typing.{Phase, phase_of}
-use Rattle.gi_answer.specs.Validity.{AreValid, HaveFaultsFrom, IsFaultOf, IsLowestFault, of_lower_line, stage_after}
+use Rattle.gi_valid.specs.Typing.{Phase}
+use Rattle.gi_answer.specs.Validity.{AreValid, HaveFaultsFrom, IsFaultAmong, IsFaultOf, IsLowestFault, of_lower_line}
 
 -- the functions so far are valid: what is told of the rest is told of all
 pub record AreValidSoFar (x : ℕ) (phase : Phase) (functions rest : List FunctionData) : Type 0 where
@@ -67,7 +64,7 @@ module _ (x : ℕ) (phase : Phase) (functions : List FunctionData) (f : Function
   }
 
   behind_other : (first fault : Fault) → IsInvalid x phase f fault → (b : Bool) → nat_lt fault.line first.line ≡ b → IsLowestSoFar x phase functions (f ∷ rest) first
-      → IsLowestSoFar x phase functions rest (if b then fault else first)
+      → IsSoFar x phase functions rest (if b then Some fault else Some first)
   behind_other first fault invalid true lower known =
       let below : fault.line < first.line = ltb-true fault.line first.line lower in record {
         stays = λ others. known.told fault below (first_lowest fault invalid others);
@@ -82,7 +79,7 @@ module _ (x : ℕ) (phase : Phase) (functions : List FunctionData) (f : Function
       }
 
   pub behind_invalid : (so_far : Option Fault) (fault : Fault) → IsInvalid x phase f fault → IsSoFar x phase functions (f ∷ rest) so_far
-      → IsSoFar x phase functions rest (Some (of_lower_line so_far fault))
+      → IsSoFar x phase functions rest (of_lower_line so_far (Some fault))
   behind_invalid None fault invalid known = record {
     stays = λ others. known.told fault (first_lowest fault invalid others);
     told = λ other sooner lowest. known.told other (lowest_behind other (one_from fault invalid (suc other.line) (omega (arith, sooner))) lowest);
@@ -94,24 +91,14 @@ module _ (x : ℕ) (phase : Phase) (functions : List FunctionData) (f : Function
 at_place : (functions : List FunctionData) (k : ℕ) (f : FunctionData) → k < length functions → f ≡ get_or functions k f → drop k functions ≡ f ∷ drop (k + 1) functions
 at_place functions k f within is = drop_more functions k f within ∙ ap (λ g. g ∷ drop (k + 1) functions) (sym is)
 
--- so far, at the function of this place
-abbrev pub IsSoFarAt : Machine → (start : Pass) → (functions : List FunctionData) → (k : ℕ) → Option Fault → Type 0
-IsSoFarAt machine start functions k so_far = IsSoFar (width_of machine) (phase_of (stage_after start)) functions (drop k functions) so_far
-
-pub next_valid : (machine : Machine) (start : Pass) (functions : List FunctionData) (k : ℕ) (f : FunctionData) (so_far : Option Fault) → k < length functions → f ≡ get_or functions k f
-    → IsValid (width_of machine) (phase_of (stage_after start)) f → IsSoFarAt machine start functions k so_far → IsSoFarAt machine start functions (k + 1) so_far
-next_valid machine start functions k f so_far within is valid known =
-    behind_valid (width_of machine) (phase_of (stage_after start)) functions f (drop (k + 1) functions) so_far valid
-    (subst (λ rest. IsSoFar (width_of machine) (phase_of (stage_after start)) functions rest so_far) (at_place functions k f within is) known)
-
-pub next_invalid : (machine : Machine) (start : Pass) (functions : List FunctionData) (k : ℕ) (f : FunctionData) (so_far : Option Fault) (fault : Fault) → k < length functions → f ≡ get_or functions k f
-    → IsInvalid (width_of machine) (phase_of (stage_after start)) f fault → IsSoFarAt machine start functions k so_far → IsSoFarAt machine start functions (k + 1) (Some (of_lower_line so_far fault))
-next_invalid machine start functions k f so_far fault within is invalid known =
-    behind_invalid (width_of machine) (phase_of (stage_after start)) functions f (drop (k + 1) functions) so_far fault invalid
-    (subst (λ rest. IsSoFar (width_of machine) (phase_of (stage_after start)) functions rest so_far) (at_place functions k f within is) known)
+pub one_more : (x : ℕ) (phase : Phase) (functions : List FunctionData) (k : ℕ) (f : FunctionData) (so_far told : Option Fault) → k < length functions → f ≡ get_or functions k f → IsFaultOf x phase f told
+    → IsSoFar x phase functions (drop k functions) so_far → IsSoFar x phase functions (drop (k + 1) functions) (of_lower_line so_far told)
+one_more x phase functions k f so_far None within is valid known =
+    behind_valid x phase functions f (drop (k + 1) functions) so_far valid (subst (λ rest. IsSoFar x phase functions rest so_far) (at_place functions k f within is) known)
+one_more x phase functions k f so_far (Some fault) within is invalid known =
+    behind_invalid x phase functions f (drop (k + 1) functions) so_far fault invalid (subst (λ rest. IsSoFar x phase functions rest so_far) (at_place functions k f within is) known)
 
 -- behind the last
-pub at_end : (machine : Machine) (start : Pass) (functions : List FunctionData) (k : ℕ) (so_far : Option Fault) → drop k functions ≡ [] → IsSoFarAt machine start functions k so_far → IsFaultOf machine start functions so_far
-at_end machine start functions k None ended known = known.valid (subst (AreValid (width_of machine) (phase_of (stage_after start))) (sym ended) tt)
-at_end machine start functions k (Some fault) ended known =
-    known.stays (subst (HaveFaultsFrom (width_of machine) (phase_of (stage_after start)) fault.line) (sym ended) tt)
+pub at_end : (x : ℕ) (phase : Phase) (functions rest : List FunctionData) (so_far : Option Fault) → rest ≡ [] → IsSoFar x phase functions rest so_far → IsFaultAmong x phase functions so_far
+at_end x phase functions rest None ended known = known.valid (subst (AreValid x phase) (sym ended) tt)
+at_end x phase functions rest (Some fault) ended known = known.stays (subst (HaveFaultsFrom x phase fault.line) (sym ended) tt)

@@ -76,20 +76,26 @@ pub record IsLowestFault (x : ℕ) (phase : Phase) (functions : List FunctionDat
   pub later : HaveFaultsFrom x phase fault.line behind
 
 -- of two faults that of the lower line, and of one line the first
-abbrev pub of_lower_line : Option Fault → (later : Fault) → Fault
-of_lower_line None later = later
-of_lower_line (Some first) later = if nat_lt later.line first.line then later else first
+abbrev pub of_lower_line : (first later : Option Fault) → Option Fault
+of_lower_line first None = first
+of_lower_line None (Some later) = Some later
+of_lower_line (Some first) (Some later) = if nat_lt later.line first.line then Some later else Some first
+
+-- the fault that is told of a function, and none of a valid one
+abbrev pub IsFaultOf : (x : ℕ) → Phase → FunctionData → Option Fault → Type 0
+IsFaultOf x phase f None = IsValid x phase f
+IsFaultOf x phase f (Some fault) = IsInvalid x phase f fault
+
+-- the fault that is told of functions, and none where all are valid
+abbrev pub IsFaultAmong : (x : ℕ) → Phase → List FunctionData → Option Fault → Type 0
+IsFaultAmong x phase functions None = AreValid x phase functions
+IsFaultAmong x phase functions (Some fault) = IsLowestFault x phase functions fault
 
 abbrev pub AreValidFor : Machine → (start : Pass) → List FunctionData → Type 0
 AreValidFor machine start functions = AreValid (width_of machine) (phase_of (stage_after start)) functions
 
 abbrev pub IsLowestFaultFor : Machine → (start : Pass) → List FunctionData → Fault → Type 0
 IsLowestFaultFor machine start functions fault = IsLowestFault (width_of machine) (phase_of (stage_after start)) functions fault
-
--- the fault that is told of functions, and none of valid ones
-abbrev pub IsFaultOf : Machine → (start : Pass) → List FunctionData → Option Fault → Type 0
-IsFaultOf machine start functions None = AreValidFor machine start functions
-IsFaultOf machine start functions (Some fault) = IsLowestFaultFor machine start functions fault
 
 -- what is said of functions of which one isn't valid
 pub record SaysFaultOf (machine : Machine) (start : Pass) (functions : List FunctionData) (message : List ℕ) : Type 0 where

@@ -1,11 +1,12 @@
 //! Whether the functions of a module are valid, and what is said where one isn't.
 
-ghost use Rattle.std.specs.Prelude.{◌≡◌, IfErr, IfOk, OnOk, string_bytes};
+ghost use Rattle.std.specs.Prelude.{◌≡◌, ◌⊎◌, IfErr, IfOk, OnOk, string_bytes};
+ghost use Rattle.gi_valid.specs.Typing.{phase_of};
 ghost use Rattle.gi_answer.specs.Messages.{Tells, at_line};
-ghost use Rattle.gi_answer.specs.Validity.{AreValidFor, IsFaultOf, SaysFaultOf, invalid_words, message_of_invalid, of_lower_line, physical_word, register_word, stage_after, used_word};
+ghost use Rattle.gi_answer.specs.Validity.{AreValidFor, IsFaultAmong, IsFaultOf, SaysFaultOf, invalid_words, message_of_invalid, of_lower_line, physical_word, register_word, stage_after, used_word};
 
 use crate::messages::Refused;
-use gi_llt::Memory;
+use gi_llt::{Memory, Target};
 use gi_mir::function::Function;
 use gi_mir::operand::Operand;
 use gi_mir::stage::Stage;
@@ -98,34 +99,50 @@ fn message_of(alloc: Global, fault: Fault) -> Result<Vec<u8>, Memory>
     at_line(alloc, fault.line, words.as_str())
 }
 
+/// The fault that is told of a function, and none of a valid one.
+fn fault_of(
+    alloc: Global,
+    target: Target,
+    stage: Stage,
+    function: &Function,
+) -> Result<Option<Fault>, Memory>
+    requires { (target.xlen ≡ 32) ⊎ (target.xlen ≡ 64) }
+    ensures { IfOk result (λ fault. IsFaultOf target.xlen (phase_of stage) function.now fault) }
+{
+    match verify(alloc, function, target, stage) {
+        Ok(()) => Ok(None),
+        Err(VerifyError::Invalid { line, what }) => Ok(Some(Fault { line, what })),
+        Err(VerifyError::Memory) => Err(Memory),
+    }
+}
+
 /// Of two faults that of the lower line, and of one line the first.
-fn of_lower_line(first: Option<Fault>, later: Fault) -> Fault
+fn of_lower_line(first: Option<Fault>, later: Option<Fault>) -> Option<Fault>
     ensures { result ≡ of_lower_line first later }
 {
+    let Some(later) = later else {
+        return first;
+    };
     match first {
-        Some(first) if first.line <= later.line => first,
-        _ => later,
+        Some(first) if first.line <= later.line => Some(first),
+        _ => Some(later),
     }
 }
 
 /// The fault of the lowest line of all functions, and of one line that of the first, where one isn't valid.
 fn lowest_fault(
     alloc: Global,
-    machine: Machine,
-    start: Pass,
+    target: Target,
+    stage: Stage,
     functions: &[Function],
 ) -> Result<Option<Fault>, Memory>
-    ensures { IfOk result (λ fault. IsFaultOf machine start functions.now fault) }
+    requires { (target.xlen ≡ 32) ⊎ (target.xlen ≡ 64) }
+    ensures { IfOk result (λ fault. IsFaultAmong target.xlen (phase_of stage) functions.now fault) }
 {
     let mut lowest = None;
     for function in functions {
-        match verify(alloc, function, machine.target(), stage_after(start)) {
-            Ok(()) => {}
-            Err(VerifyError::Invalid { line, what }) => {
-                lowest = Some(of_lower_line(lowest, Fault { line, what }));
-            }
-            Err(VerifyError::Memory) => return Err(Memory),
-        }
+        let told = fault_of(alloc, target, stage, function)?;
+        lowest = of_lower_line(lowest, told);
     }
     Ok(lowest)
 }
@@ -150,7 +167,7 @@ pub fn check_valid(
     ensures right { OnOk result (AreValidFor machine start functions.now) }
     ensures refused { IfErr result (λ why. Tells why (SaysFaultOf machine start functions.now)) }
 {
-    match lowest_fault(alloc, machine, start, functions) {
+    match lowest_fault(alloc, machine.target(), stage_after(start), functions) {
         Ok(None) => Ok(()),
         Ok(Some(fault)) => Err(refused(alloc, fault)),
         Err(Memory) => Err(Refused::Memory),
