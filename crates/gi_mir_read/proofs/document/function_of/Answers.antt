@@ -2,11 +2,11 @@ use Rattle.std.proofs.Common.{List}
 use Rattle.gi_spelling.specs.Documents.{read_document, tables_of}
 use Rattle.gi_spelling.specs.Lines as lines
 use Rattle.gi_spelling.proofs.NamedLemmas.{extends_more}
-use Rattle.gi_mir_read.specs.Begun.{begun}
-use Rattle.gi_mir_read.specs.Keyed.{AreFirsts}
-use Rattle.gi_mir_read.specs.Placed.{lines_at}
-use Rattle.gi_mir_read.specs.ReadBlocks.{BlocksAreRead}
-use Rattle.gi_mir_read.proofs.BeginningLemmas.{document-read, function-read}
+use Rattle.gi_mir_read.specs.Documents.Begun.{begun}
+use Rattle.gi_mir_read.specs.Documents.Keyed.{AreFirsts}
+use Rattle.gi_mir_read.specs.Texts.Placed.{lines_at}
+use Rattle.gi_mir_read.specs.Functions.ReadBlocks.{BlocksAreRead}
+use Rattle.gi_mir_read.proofs.Documents.BeginningLemmas.{document-read, function-read}
 use Rattle.gi_mir_read.proofs.document.function_of.Goals as goal
 use Rattle.gi_mir_read.proofs.document.function_of.Goals.{In_ok-blocks}
 

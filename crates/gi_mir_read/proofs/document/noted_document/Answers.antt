@@ -4,12 +4,12 @@ use Rattle.gi_spelling.specs.declared.written.Wrong.{Wrong}
 use Rattle.gi_spelling.specs.Documents.{block_wrongs, entries_of, entries_wrongs, line_wrongs, lower, missing_wrongs, read_document}
 use Rattle.gi_spelling.specs.Lines as lines
 use Rattle.gi_spelling.specs.Lines.{counted_lines, document_end, document_entries, document_lines, document_rest, document_strays, end_number, is_at_column_one, is_stray, sections_of, without_line}
-use Rattle.gi_mir_read.specs.declared.sections.Mark.TheVariants.{Entry}
-use Rattle.gi_mir_read.specs.Keyed.{AreFirsts}
-use Rattle.gi_mir_read.specs.Placed.{lines_at}
-use Rattle.gi_mir_read.specs.Sectioned.{section_at, sections_in}
-use Rattle.gi_mir_read.proofs.DocumentLemmas.{all_parts, was_none, name_is_text}
-use Rattle.gi_mir_read.proofs.TextLemmas.{nothing_noted}
+use Rattle.gi_mir_read.specs.declared.text.sections.Mark.TheVariants.{Entry}
+use Rattle.gi_mir_read.specs.Documents.Keyed.{AreFirsts}
+use Rattle.gi_mir_read.specs.Texts.Placed.{lines_at}
+use Rattle.gi_mir_read.specs.Texts.Sectioned.{section_at, sections_in}
+use Rattle.gi_mir_read.proofs.Documents.DocumentLemmas.{all_parts, was_none, name_is_text}
+use Rattle.gi_mir_read.proofs.Texts.TextLemmas.{nothing_noted}
 use Rattle.gi_mir_read.proofs.document.noted_document.Goals as goal
 use Rattle.gi_mir_read.proofs.document.noted_document.Goals.{After-drop-counted-2}
 

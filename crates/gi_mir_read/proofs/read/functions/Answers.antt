@@ -1,7 +1,7 @@
 use Rattle.std.proofs.Common.{List, sym, subst}
 use Rattle.gi_mir.specs.Data.{FunctionData}
-use Rattle.gi_mir_read.specs.declared.sections.Mark.TheVariants.{Document}
-use Rattle.gi_mir_read.specs.Sectioned.{section_at, sections_in}
+use Rattle.gi_mir_read.specs.declared.text.sections.Mark.TheVariants.{Document}
+use Rattle.gi_mir_read.specs.Texts.Sectioned.{section_at, sections_in}
 use Rattle.gi_mir_read.proofs.ReadLemmas.{IsReadUpTo, one_more_read}
 use Rattle.gi_mir_read.proofs.read.functions.Goals as goal
 

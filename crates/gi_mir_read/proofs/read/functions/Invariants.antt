@@ -1,8 +1,8 @@
 use Rattle.std.proofs.Common.{◌≡◌, [], length}
 use Rattle.std.specs.Prelude.{All}
-use Rattle.gi_mir_read.specs.declared.sections.Mark.TheVariants.{Document}
-use Rattle.gi_mir_read.specs.Placed.{IsLineIn}
-use Rattle.gi_mir_read.specs.Sectioned.{sections_in}
+use Rattle.gi_mir_read.specs.declared.text.sections.Mark.TheVariants.{Document}
+use Rattle.gi_mir_read.specs.Texts.Placed.{IsLineIn}
+use Rattle.gi_mir_read.specs.Texts.Sectioned.{sections_in}
 use Rattle.gi_mir_read.proofs.ReadLemmas.{IsReadUpTo}
 use Rattle.gi_mir_read.proofs.read.functions.Given as goal
 

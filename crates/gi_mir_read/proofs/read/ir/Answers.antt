@@ -2,9 +2,9 @@ use Rattle.std.proofs.Common.{Some, sym, ap, ◌∙◌, map}
 use Rattle.std.specs.Prelude.{filter, fold, option_map}
 use Rattle.gi_spelling.specs.Documents.{is_no_text, line_wrongs, lower}
 use Rattle.gi_spelling.specs.Read.{bytes_of_line}
-use Rattle.gi_mir_read.specs.Parted.{block_at}
-use Rattle.gi_mir_read.specs.Placed.{lines_at}
-use Rattle.gi_mir_read.proofs.TextLemmas.{all_lines_texts}
+use Rattle.gi_mir_read.specs.Texts.Parted.{block_at}
+use Rattle.gi_mir_read.specs.Texts.Placed.{lines_at}
+use Rattle.gi_mir_read.proofs.Texts.TextLemmas.{all_lines_texts}
 use Rattle.gi_mir_read.proofs.read.ir.Goals as goal
 
 pub returns-in-Ok-settle-clause-ir : goal.returns-in-Ok-settle-clause-ir

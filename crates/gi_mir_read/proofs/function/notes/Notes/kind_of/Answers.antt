@@ -1,0 +1,8 @@
+use Rattle.std.proofs.Common.{◌∙◌, ap}
+use Rattle.gi_spelling.specs.Blocks.{first_kind}
+use Rattle.gi_mir_read.proofs.Functions.NoteLemmas.{kind-lookup}
+use Rattle.gi_mir_read.proofs.function.notes.Notes.kind_of.Goals as goal
+
+pub returns : goal.returns
+returns c =
+    c.copied.ensures ∙ c.get.ensures.value ∙ kind-lookup c.self.inside.kinds.entries c.args.reg ∙ ap (λ notes. first_kind notes.kinds c.args.reg) c.self.view_is

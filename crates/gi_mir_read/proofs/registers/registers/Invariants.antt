@@ -1,7 +1,0 @@
-use Rattle.std.proofs.Common.{◌≡◌, ◌++◌, drop}
-use Rattle.gi_spelling.specs.Documents.{registers_in}
-use Rattle.gi_mir_read.specs.Placed.{lines_at}
-use Rattle.gi_mir_read.proofs.registers.registers.Given as goal
-
-abbrev pub invariant-loop-line : goal.invariant-loop-line
-invariant-loop-line l = l.classes.items ++ registers_in l.text (lines_at l.text (drop l.line-index l.lines)) ≡ registers_in l.text (lines_at l.text l.lines)

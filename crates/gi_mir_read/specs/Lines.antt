@@ -1,0 +1,5 @@
+pub mod Flagged
+pub mod Readings
+pub mod Splits
+pub mod Stops
+pub mod Turns
