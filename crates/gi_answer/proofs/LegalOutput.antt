@@ -10,7 +10,7 @@ use Rattle.gi_mir.specs.Row.{is_generic_op}
 use Rattle.gi_mir.proofs.Words.{generic_by_word}
 use Rattle.gi_observe.specs.declared.pass.Pass.{Pass}
 use Rattle.gi_observe.specs.declared.pass.Pass.TheVariants.{IrTranslator, PreCombiner, Legalizer, PostCombiner, RegBankSelect, Select}
-use Rattle.gi_rules.specs.Legal.{is_legal, is_legal_generic, legal_generics}
+use Rattle.gi_rules.specs.Legal.{is_legal, is_legal_generic}
 use Rattle.gi_spelling.specs.Same as alike
 use Rattle.gi_spelling.specs.Spelling.{Spells}
 use Rattle.gi_spelling.proofs.OneModule.{spelled_one}
@@ -19,7 +19,7 @@ use Rattle.gi_options.specs.Options.{OptionsData}
 use Rattle.gi_options.specs.declared.machine.Machine.{Machine}
 use Rattle.gi_valid.specs.Typing.{phase_of}
 use Rattle.gi_answer.specs.Answers.{IsChecked, IsOutput, IsTextOf}
-use Rattle.gi_answer.specs.Keys.{WrongKey, differs, keys_after, wrong_among, wrong_at, wrong_in, wrong_key}
+use Rattle.gi_answer.specs.Keys.{WrongKey, differs, keys_after, wrong_among, wrong_at, wrong_key}
 use Rattle.gi_answer.specs.NormalForm.{has_generic}
 use Rattle.gi_answer.specs.Promise.{IsLegalized, IsLegalText}
 use Rattle.gi_answer.specs.Rows.{is_generic}

@@ -8,7 +8,7 @@ use Rattle.gi_mir.specs.declared.operand.Operand.{Operand}
 use Rattle.gi_mir.specs.declared.operand.Operand.TheVariants as operand
 use Rattle.gi_spelling.specs.There.{is_block_within, is_there_in, names_blocks_there, names_there}
 use Rattle.gi_valid.specs.Available.{Extent}
-use Rattle.gi_valid.specs.Faults.{Site, blocks_in, fault_in, last_line, not_available, others_in, phi_entries, physical_across, sites, sites_from, sites_in, terminator, told, type_mismatch, unknown_among, unknown_block, unknown_successors}
+use Rattle.gi_valid.specs.Faults.{Site, blocks_in, fault_in, last_line, not_available, others_in, phi_entries, physical_across, sites_from, sites_in, terminator, told, type_mismatch, unknown_among, unknown_block, unknown_successors}
 use Rattle.gi_valid.specs.Typing.{Phase}
 use Rattle.gi_valid.specs.Valid.{IsValid}
 use Rattle.gi_valid.specs.declared.invalid.Invalid.{Invalid}
