@@ -31,10 +31,10 @@ function_of is = record {
   next_reg = 9;
   next_id = 9;
 }
- where
-  numbered : List InstrData → List (ℕ × InstrData)
-  numbered [] = []
-  numbered (i ∷ is) = (0, i) ∷ numbered is
+  where
+    numbered : List InstrData → List (ℕ × InstrData)
+    numbered [] = []
+    numbered (i ∷ is) = (0, i) ∷ numbered is
 
 abbrev legal : (x : ℕ) → List Llt → Opcode → List Operand → Bool
 legal x types o os = is_legal x (function_of (instr op.GenericUnmergeValues (definitions 0 types) None ∷ [])) (instr o os None)
