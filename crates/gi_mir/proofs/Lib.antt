@@ -1,5 +1,6 @@
 pub mod DefinedKinds
 pub mod FormedLemmas
+pub mod Grouped
 pub mod IdsLemmas
 pub mod Keys
 pub mod KindLemmas
