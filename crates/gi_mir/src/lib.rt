@@ -7,6 +7,8 @@ pub mod entry;
 pub mod formed;
 pub mod function;
 pub mod instr;
+pub mod instrs;
+mod labels;
 mod layout;
 mod mentions;
 pub mod module;
