@@ -16,7 +16,8 @@ use Rattle.gi_mir.specs.declared.operand.Operand.TheVariants as operand
 use Rattle.gi_mir.specs.declared.row.Form.{Form}
 use Rattle.gi_mir.proofs.KindLemmas.{kind_in_blocks_old}
 use Rattle.gi_mir.proofs.NumberingLaws.{number_in_apart}
-use Rattle.gi_mir_print.specs.Shown.{RegistersData, kind_noted, kind_at, register_at, shown_blocks, shown_function}
+use Rattle.gi_registers.specs.Noted.{kind_noted}
+use Rattle.gi_mir_print.specs.Shown.{RegistersData, kind_at, register_at, shown_blocks, shown_function}
 use Rattle.gi_mir_print.proofs.LineLemmas.{text_of_append}
 use Rattle.gi_mir_print.proofs.NoteLemmas.{kind_at-number_in}
 use Rattle.gi_mir_print.proofs.OperandLemmas.{sources_renamed}

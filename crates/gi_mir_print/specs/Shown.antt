@@ -1,7 +1,6 @@
 -- What a printer knows of a function's registers, and what it shows by it.
 use Rattle.std.specs.Prelude.{◌≡◌, ℕ, ◌-◌, Bool, true, false, ◌∷◌, List, [], ◌++◌, ◌&&◌, Option, nat_eq, nat_lt, if◌then◌else◌, length, fold, map, slice_index, unwrap_or, codes}
 use Rattle.gi_mir.specs.Names.{name_at}
-use Rattle.std.specs.Map.{lookup}
 use Rattle.gi_mir.specs.Data.{InstrData, BlockData, FunctionData}
 use Rattle.gi_mir.specs.Numbering.{number_in, with_register}
 use Rattle.gi_mir.specs.Registers.{first_there}
@@ -11,6 +10,7 @@ use Rattle.gi_mir.specs.declared.operand.Kind.TheVariants.{Class}
 use Rattle.gi_mir.specs.declared.operand.Operand.{Operand}
 use Rattle.gi_mir.specs.declared.operand.Operand.TheVariants as operand
 use Rattle.gi_mir.specs.Row.{is_branch_op}
+use Rattle.gi_registers.specs.Noted.{kind_noted}
 use Rattle.gi_spelling.specs.Printed.{successors_pieces, key_lines, stack_lines, blocks_lines, text_of}
 use Rattle.gi_llt.specs.Tokens.{Spaces, piece_bytes}
 use Rattle.std.specs.List.{list_any}
@@ -25,10 +25,6 @@ pub record RegistersData : Type 0 where
 -- the register that a number in the order stands for
 abbrev pub register_at : List ℕ → ℕ → ℕ
 register_at order number = if nat_lt number (length order) then slice_index order number else number - length order
-
--- the kind that is noted for a register
-abbrev pub kind_noted : List (ℕ × Kind) → ℕ → Option Kind
-kind_noted kinds reg = lookup (nat_eq reg) kinds
 
 -- registers are added to the order, and kinds are noted where none was
 pub record IsNoted (old new : RegistersData) (registers : List ℕ) (kind_found : ℕ → Option Kind) : Type 0 where

@@ -3,7 +3,6 @@
 
 mod blocks;
 mod functions;
-mod hashing;
 mod instruction;
 mod pieces;
 mod registers;

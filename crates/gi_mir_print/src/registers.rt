@@ -3,14 +3,15 @@
 ghost use Rattle.std.specs.Prelude.{◌≡◌, ℕ, [], unwrap_or, flat_map, OnOk, IfOk};
 ghost use Rattle.gi_mir.specs.Numbering.{number_in, with_register, order_of, registers_in_operand, registers_in_instr};
 ghost use Rattle.gi_mir.specs.Registers.{first_there, kind_in_operand, kind_in_operands, kind_in_instrs, kind_in_blocks};
-ghost use Rattle.gi_mir_print.specs.Shown.{IsNoted, kind_at, kind_noted};
+ghost use Rattle.gi_registers.specs.Noted.{kind_noted};
+ghost use Rattle.gi_mir_print.specs.Shown.{IsNoted, kind_at};
 
-use crate::hashing::RegisterHash;
 use gi_llt::Memory;
 use gi_mir::block::Numbered;
 use gi_mir::function::Function;
 use gi_mir::operand::{Kind, Operand, Reg};
-use indexmap::{IndexMap, IndexSet};
+use gi_registers::kinds::RegisterKinds;
+use gi_registers::set::RegisterSet;
 use std::alloc::Global;
 use std::marker::Model;
 
@@ -18,61 +19,35 @@ use std::marker::Model;
 /// definition.
 #[derive(Drop)]
 pub(crate) struct Registers {
-    order: IndexSet<u32, RegisterHash>,
-    kinds: IndexMap<u32, Kind, RegisterHash>,
+    order: RegisterSet,
+    kinds: RegisterKinds,
 }
 
 impl Model for Registers {
+    ghost use Rattle.gi_registers.specs.Noted.{kind_noted};
     ghost use Rattle.gi_mir_print.specs.Shown.{RegistersData};
 
     ghost Value = { RegistersData };
 
-    ghost view = { λ a. record { order = a.order.keys; kinds = a.kinds.entries } };
-}
-
-/// Adds a register to the order, unless it is there.
-fn note_register(order: &mut IndexSet<u32, RegisterHash>, reg: u32) -> Result<(), Memory>
-    ensures { OnOk result (order.new.keys ≡ with_register order.old.keys reg) }
-{
-    match order.insert_full(reg) {
-        Ok(_) => Ok(()),
-        Err(_) => Err(Memory),
-    }
-}
-
-/// Notes the kind of a register, unless one is noted.
-fn note_kind(
-    kinds: &mut IndexMap<u32, Kind, RegisterHash>,
-    reg: Reg,
-    kind: Kind,
-) -> Result<(), Memory>
-    ensures { OnOk result ((r : ℕ) → kind_noted kinds.new.entries r ≡ first_there (kind_noted kinds.old.entries r) (kind_in_operand r (Operand.Def reg kind))) }
-{
-    if kinds.contains_key(&reg.0) {
-        return Ok(());
-    }
-    match kinds.insert(reg.0, kind) {
-        Ok(_) => Ok(()),
-        Err(_) => Err(Memory),
-    }
+    ghost view = { λ a. record { order = a.order; kinds = a.kinds } };
 }
 
 /// The place of a register in the order, and a number past the end where it has none.
-fn number_among(order: &IndexSet<u32, RegisterHash>, reg: Reg) -> u64
-    ensures { result ≡ number_in order.now.keys reg.0 }
+fn number_among(order: &RegisterSet, reg: Reg) -> u64
+    ensures { result ≡ number_in order.now reg.0 }
 {
     let count = order.len() as u64;
-    match order.get_index_of(&reg.0) {
+    match order.index_of(reg) {
         Some(place) => place as u64,
         None => count + reg.0 as u64,
     }
 }
 
 /// The kind of a register, and `Class` where none is noted.
-fn kind_among(kinds: &IndexMap<u32, Kind, RegisterHash>, reg: Reg) -> Kind
-    ensures { result ≡ unwrap_or (kind_noted kinds.now.entries reg.0) Kind.Class }
+fn kind_among(kinds: &RegisterKinds, reg: Reg) -> Kind
+    ensures { result ≡ unwrap_or (kind_noted kinds.now reg.0) Kind.Class }
 {
-    kinds.get(&reg.0).copied().unwrap_or(Kind::Class)
+    kinds.kind_of(reg).unwrap_or(Kind::Class)
 }
 
 impl Registers {
@@ -82,8 +57,8 @@ impl Registers {
         ensures kinds { result.kinds ≡ [] }
     {
         Registers {
-            order: IndexSet::with_hasher(alloc, RegisterHash::new()),
-            kinds: IndexMap::with_hasher(alloc, RegisterHash::new()),
+            order: RegisterSet::new(alloc),
+            kinds: RegisterKinds::new(alloc),
         }
     }
 
@@ -107,10 +82,14 @@ impl Registers {
     {
         match operand {
             Operand::Def(reg, kind) => {
-                note_register(&mut self.order, reg.0)?;
-                note_kind(&mut self.kinds, reg, kind)
+                self.order.insert(reg)?;
+                self.kinds.note(reg, kind)?;
+                Ok(())
             }
-            Operand::Use(reg) => note_register(&mut self.order, reg.0),
+            Operand::Use(reg) => {
+                self.order.insert(reg)?;
+                Ok(())
+            }
             _ => Ok(()),
         }
     }

@@ -10,13 +10,14 @@ use Rattle.gi_mir.specs.declared.operand.Kind.{Kind}
 use Rattle.gi_mir.specs.declared.operand.Operand.{Operand}
 use Rattle.gi_mir.specs.declared.operand.Operand.TheVariants as operand
 use Rattle.gi_mir.specs.declared.operand.Reg.{Reg}
+use Rattle.gi_registers.specs.Noted.{with_kind}
 use Rattle.gi_spelling.specs.declared.written.Shown.{Shown}
 use Rattle.gi_spelling.specs.declared.written.Source.{Source}
 use Rattle.gi_spelling.specs.declared.written.Source.TheVariants as source
 use Rattle.gi_spelling.specs.declared.written.Wrong.{Wrong}
 use Rattle.gi_spelling.specs.Blocks.{defined_kind, first_kind, shown_at, shown_wrong, typed_use}
 use Rattle.gi_spelling.specs.Documents.{lower}
-use Rattle.gi_mir_read.specs.Functions.Noted.{with_kind, with_operand, with_shown, with_source}
+use Rattle.gi_mir_read.specs.Functions.Noted.{with_operand, with_shown, with_source}
 
 -- a kind by a look-up
 pub kind-lookup : (kinds : List (ℕ × Kind)) (reg : Reg) → lookup (nat_eq reg.0) kinds ≡ first_kind kinds reg
@@ -29,13 +30,6 @@ kind-lookup (entry ∷ kinds) reg = chosen (kind-lookup kinds reg) (nat_eq reg.0
     chosen later true is_a false is_b = absurd (let no : ⊥ = grind (arith, nat_tests) in no)
     chosen later false is_a true is_b = absurd (let no : ⊥ = grind (arith, nat_tests) in no)
     chosen later false is_a false is_b = later
-
-pub none-is : {X : Type 0} (found : Option X) → is_some found ≡ false → found ≡ None
-none-is None absent = refl
-none-is (Some x) absent = cc
-
-pub kept-new : (kinds : List (ℕ × Kind)) (reg : ℕ) (kind : Kind) → is_some (lookup (nat_eq reg) kinds) ≡ false → kinds ++ (reg, kind) ∷ [] ≡ with_kind kinds reg kind
-kept-new kinds reg kind none = rw none refl
 
 -- what is kept is what is defined first
 module _ (reg : Reg) where

@@ -1,13 +1,13 @@
 -- What is kept to the end of a function.
-use Rattle.std.specs.Prelude.{ℕ, Bool, List, [], ◌∷◌, ◌++◌, Option, None, fold, is_some, nat_eq, if◌then◌else◌}
+use Rattle.std.specs.Prelude.{ℕ, Bool, List, [], ◌∷◌, ◌++◌, Option, None, fold}
 use Rattle.std.specs.List.{cons_option}
-use Rattle.std.specs.Map.{lookup}
 use Rattle.std.specs.Option.{option_map_or}
 use Rattle.gi_llt.specs.declared.Llt.{Llt}
 use Rattle.gi_mir.specs.Registers.{type_of_kind}
 use Rattle.gi_mir.specs.declared.operand.Kind.{Kind}
 use Rattle.gi_mir.specs.declared.operand.Operand.{Operand}
 use Rattle.gi_mir.specs.declared.operand.Operand.TheVariants as operand
+use Rattle.gi_registers.specs.Noted.{with_kind}
 use Rattle.gi_spelling.specs.declared.written.Shown.{Shown}
 use Rattle.gi_spelling.specs.declared.written.Source.{Source}
 use Rattle.gi_spelling.specs.declared.written.Source.TheVariants as source
@@ -20,10 +20,6 @@ pub record NotesData : Type 0 where
   pub kinds : List (ℕ × Kind)
   pub shown : List Shown
   pub lowest : Option Wrong
-
--- with the kind of one more register, unless it has one
-abbrev pub with_kind : List (ℕ × Kind) → ℕ → Kind → List (ℕ × Kind)
-with_kind kinds reg kind = if is_some (lookup (nat_eq reg) kinds) then kinds else kinds ++ (reg, kind) ∷ []
 
 -- with what an operand defines
 abbrev pub with_operand : List (ℕ × Kind) → Operand → List (ℕ × Kind)

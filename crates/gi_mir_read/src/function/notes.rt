@@ -3,44 +3,31 @@
 ghost use Rattle.std.specs.Prelude.{◌≡◌, [], OnOk, fold};
 ghost use Rattle.gi_spelling.specs.Blocks.{first_kind, wrong};
 ghost use Rattle.gi_spelling.specs.Documents.{lower};
-ghost use Rattle.gi_mir_read.specs.Functions.Noted.{has_kind, with_kind, with_lowest, with_notes, with_operand, with_shown, with_source};
+ghost use Rattle.gi_mir_read.specs.Functions.Noted.{has_kind, with_lowest, with_notes, with_operand, with_shown, with_source};
 
 use crate::list::push;
 use crate::text::wrongs::Lowest;
 use gi_llt::{Llt, Memory};
 use gi_mir::operand::{Kind, Operand, Reg};
 use gi_mir::types::same_type;
+use gi_registers::kinds::RegisterKinds;
 use gi_spelling::written::{Fault, Shown, Source};
-use indexmap::IndexMap;
 use std::alloc::Global;
 use std::marker::Model;
 
-/// Keeps the kind of a register, unless an earlier definition has given it one.
-fn keep_kind(kinds: &mut IndexMap<u32, Kind>, reg: Reg, kind: Kind) -> Result<(), Memory>
-    ensures { OnOk result (kinds.new.entries ≡ with_kind kinds.old.entries reg.0 kind) }
-{
-    if kinds.contains_key(&reg.0) {
-        return Ok(());
-    }
-    match kinds.insert(reg.0, kind) {
-        Ok(_) => Ok(()),
-        Err(_) => Err(Memory),
-    }
-}
-
 /// Keeps the kind of a register that an operand defines.
-fn keep_operand(kinds: &mut IndexMap<u32, Kind>, operand: Operand) -> Result<(), Memory>
-    ensures { OnOk result (kinds.new.entries ≡ with_operand kinds.old.entries operand) }
+fn keep_operand(kinds: &mut RegisterKinds, operand: Operand) -> Result<(), Memory>
+    ensures { OnOk result (kinds.new ≡ with_operand kinds.old operand) }
 {
     match operand {
-        Operand::Def(reg, kind) => keep_kind(kinds, reg, kind),
+        Operand::Def(reg, kind) => kinds.note(reg, kind),
         _ => Ok(()),
     }
 }
 
 /// Keeps the kinds of the registers that operands define.
-fn keep_operands(kinds: &mut IndexMap<u32, Kind>, operands: &[Operand]) -> Result<(), Memory>
-    ensures { OnOk result (kinds.new.entries ≡ fold with_operand kinds.old.entries operands.now) }
+fn keep_operands(kinds: &mut RegisterKinds, operands: &[Operand]) -> Result<(), Memory>
+    ensures { OnOk result (kinds.new ≡ fold with_operand kinds.old operands.now) }
 {
     for operand in operands {
         keep_operand(kinds, *operand)?;
@@ -82,7 +69,7 @@ fn has_type(kind: Option<Kind>, ty: Llt) -> bool
 /// something is wrong.
 #[derive(Drop)]
 pub(crate) struct Notes {
-    kinds: IndexMap<u32, Kind>,
+    kinds: RegisterKinds,
     shown: Vec<Shown>,
     lowest: Lowest,
 }
@@ -92,7 +79,7 @@ impl Model for Notes {
 
     ghost Value = { NotesData };
 
-    ghost view = { λ a. record { kinds = a.kinds.entries; shown = a.shown.items; lowest = a.lowest } };
+    ghost view = { λ a. record { kinds = a.kinds; shown = a.shown.items; lowest = a.lowest } };
 }
 
 impl Notes {
@@ -101,7 +88,7 @@ impl Notes {
         ensures { result ≡ record { kinds = []; shown = []; lowest = lowest } }
     {
         Notes {
-            kinds: IndexMap::new(alloc),
+            kinds: RegisterKinds::new(alloc),
             shown: Vec::new(alloc),
             lowest,
         }
@@ -131,7 +118,7 @@ impl Notes {
     fn kind_of(&self, reg: Reg) -> Option<Kind>
         ensures { result ≡ first_kind self.now.kinds reg }
     {
-        self.kinds.get(&reg.0).copied()
+        self.kinds.kind_of(reg)
     }
 
     /// Notes that a shown type isn't the register's.

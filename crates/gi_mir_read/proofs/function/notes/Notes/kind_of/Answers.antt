@@ -5,4 +5,4 @@ use Rattle.gi_mir_read.proofs.function.notes.Notes.kind_of.Goals as goal
 
 pub returns : goal.returns
 returns c =
-    c.copied.ensures ∙ c.get.ensures.value ∙ kind-lookup c.self.inside.kinds.entries c.args.reg ∙ ap (λ notes. first_kind notes.kinds c.args.reg) c.self.view_is
+    c.kind_of.ensures ∙ kind-lookup c.self.inside.kinds c.args.reg ∙ ap (λ notes. first_kind notes.kinds c.args.reg) c.self.view_is
