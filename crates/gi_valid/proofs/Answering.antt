@@ -5,7 +5,7 @@ use Rattle.gi_mir.specs.declared.opcode.Opcode.TheVariants as op
 use Rattle.gi_mir.specs.declared.operand.Flags.{Flags}
 use Rattle.gi_mir.specs.declared.operand.MemOp.{MemOp}
 use Rattle.gi_mir.specs.declared.operand.SymbolFlag.TheVariants.{Plain, Call, Hi, Lo}
-use Rattle.gi_mir.specs.Row.{is_branch_op, is_terminator_op}
+use Rattle.gi_mir.specs.Row.{is_branch_op, is_terminator_op, is_phi_op}
 use Rattle.gi_meaning.specs.Argument.{Argument, Value, Number, Symbol, Called, To}
 use Rattle.gi_meaning.specs.Given.{Given, Exactly, LowBits, Undefined}
 use Rattle.gi_meaning.specs.Machine.{is_immediate}
@@ -149,6 +149,11 @@ branch_ends op.BranchLessUnsigned h = refl
 branch_ends op.BranchGreaterEqualUnsigned h = refl
 branch_ends op.PseudoBranch h = refl
 branch_ends _ h = cc
+
+-- the phis are those whose meaning joins
+pub joining_is : (flags : Flags) (o : Opcode) → is_joining (meaning_of flags o) ≡ is_phi_op o
+joining_is flags op.Copy = refl
+joining_is flags _ = refl
 
 -- results are written
 abbrev pub is_valued : Meaning → Bool

@@ -1,5 +1,5 @@
 -- The one instruction that defines a register, and where it can't stand.
-use Rattle.std.proofs.Common.{◌≡◌, ℕ, zero, suc, ◌≤◌, Bool, true, false, cond, ◌&&◌, List, [], ◌∷◌, ◌++◌, find, Some, slice_get, ◌⊎◌, inl, inr, ⊎_elim, refl, sym, ◌∙◌, subst, true≢false}
+use Rattle.std.proofs.Common.{◌≡◌, ℕ, zero, suc, ◌≤◌, Bool, true, false, cond, ◌&&◌, List, [], ◌∷◌, ◌++◌, find, Some, slice_get, ◌⊎◌, inl, inr, ⊎_elim, refl, sym, ap, ◌∙◌, subst, true≢false}
 use Rattle.std.proofs.lemmas.Bool.{or_from, and_parts, and_from, false_from_ne_true}
 use Rattle.std.proofs.lemmas.Option.{same_Some}
 use Rattle.std.specs.List.{list_any, list_all}
@@ -49,37 +49,45 @@ pub record IsOrderly (f : FunctionData) : Type 0 where
   pub once : (r : ℕ) → times r (definitions (all_instrs f.blocks)) ≤ 1
   pub ends : told (terminator f) (sites f) ≡ []
 
--- an instruction that writes no results doesn't define what one defines that does
-pub not_defined : (f : FunctionData) → IsOrderly f → (d : ℕ × InstrData) → IsIn d (all_instrs f.blocks) → is_valued (meaning_of d.1.flags d.1.op) ≡ true → (q : ℕ) → defines q d ≡ true
-    → (j : ℕ × InstrData) → IsIn j (all_instrs f.blocks) → (is_valued (meaning_of j.1.flags j.1.op) ≡ true → ⊥) → defines q j ≡ false
-not_defined f orderly d inside valued q defined j there not_valued =
+-- an instruction that isn't the definition of a register, by some test, doesn't define it
+not_defined : (f : FunctionData) → IsOrderly f → (d : ℕ × InstrData) → IsIn d (all_instrs f.blocks) → (q : ℕ) → defines q d ≡ true
+    → (test : InstrData → Bool) → test d.1 ≡ false → (j : ℕ × InstrData) → IsIn j (all_instrs f.blocks) → test j.1 ≡ true → defines q j ≡ false
+not_defined f orderly d inside q defined test fails j there passes =
     false_from_ne_true (defines q j) (λ h.
     let same : j ≡ d = one_definition q (all_instrs f.blocks) (orderly.once q) j d there inside h defined in
-    not_valued (subst (λ (k : ℕ × InstrData). is_valued (meaning_of k.1.flags k.1.op) ≡ true) (sym same) valued))
+    true≢false (sym passes ∙ ap (λ (k : ℕ × InstrData). test k.1) same ∙ fails))
 
-not_both : (a b : Bool) → (a && b) ≡ false → b ≡ true → a ≡ true → ⊥
-not_both a b none h l = true≢false (sym (and_from a b l h) ∙ none)
-
--- no phi defines it
-pub no_phi_defines : (f : FunctionData) → IsOrderly f → (d : ℕ × InstrData) → IsIn d (all_instrs f.blocks) → is_valued (meaning_of d.1.flags d.1.op) ≡ true → (q : ℕ) → defines q d ≡ true
+-- no phi defines what no phi defines first
+pub no_phi_defines : (f : FunctionData) → IsOrderly f → (d : ℕ × InstrData) → IsIn d (all_instrs f.blocks) → is_phi d.1 ≡ false → (q : ℕ) → defines q d ≡ true
     → (is : List (ℕ × InstrData)) → ((j : ℕ × InstrData) → IsIn j is → IsIn j (all_instrs f.blocks)) → list_any (defines q) (phis_of is) ≡ false
-no_phi_defines f orderly d inside valued q defined [] there = refl
-no_phi_defines f orderly d inside valued q defined (i ∷ is) there =
-    by (is_phi i.1) refl (no_phi_defines f orderly d inside valued q defined is (λ j later. there j (inr later)))
+no_phi_defines f orderly d inside plain q defined [] there = refl
+no_phi_defines f orderly d inside plain q defined (i ∷ is) there =
+    by (is_phi i.1) refl (no_phi_defines f orderly d inside plain q defined is (λ j later. there j (inr later)))
   where
     by : (t : Bool) → is_phi i.1 ≡ t → list_any (defines q) (phis_of is) ≡ false → list_any (defines q) (cond t (i ∷ phis_of is) []) ≡ false
-    by true so rest =
-        or_from (defines q i) (list_any (defines q) (phis_of is))
-        (not_defined f orderly d inside valued q defined i (there i (inl refl)) (not_both (is_valued (meaning_of i.1.flags i.1.op)) (is_phi i.1) (joins_nothing (meaning_of i.1.flags i.1.op)) so)) rest
+    by true so rest = or_from (defines q i) (list_any (defines q) (phis_of is)) (not_defined f orderly d inside q defined is_phi plain i (there i (inl refl)) so) rest
     by false so rest = refl
 
--- no terminator defines it
-pub no_end_defines : (f : FunctionData) → IsOrderly f → (d : ℕ × InstrData) → IsIn d (all_instrs f.blocks) → is_valued (meaning_of d.1.flags d.1.op) ≡ true → (q : ℕ) → defines q d ≡ true
+-- no terminator defines what no terminator defines first
+pub no_terminator_defines : (f : FunctionData) → IsOrderly f → (d : ℕ × InstrData) → IsIn d (all_instrs f.blocks) → is_terminator_op d.1.op ≡ false → (q : ℕ) → defines q d ≡ true
     → (is : List (ℕ × InstrData)) → ((j : ℕ × InstrData) → IsIn j is → IsIn j (all_instrs f.blocks)) → list_all (λ p. is_terminator_op p.1.op) is ≡ true → list_any (defines q) is ≡ false
-no_end_defines f orderly d inside valued q defined [] there ends = refl
-no_end_defines f orderly d inside valued q defined (i ∷ is) there ends =
+no_terminator_defines f orderly d inside plain q defined [] there ends = refl
+no_terminator_defines f orderly d inside plain q defined (i ∷ is) there ends =
     let each : (is_terminator_op i.1.op ≡ true) × (list_all (λ p. is_terminator_op p.1.op) is ≡ true) = and_parts (is_terminator_op i.1.op) (list_all (λ p. is_terminator_op p.1.op) is) ends in
     or_from (defines q i) (list_any (defines q) is)
-    (not_defined f orderly d inside valued q defined i (there i (inl refl))
-    (not_both (is_valued (meaning_of i.1.flags i.1.op)) (is_terminator_op i.1.op) (ends_nothing i.1.flags i.1.op) each.0))
-    (no_end_defines f orderly d inside valued q defined is (λ j later. there j (inr later)) each.1)
+    (not_defined f orderly d inside q defined (λ k. is_terminator_op k.op) plain i (there i (inl refl)) each.0)
+    (no_terminator_defines f orderly d inside plain q defined is (λ j later. there j (inr later)) each.1)
+
+second_fails : (a b : Bool) → (a && b) ≡ false → a ≡ true → b ≡ false
+second_fails a b none h = false_from_ne_true b (λ l. true≢false (sym (and_from a b h l) ∙ none))
+
+-- what writes results is neither
+pub valued_is_no_phi : (i : InstrData) → is_valued (meaning_of i.flags i.op) ≡ true → is_phi i ≡ false
+valued_is_no_phi i valued = second_fails (is_valued (meaning_of i.flags i.op)) (is_phi i) (joins_nothing (meaning_of i.flags i.op)) valued
+
+pub valued_is_no_terminator : (i : InstrData) → is_valued (meaning_of i.flags i.op) ≡ true → is_terminator_op i.op ≡ false
+valued_is_no_terminator i valued = second_fails (is_valued (meaning_of i.flags i.op)) (is_terminator_op i.op) (ends_nothing i.flags i.op) valued
+
+pub no_end_defines : (f : FunctionData) → IsOrderly f → (d : ℕ × InstrData) → IsIn d (all_instrs f.blocks) → is_valued (meaning_of d.1.flags d.1.op) ≡ true → (q : ℕ) → defines q d ≡ true
+    → (is : List (ℕ × InstrData)) → ((j : ℕ × InstrData) → IsIn j is → IsIn j (all_instrs f.blocks)) → list_all (λ p. is_terminator_op p.1.op) is ≡ true → list_any (defines q) is ≡ false
+no_end_defines f orderly d inside valued = no_terminator_defines f orderly d inside (valued_is_no_terminator d.1 valued)

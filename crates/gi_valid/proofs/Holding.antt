@@ -1,32 +1,34 @@
 -- In every run of a valid function an available register holds what its definition gives.
 use Rattle.std.proofs.Common.{◌≡◌, ℕ, Bool, true, false, not, ◌&&◌, ◌==◌, List, [], ◌∷◌, ◌++◌, map, Some, None, slice_get, ◌⊎◌, inl, inr, ⊎_elim, refl, sym, ap, ◌∙◌, subst, true≢false}
 use Rattle.std.proofs.lemmas.Bool.{or_parts, or_from, or_cases, or_left, or_right, and_parts, and_from, false_from_ne_true, not-true, eq-eqb, eqb-true}
+use Rattle.std.proofs.lemmas.List.Folds.{list_any-append}
 use Rattle.std.specs.List.{list_any, list_all}
 use Rattle.gi_llt.specs.Llt.{width_of}
 use Rattle.gi_mir.specs.Data.{InstrData, BlockData, FunctionData}
 use Rattle.gi_mir.specs.Edit.{all_instrs, is_def_of, defines, uses}
 use Rattle.gi_mir.specs.Formed.{is_def, is_physical_def, is_implicit_def}
-use Rattle.gi_mir.specs.Row.{access_of, is_call_op, is_phi_op, is_branch_op}
+use Rattle.gi_mir.specs.Row.{access_of, is_call_op, is_phi_op, is_branch_op, is_terminator_op}
 use Rattle.gi_mir.specs.declared.opcode.Opcode.TheVariants as op
 use Rattle.gi_mir.specs.declared.operand.MemOp.{MemOp}
 use Rattle.gi_mir.specs.declared.operand.Operand.{Operand}
 use Rattle.gi_mir.specs.declared.operand.Operand.TheVariants as operand
 use Rattle.gi_meaning.specs.Act.{Act, Results, Leaves}
 use Rattle.gi_meaning.specs.State.{World, IsWorld, State, outside_of, AreBytes, Virtual}
-use Rattle.gi_meaning.specs.Meaning.{Meaning, Loading, Zeros, meaning_of}
-use Rattle.gi_meaning.specs.Runs.{Setting, setting_of, written_places, width_of_place, places_of, put_all, Left, Steps, phis_of, after_phis, is_among}
+use Rattle.gi_meaning.specs.Meaning.{Meaning, Loading, Zeros, meaning_of, is_joining}
+use Rattle.gi_meaning.specs.Runs.{Setting, setting_of, written_places, width_of_place, places_of, put_all, Left, Steps, is_phi, phis_of, after_phis, is_among}
 use Rattle.gi_refine.specs.Reached.{IsReached}
 use Rattle.gi_refine.proofs.Targets.{step_target}
 use Rattle.gi_valid.specs.Available.{Extent, is_origin, defines_origin, at_once, IsExtent, IsAvailable}
 use Rattle.gi_valid.specs.Definitions.{defines_any_physical, is_erasable, is_load, copies_physical, is_pure, definition, uses_purely}
 use Rattle.gi_valid.specs.Facts.{is_computing, is_fixed, is_steady, HoldsDefinition, HoldsBelow}
 use Rattle.gi_meaning.specs.InRow.{results_in}
-use Rattle.gi_valid.proofs.Answering.{is_leaving, act_fine, leaving_is, branch_ends, is_valued, computing_valued}
-use Rattle.gi_valid.proofs.Defining.{in_either, in_function, IsDefinition, definition_is, IsOrderly, no_phi_defines, no_end_defines}
+use Rattle.gi_valid.proofs.Answering.{is_leaving, act_fine, leaving_is, joining_is, branch_ends, computing_valued}
+use Rattle.gi_valid.proofs.Defining.{in_either, in_function, IsDefinition, definition_is, IsOrderly, no_phi_defines, no_terminator_defines, valued_is_no_terminator}
 use Rattle.gi_valid.proofs.Held.{computed_places, virtual_widths, put_held, held_on, acts_anywhere, joined_keeps, put_all_memory, joined_memory, put_one, defined_written, IsBelow, zeros_below}
 use Rattle.gi_valid.proofs.Single.{IsIn, one_definition, results_once}
 use Rattle.gi_valid.proofs.Sited.{ends_behind, target_among, splits_whole}
 use Rattle.gi_valid.proofs.Stepping.{Ran, ran, Went, went, step_keeps, reads_same, read_there}
+use Rattle.gi_valid.proofs.Tested.{tested_pair, tested_block, untested, untested_reached}
 use Rattle.gi_valid.proofs.Walking.{Keeps, kept_where_reached}
 
 -- ══ A function, a register and its definition ══
@@ -36,7 +38,8 @@ record Given (f : FunctionData) (r : ℕ) (extent : Extent) (d : ℕ × InstrDat
   orderly : IsOrderly f
   contained : IsExtent f r extent
   definition : definition f r ≡ Some d
-  valued : is_valued (meaning_of d.1.flags d.1.op) ≡ true
+  no_phi : is_phi d.1 ≡ false
+  no_terminator : is_terminator_op d.1.op ≡ false
 
 inside_of : (f : FunctionData) (r : ℕ) (extent : Extent) (d : ℕ × InstrData) → Given f r extent d → IsDefinition f r d
 inside_of f r extent d g = definition_is f r d g.definition
@@ -62,7 +65,7 @@ leaves x names f w is_world r extent d g b block found before i after splits c s
     let own : IsDefinition f r d = inside_of f r extent d g in (
       gone.same,
       target_among f g.orderly.ends b block found (phis_of block.instrs ++ before) i after whole branches c (step_target s w i.1 state (Left c state') step),
-      no_end_defines f g.orderly d own.inside g.valued r own.defined (i ∷ after) (here_in f b block found before i after splits)
+      no_terminator_defines f g.orderly d own.inside g.no_terminator r own.defined (i ∷ after) (here_in f b block found before i after splits)
           (ends_behind f g.orderly.ends b block found (phis_of block.instrs ++ before) i after whole (branch_ends i.1.op branches)),
     )
 
@@ -130,6 +133,11 @@ stayed r origins here is other h =
     let both : (here ≡ true) × (not (list_any (defines_origin origins) is) ≡ true) = and_parts here (not (list_any (defines_origin origins) is)) kept in
     record { before = both.0; kept = λ u own. none_taken origins u own is (not-true (list_any (defines_origin origins) is) both.1) })
     (or_cases (list_any (defines r) is) (here && not (list_any (defines_origin origins) is)) h)
+
+-- what none of some instructions defines, none of the first of them does
+none_of_front : (q : ℕ) (front back is : List (ℕ × InstrData)) → is ≡ front ++ back → list_any (defines q) is ≡ false → list_any (defines q) front ≡ false
+none_of_front q front back is splits none =
+    (or_parts (list_any (defines q) front) (list_any (defines q) back) (sym (list_any-append (defines q) front back) ∙ ap (list_any (defines q)) (sym splits) ∙ none)).0
 
 -- ══ What a pure definition gives ══
 
@@ -208,61 +216,89 @@ carried s w d steady state state' used defined holds = record {
 }
 
 -- what a register is computed from
-origin : (f : FunctionData) (r : ℕ) (extent : Extent) (d : ℕ × InstrData) → Given f r extent d → Steady d → (u : ℕ) → uses u d ≡ true → extent.origins u ≡ true
-origin f r extent d g steady u used =
-    g.contained.computed u (record { others = 0; over = ap (λ found. uses_purely found u) g.definition ∙ and_from (is_pure d.1) (uses u d) steady.pure used })
+origin : (f : FunctionData) (r : ℕ) (extent : Extent) (d : ℕ × InstrData) → Given f r extent d → is_pure d.1 ≡ true → (u : ℕ) → uses u d ≡ true → extent.origins u ≡ true
+origin f r extent d g pure u used =
+    g.contained.computed u (record { others = 0; over = ap (λ found. uses_purely found u) g.definition ∙ and_from (is_pure d.1) (uses u d) pure used })
 
-definition_kept : (x : ℕ) (names : List (List ℕ)) (f : FunctionData) (w : World) → IsWorld x w → (r : ℕ) (extent : Extent) (d : ℕ × InstrData) → Given f r extent d → Steady d
-    → Keeps (setting_of x names f) w f r extent (HasNone d) (HoldsDefinition (setting_of x names f) w d.1)
-definition_kept x names f w is_world r extent d g steady = record {
+-- a definition that a run has passed: it is steady, and its registers hold what it gives
+record IsPassed (s : Setting) (w : World) (d : ℕ × InstrData) (state : State) : Type 0 where
+  steady : Steady d
+  holds : HoldsDefinition s w d.1 state
+
+still_passed : (s : Setting) (w : World) (d : ℕ × InstrData) (state state' : State) → ((u : ℕ) → uses u d ≡ true → state'.values u ≡ state.values u) → ((q : ℕ) → defines q d ≡ true → state'.values q ≡ state.values q)
+    → IsPassed s w d state → IsPassed s w d state'
+still_passed s w d state state' used defined passed = record { steady = passed.steady; holds = carried s w d passed.steady state state' used defined passed.holds }
+
+definition_kept : (x : ℕ) (names : List (List ℕ)) (f : FunctionData) (w : World) → IsWorld x w → (test : InstrData → Bool) (r : ℕ) (extent : Extent) (d : ℕ × InstrData) → Given f r extent d → is_pure d.1 ≡ true
+    → (test d.1 ≡ true → is_steady d.1 ≡ true) → Keeps (setting_of x names f) w test f r extent (HasNone d) (IsPassed (setting_of x names f) w d)
+definition_kept x names f w is_world test r extent d g pure steady = record {
   starts = λ q own used. refl;
-  phis = λ b block found from entered middle none joins.
+  phis = λ b block found front back splits from entered middle none joins.
       let s : Setting = setting_of x names f in
       let own : IsDefinition f r d = inside_of f r extent d g in
       let other : (q : ℕ) → defines q d ≡ true → list_any (defines q) (phis_of block.instrs) ≡ false = λ q defined.
-      no_phi_defines f g.orderly d own.inside g.valued q defined block.instrs (λ j there. in_function f.blocks b block found j there) in (
-        λ q defined used. joined_keeps q entered from (phis_of block.instrs) middle (other q defined) joins ∙ none q defined used,
+      no_phi_defines f g.orderly d own.inside g.no_phi q defined block.instrs (λ j there. in_function f.blocks b block found j there) in
+      let stays : (q : ℕ) → list_any (defines q) (phis_of block.instrs) ≡ false → middle.values q ≡ entered.values q = λ q others.
+      joined_keeps q entered from front middle (none_of_front q front back (phis_of block.instrs) splits others) joins in (
+        λ q defined used. stays q (other q defined) ∙ none q defined used,
         λ here holds available.
-            let stays : Stayed r extent.origins here (phis_of block.instrs) = stayed r extent.origins here (phis_of block.instrs) (other r own.defined) available in
-            carried s w d steady entered middle
-            (λ u used. joined_keeps u entered from (phis_of block.instrs) middle (stays.kept u (origin f r extent d g steady u used)) joins)
-            (λ q defined. joined_keeps q entered from (phis_of block.instrs) middle (other q defined) joins) (holds stays.before),
+            let before : Stayed r extent.origins here (phis_of block.instrs) = stayed r extent.origins here (phis_of block.instrs) (other r own.defined) available in
+            still_passed s w d entered middle (λ u used. stays u (before.kept u (origin f r extent d g pure u used))) (λ q defined. stays q (other q defined)) (holds before.before),
       );
-  step = λ b block found before i after splits state state' none step.
+  step = λ b block found before i after splits passes state state' none step.
       let s : Setting = setting_of x names f in
       let own : IsDefinition f r d = inside_of f r extent d g in
       let made : Ran s w i.1 state state' = ran s w i.1 state state' step in
       ⊎_elim
       (λ same.
-      let itself : Ran s w d.1 state state' = subst (λ (k : ℕ × InstrData). Ran s w k.1 state state') (sym same) made in (
+      let itself : Ran s w d.1 state state' = subst (λ (k : ℕ × InstrData). Ran s w k.1 state state') (sym same) made in
+      let now : Steady d = steady_of d (steady (ap (λ (k : ℕ × InstrData). test k.1) same ∙ passes)) in (
         λ q defined used. absurd (read_there s w state d.1.operands itself.arguments itself.read q used (none q defined used)),
-        λ here holds available. established x names f w r extent d g steady state state' none itself,
+        λ here holds available. record { steady = now; holds = established x names f w r extent d g now state state' none itself },
       ))
       (λ other. (
         λ q defined used. step_keeps s w i state state' made q (other q defined) ∙ none q defined used,
         λ here holds available.
             let stays : Stayed r extent.origins here (i ∷ []) = stayed r extent.origins here (i ∷ []) (or_from (defines r i) false (other r own.defined) refl) available in
-            carried s w d steady state state'
-            (λ u used. step_keeps s w i state state' made u (or_parts (defines u i) false (stays.kept u (origin f r extent d g steady u used))).0)
+            still_passed s w d state state'
+            (λ u used. step_keeps s w i state state' made u (or_parts (defines u i) false (stays.kept u (origin f r extent d g pure u used))).0)
             (λ q defined. step_keeps s w i state state' made q (other q defined)) (holds stays.before),
       ))
       (which f r extent d g i (here_in f b block found before i after splits i (inl refl)));
   leaves = λ b block found before i after splits c state state' step. leaves x names f w is_world r extent d g b block found before i after splits c state state' step;
 }
 
-pub definition_holds : (x : ℕ) (names : List (List ℕ)) (f : FunctionData) (w : World) → IsWorld x w → IsOrderly f → (b : ℕ) (block : BlockData) (before back : List (ℕ × InstrData))
-    → slice_get f.blocks b ≡ Some block → after_phis block.instrs ≡ before ++ back → (r : ℕ) (d : ℕ × InstrData) → IsAvailable f b (phis_of block.instrs ++ before) r → definition f r ≡ Some d → is_steady d.1 ≡ true
-    → (state : State) → IsReached (setting_of x names f) w f.blocks b before state → HoldsDefinition (setting_of x names f) w d.1 state
-definition_holds x names f w is_world orderly b block before back found splits r d available is_definition is_steady_d state reached =
-    let steady : Steady d = steady_of d is_steady_d in
+pure_is_no_phi : (i : InstrData) → is_pure i ≡ true → is_phi i ≡ false
+pure_is_no_phi i pure =
+    let third : ((is_erasable i && not (is_load (access_of i.op)) && not (is_phi_op i.op)) ≡ true) × (not (copies_physical i) ≡ true) =
+    and_parts (is_erasable i && not (is_load (access_of i.op)) && not (is_phi_op i.op)) (not (copies_physical i)) pure in
+    let fourth : ((is_erasable i && not (is_load (access_of i.op))) ≡ true) × (not (is_phi_op i.op) ≡ true) = and_parts (is_erasable i && not (is_load (access_of i.op))) (not (is_phi_op i.op)) third.0 in
+    joining_is i.flags i.op ∙ not-true (is_phi_op i.op) fourth.1
+
+-- in runs in which an instruction that fails a test is undefined: what the test says of the definition is known where it was passed
+pub passed_definition_holds : (x : ℕ) (names : List (List ℕ)) (f : FunctionData) (w : World) → IsWorld x w → (test : InstrData → Bool) → IsOrderly f → (b : ℕ) (block : BlockData) (before back : List (ℕ × InstrData))
+    → slice_get f.blocks b ≡ Some block → after_phis block.instrs ≡ before ++ back → (r : ℕ) (d : ℕ × InstrData) → IsAvailable f b (phis_of block.instrs ++ before) r → definition f r ≡ Some d → is_pure d.1 ≡ true
+    → is_terminator_op d.1.op ≡ false → (test d.1 ≡ true → is_steady d.1 ≡ true)
+    → (state : State) → IsReached (setting_of x names f) w (map (tested_block test) f.blocks) b (map (tested_pair test) before) state → HoldsDefinition (setting_of x names f) w d.1 state
+passed_definition_holds x names f w is_world test orderly b block before back found splits r d available is_definition pure no_terminator steady state reached =
     let g : Given f r available.extent d = record {
       orderly = orderly;
       contained = available.contained;
       definition = is_definition;
-      valued = computing_valued (meaning_of d.1.flags d.1.op) steady.computing;
+      no_phi = pure_is_no_phi d.1 pure;
+      no_terminator = no_terminator;
     } in
-    kept_where_reached (setting_of x names f) w f r available.extent available.contained (HasNone d) (HoldsDefinition (setting_of x names f) w d.1)
-    (definition_kept x names f w is_world r available.extent d g steady) b block found before back splits state reached available.holds
+    (kept_where_reached (setting_of x names f) w test f r available.extent available.contained (HasNone d) (IsPassed (setting_of x names f) w d)
+    (definition_kept x names f w is_world test r available.extent d g pure steady) b block found before back splits state reached available.holds).holds
+
+pub definition_holds : (x : ℕ) (names : List (List ℕ)) (f : FunctionData) (w : World) → IsWorld x w → IsOrderly f → (b : ℕ) (block : BlockData) (before back : List (ℕ × InstrData))
+    → slice_get f.blocks b ≡ Some block → after_phis block.instrs ≡ before ++ back → (r : ℕ) (d : ℕ × InstrData) → IsAvailable f b (phis_of block.instrs ++ before) r → definition f r ≡ Some d → is_steady d.1 ≡ true
+    → (state : State) → IsReached (setting_of x names f) w f.blocks b before state → HoldsDefinition (setting_of x names f) w d.1 state
+definition_holds x names f w is_world orderly b block before back found splits r d available is_definition steady state reached =
+    let own : Steady d = steady_of d steady in
+    passed_definition_holds x names f w is_world untested orderly b block before back found splits r d available is_definition own.pure
+    (valued_is_no_terminator d.1 (computing_valued (meaning_of d.1.flags d.1.op) own.computing)) (λ passes. steady)
+    state (untested_reached (setting_of x names f) w f.blocks b before state reached)
 
 -- ══ What a zero-extending load gives ══
 
@@ -297,20 +333,20 @@ bytes_kept s w is_world i state state' bytes made =
 still_below : (r bits : ℕ) (state state' : State) → state'.values r ≡ state.values r → HoldsBelow r bits state → HoldsBelow r bits state'
 still_below r bits state state' same holds = record { value = holds.value; held = same ∙ holds.held; below = holds.below }
 
-load_kept : (x : ℕ) (names : List (List ℕ)) (f : FunctionData) (w : World) → IsWorld x w → (r : ℕ) (extent : Extent) (d : ℕ × InstrData) (m : MemOp) → Given f r extent d → d.1.op ≡ op.GenericZeroExtendLoad → d.1.mem ≡ Some m
-    → Keeps (setting_of x names f) w f r extent BytesIn (HoldsBelow r (width_of x m.ty))
-load_kept x names f w is_world r extent d m g opcode memory = record {
+load_kept : (x : ℕ) (names : List (List ℕ)) (f : FunctionData) (w : World) → IsWorld x w → (test : InstrData → Bool) (r : ℕ) (extent : Extent) (d : ℕ × InstrData) (m : MemOp) → Given f r extent d → d.1.op ≡ op.GenericZeroExtendLoad → d.1.mem ≡ Some m
+    → Keeps (setting_of x names f) w test f r extent BytesIn (HoldsBelow r (width_of x m.ty))
+load_kept x names f w is_world test r extent d m g opcode memory = record {
   starts = is_world.memory;
-  phis = λ b block found from entered middle bytes joins.
+  phis = λ b block found front back splits from entered middle bytes joins.
       let own : IsDefinition f r d = inside_of f r extent d g in
       let other : list_any (defines r) (phis_of block.instrs) ≡ false =
-      no_phi_defines f g.orderly d own.inside g.valued r own.defined block.instrs (λ j there. in_function f.blocks b block found j there) in (
-        subst AreBytes (sym (joined_memory entered from (phis_of block.instrs) middle joins)) bytes,
+      no_phi_defines f g.orderly d own.inside g.no_phi r own.defined block.instrs (λ j there. in_function f.blocks b block found j there) in (
+        subst AreBytes (sym (joined_memory entered from front middle joins)) bytes,
         λ here holds available.
             let stays : Stayed r extent.origins here (phis_of block.instrs) = stayed r extent.origins here (phis_of block.instrs) other available in
-            still_below r (width_of x m.ty) entered middle (joined_keeps r entered from (phis_of block.instrs) middle other joins) (holds stays.before),
+            still_below r (width_of x m.ty) entered middle (joined_keeps r entered from front middle (none_of_front r front back (phis_of block.instrs) splits other) joins) (holds stays.before),
       );
-  step = λ b block found before i after splits state state' bytes step.
+  step = λ b block found before i after splits passes state state' bytes step.
       let s : Setting = setting_of x names f in
       let own : IsDefinition f r d = inside_of f r extent d g in
       let made : Ran s w i.1 state state' = ran s w i.1 state state' step in (
@@ -325,16 +361,25 @@ load_kept x names f w is_world r extent d m g opcode memory = record {
   leaves = λ b block found before i after splits c state state' step. leaves x names f w is_world r extent d g b block found before i after splits c state state' step;
 }
 
+pub passed_load_holds : (x : ℕ) (names : List (List ℕ)) (f : FunctionData) (w : World) → IsWorld x w → (test : InstrData → Bool) → IsOrderly f → (b : ℕ) (block : BlockData) (before back : List (ℕ × InstrData))
+    → slice_get f.blocks b ≡ Some block → after_phis block.instrs ≡ before ++ back → (r : ℕ) (d : ℕ × InstrData) → IsAvailable f b (phis_of block.instrs ++ before) r → definition f r ≡ Some d
+    → (m : MemOp) → d.1.op ≡ op.GenericZeroExtendLoad → d.1.mem ≡ Some m
+    → (state : State) → IsReached (setting_of x names f) w (map (tested_block test) f.blocks) b (map (tested_pair test) before) state → HoldsBelow r (width_of x m.ty) state
+passed_load_holds x names f w is_world test orderly b block before back found splits r d available is_definition m opcode memory state reached =
+    let g : Given f r available.extent d = record {
+      orderly = orderly;
+      contained = available.contained;
+      definition = is_definition;
+      no_phi = ap (λ o. is_joining (meaning_of d.1.flags o)) opcode;
+      no_terminator = ap is_terminator_op opcode;
+    } in
+    kept_where_reached (setting_of x names f) w test f r available.extent available.contained BytesIn (HoldsBelow r (width_of x m.ty))
+    (load_kept x names f w is_world test r available.extent d m g opcode memory) b block found before back splits state reached available.holds
+
 pub load_holds : (x : ℕ) (names : List (List ℕ)) (f : FunctionData) (w : World) → IsWorld x w → IsOrderly f → (b : ℕ) (block : BlockData) (before back : List (ℕ × InstrData))
     → slice_get f.blocks b ≡ Some block → after_phis block.instrs ≡ before ++ back → (r : ℕ) (d : ℕ × InstrData) → IsAvailable f b (phis_of block.instrs ++ before) r → definition f r ≡ Some d
     → (m : MemOp) → d.1.op ≡ op.GenericZeroExtendLoad → d.1.mem ≡ Some m
     → (state : State) → IsReached (setting_of x names f) w f.blocks b before state → HoldsBelow r (width_of x m.ty) state
 load_holds x names f w is_world orderly b block before back found splits r d available is_definition m opcode memory state reached =
-    let g : Given f r available.extent d = record {
-      orderly = orderly;
-      contained = available.contained;
-      definition = is_definition;
-      valued = ap (λ o. is_valued (meaning_of d.1.flags o)) opcode;
-    } in
-    kept_where_reached (setting_of x names f) w f r available.extent available.contained BytesIn (HoldsBelow r (width_of x m.ty))
-    (load_kept x names f w is_world r available.extent d m g opcode memory) b block found before back splits state reached available.holds
+    passed_load_holds x names f w is_world untested orderly b block before back found splits r d available is_definition m opcode memory
+    state (untested_reached (setting_of x names f) w f.blocks b before state reached)
