@@ -11,6 +11,7 @@ pub mod Sited
 pub mod Stepping
 pub mod Suited
 pub mod Telling
+pub mod Terminators
 pub mod Tested
 pub mod Trials
 pub mod Valid

@@ -1,16 +1,17 @@
--- What holds of an available register: what its definition gives of the present values of its operands.
+-- What holds of an available register at each moment of a run: what its definition gives of the present values of its operands.
 use Rattle.std.specs.Prelude.{◌≡◌, ℕ, ◌^◌, ◌<◌, Bool, true, false, ◌&&◌, ◌==◌, List, [], ◌∷◌, map, Some}
 use Rattle.std.specs.List.{list_all}
-use Rattle.gi_mir.specs.Data.{InstrData}
+use Rattle.gi_mir.specs.Data.{InstrData, FunctionData}
 use Rattle.gi_mir.specs.declared.operand.Operand.{Operand}
 use Rattle.gi_mir.specs.declared.operand.Operand.TheVariants as operand
 use Rattle.gi_meaning.specs.Act.{Act, Results}
 use Rattle.gi_meaning.specs.Argument.{Argument}
 use Rattle.gi_meaning.specs.Meaning.{Meaning, Copying, Generic, Machine, meaning_of}
-use Rattle.gi_meaning.specs.Runs.{Setting, arguments_of}
+use Rattle.gi_meaning.specs.Runs.{Setting, setting_of, arguments_of}
 use Rattle.gi_meaning.specs.State.{World, State, Outside}
 use Rattle.gi_valid.specs.Definitions.{is_pure}
-use Rattle.gi_meaning.specs.InRow.{results_in}
+use Rattle.gi_meaning.specs.InRow.{type_in, results_in, checked_pair, checked_blocks}
+use Rattle.gi_refine.specs.Reached.{IsReached}
 
 -- ══ Which definitions ══
 
@@ -30,6 +31,13 @@ is_fixed _ = true
 -- a pure definition that computes, and reads no physical register but x0, whose word never changes
 abbrev pub is_steady : InstrData → Bool
 is_steady i = is_pure i && is_computing (meaning_of i.flags i.op) && list_all is_fixed i.operands
+
+-- ══ When ══
+
+-- A run of the function has come behind the phis of a block and these instructions, in this state. It is undefined where it comes
+-- to an instruction that doesn't stand in its row, and so it has passed none.
+abbrev pub IsReachedInRuns : (x : ℕ) → (names : List (List ℕ)) → FunctionData → World → (b : ℕ) → (before : List (ℕ × InstrData)) → State → Type 0
+IsReachedInRuns x names f w b before state = IsReached (setting_of x names f) w (checked_blocks x f) b (map (checked_pair x (type_in x f)) before) state
 
 -- ══ What holds of them ══
 

@@ -7,4 +7,7 @@ mod laws;
 
 pub use examples::{a_loop_is_invalid, a_loop_runs, examples_are_invalid, examples_are_valid};
 pub use invalid::{Fault, Invalid};
-pub use laws::{definitions_hold, each_function_is_one, uses_are_available, valid_is_not_invalid};
+pub use laws::{
+    definitions_hold, each_function_is_one, unchecked_definitions_hold, uses_are_available,
+    valid_is_not_invalid,
+};
