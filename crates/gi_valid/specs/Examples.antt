@@ -6,7 +6,7 @@ use Rattle.gi_mir.specs.Data.{InstrData, BlockData, FunctionData, reg_of, no_fla
 use Rattle.gi_mir.specs.declared.opcode.Opcode.{Opcode}
 use Rattle.gi_mir.specs.declared.opcode.Opcode.TheVariants as op
 use Rattle.gi_mir.specs.declared.operand.Kind.{Kind}
-use Rattle.gi_mir.specs.declared.operand.Kind.TheVariants.{Generic}
+use Rattle.gi_mir.specs.declared.operand.Kind.TheVariants.{Generic, Class}
 use Rattle.gi_mir.specs.declared.operand.Operand.{Operand}
 use Rattle.gi_mir.specs.declared.operand.Operand.TheVariants.{Def, Use, Phys, PhysDef, ImplicitUse, ImplicitDef, Int, Block, Constant, Global, SavedMask}
 use Rattle.gi_mir.specs.declared.operand.SymbolFlag.TheVariants.{Call}
@@ -164,6 +164,21 @@ divides_first = one_block (10 ∷ 11 ∷ [])
 -- a return behind a return
 abbrev pub returns_twice : FunctionData
 returns_twice = one_block (10 ∷ []) (return_of 7 10 ∷ return_of 8 10 ∷ [])
+
+-- ══ Outside its row ══
+
+abbrev pub def_of_class : ℕ → Operand
+def_of_class r = Def (reg_of r) Class
+
+abbrev pub class_copy : ℕ × InstrData
+class_copy = on 7 op.Copy (def_of_class 0 ∷ Phys 10 ∷ [])
+
+abbrev pub class_sum : ℕ × InstrData
+class_sum = on 8 op.Add (def_of_class 1 ∷ use_of 0 ∷ use_of 0 ∷ [])
+
+-- the second sum reads $x10, where its row has virtual registers and $x0
+abbrev pub adds_x10 : FunctionData
+adds_x10 = one_block (10 ∷ []) (class_copy ∷ class_sum ∷ on 9 op.Add (def_of_class 2 ∷ use_of 1 ∷ Phys 10 ∷ []) ∷ return_of 10 10 ∷ [])
 
 -- ══ Sets, and a world ══
 

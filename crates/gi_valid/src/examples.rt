@@ -1,16 +1,19 @@
 //! Small functions, valid and invalid: the definitions are neither empty nor too wide.
 
-ghost use Rattle.std.specs.Prelude.{◌≡◌, ◌∷◌, [], ℕ, Some};
+ghost use Rattle.std.specs.Prelude.{◌≡◌, ◌∷◌, [], ℕ, Some, false, true};
 ghost use Rattle.gi_mir.specs.Data.{reg_of};
 ghost use Rattle.gi_mir.specs.declared.opcode.Opcode.TheVariants.{GenericLoad, GenericZeroExtendLoad};
 ghost use Rattle.gi_mir.specs.declared.operand.Operand.TheVariants.{ImplicitUse, Use};
+ghost use Rattle.gi_meaning.specs.InRow.{are_in_rows};
 ghost use Rattle.gi_meaning.specs.Runs.{setting_of};
 ghost use Rattle.gi_meaning.specs.State.{State};
 ghost use Rattle.gi_refine.specs.Reached.{IsReached};
 ghost use Rattle.gi_valid.specs.Available.{IsAvailable, IsExtent};
-ghost use Rattle.gi_valid.specs.Examples.{adds_a_byte, ahead_of_itself, defines_twice, divides_between, divides_first, extents_of_ahead, goes_nowhere, goes_on_behind, goes_round, joins_at_start, loads_a_pointer, loads_all, loop_phi, loop_sum, points_to_zero, returns_nothing_there, returns_twice, widens_a_constant, world_with};
+ghost use Rattle.gi_valid.specs.Definitions.{definition, is_pure};
+ghost use Rattle.gi_valid.specs.Examples.{adds_a_byte, adds_x10, ahead_of_itself, class_copy, class_sum, defines_twice, divides_between, divides_first, extents_of_ahead, goes_nowhere, goes_on_behind, goes_round, joins_at_start, loads_a_pointer, loads_all, loop_phi, loop_sum, points_to_zero, returns_nothing_there, returns_twice, widens_a_constant, world_with};
+ghost use Rattle.gi_valid.specs.Facts.{IsReachedInRuns};
 ghost use Rattle.gi_valid.specs.Faults.{fault_at, faults};
-ghost use Rattle.gi_valid.specs.Typing.{Typed};
+ghost use Rattle.gi_valid.specs.Typing.{Typed, Untyped};
 ghost use Rattle.gi_valid.specs.Valid.{IsInvalid, IsValid, of_lowest_line};
 ghost use Rattle.gi_valid.specs.declared.invalid.Invalid.TheVariants.{DoubleDefinition, NotAvailable, PhiEntries, PhysicalAcross, Terminator, TypeMismatch, UnknownBlock};
 
@@ -49,4 +52,14 @@ pub fn a_loop_is_invalid()
 pub fn a_loop_runs()
     ensures available { IsAvailable goes_round 1 (loop_phi ∷ loop_sum ∷ []) 4 }
     ensures reached { (state : State) × IsReached (setting_of 32 [] goes_round) (world_with 5) goes_round.blocks 1 (loop_sum ∷ []) state × (state.values 2 ≡ Some 5) × (state.values 1 ≡ Some 1) × (state.values 4 ≡ Some 6) }
+{}
+
+/// An addition that reads `$x10` is valid, but doesn't stand in its row. A run comes up to it, and there `%1`, which an addition in
+/// its row defines, is available and holds 10, twice 5.
+pub fn a_run_meets_a_failing_row()
+    ensures valid { IsValid 32 Untyped adds_x10 }
+    ensures outside { are_in_rows 32 adds_x10 ≡ false }
+    ensures available { IsAvailable adds_x10 0 (class_copy ∷ class_sum ∷ []) 1 }
+    ensures pure { (definition adds_x10 1 ≡ Some class_sum) × (is_pure class_sum.1 ≡ true) }
+    ensures reached { (state : State) × IsReachedInRuns 32 [] adds_x10 (world_with 5) 0 (class_copy ∷ class_sum ∷ []) state × (state.values 0 ≡ Some 5) × (state.values 1 ≡ Some 10) }
 {}

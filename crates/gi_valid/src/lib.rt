@@ -5,7 +5,10 @@ mod examples;
 mod invalid;
 mod laws;
 
-pub use examples::{a_loop_is_invalid, a_loop_runs, examples_are_invalid, examples_are_valid};
+pub use examples::{
+    a_loop_is_invalid, a_loop_runs, a_run_meets_a_failing_row, examples_are_invalid,
+    examples_are_valid,
+};
 pub use invalid::{Fault, Invalid};
 pub use laws::{
     definitions_hold, each_function_is_one, unchecked_definitions_hold, uses_are_available,
