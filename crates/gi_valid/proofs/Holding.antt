@@ -6,8 +6,8 @@ use Rattle.std.specs.List.{list_any, list_all}
 use Rattle.gi_llt.specs.Llt.{width_of}
 use Rattle.gi_mir.specs.Data.{InstrData, BlockData, FunctionData}
 use Rattle.gi_mir.specs.Edit.{all_instrs, is_def_of, defines, uses}
-use Rattle.gi_mir.specs.Formed.{is_def, is_physical_def, is_implicit_def}
-use Rattle.gi_mir.specs.Row.{access_of, is_call_op, is_phi_op, is_branch_op, is_terminator_op}
+use Rattle.gi_mir.specs.Formed.{is_physical_def, is_implicit_def}
+use Rattle.gi_mir.specs.Row.{is_branch_op, is_terminator_op}
 use Rattle.gi_mir.specs.declared.opcode.Opcode.TheVariants as op
 use Rattle.gi_mir.specs.declared.operand.MemOp.{MemOp}
 use Rattle.gi_mir.specs.declared.operand.Operand.{Operand}
@@ -19,12 +19,13 @@ use Rattle.gi_meaning.specs.Runs.{Setting, setting_of, written_places, width_of_
 use Rattle.gi_refine.specs.Reached.{IsReached}
 use Rattle.gi_refine.proofs.Targets.{step_target}
 use Rattle.gi_valid.specs.Available.{Extent, is_origin, defines_origin, at_once, IsExtent, IsAvailable}
-use Rattle.gi_valid.specs.Definitions.{defines_any_physical, is_erasable, is_load, copies_physical, is_pure, definition, uses_purely}
+use Rattle.gi_valid.specs.Definitions.{is_pure, definition, uses_purely}
 use Rattle.gi_valid.specs.Facts.{is_computing, is_fixed, is_steady, HoldsDefinition, HoldsBelow}
 use Rattle.gi_meaning.specs.InRow.{results_in}
 use Rattle.gi_valid.proofs.Answering.{is_leaving, act_fine, leaving_is, joining_is, branch_ends, computing_valued}
 use Rattle.gi_valid.proofs.Defining.{in_either, in_function, IsDefinition, definition_is, IsOrderly, no_phi_defines, no_terminator_defines, valued_is_no_terminator}
 use Rattle.gi_valid.proofs.Held.{computed_places, virtual_widths, put_held, held_on, acts_anywhere, joined_keeps, put_all_memory, joined_memory, put_one, defined_written, IsBelow, zeros_below}
+use Rattle.gi_valid.proofs.Pure.{pure_parts}
 use Rattle.gi_valid.proofs.Single.{IsIn, one_definition, results_once}
 use Rattle.gi_valid.proofs.Sited.{ends_behind, target_among, splits_whole}
 use Rattle.gi_valid.proofs.Stepping.{Ran, ran, Went, went, step_keeps, reads_same, read_there}
@@ -154,18 +155,11 @@ steady_of d h =
     let first : ((is_pure i && is_computing (meaning_of i.flags i.op)) ≡ true) × (list_all is_fixed i.operands ≡ true) =
     and_parts (is_pure i && is_computing (meaning_of i.flags i.op)) (list_all is_fixed i.operands) h in
     let second : (is_pure i ≡ true) × (is_computing (meaning_of i.flags i.op) ≡ true) = and_parts (is_pure i) (is_computing (meaning_of i.flags i.op)) first.0 in
-    let third : ((is_erasable i && not (is_load (access_of i.op)) && not (is_phi_op i.op)) ≡ true) × (not (copies_physical i) ≡ true) =
-    and_parts (is_erasable i && not (is_load (access_of i.op)) && not (is_phi_op i.op)) (not (copies_physical i)) second.0 in
-    let fourth : ((is_erasable i && not (is_load (access_of i.op))) ≡ true) × (not (is_phi_op i.op) ≡ true) = and_parts (is_erasable i && not (is_load (access_of i.op))) (not (is_phi_op i.op)) third.0 in
-    let fifth : (is_erasable i ≡ true) × (not (is_load (access_of i.op)) ≡ true) = and_parts (is_erasable i) (not (is_load (access_of i.op))) fourth.0 in
-    let sixth : ((list_any is_def i.operands && not (defines_any_physical i)) ≡ true) × (not (is_call_op i.op) ≡ true) =
-    and_parts (list_any is_def i.operands && not (defines_any_physical i)) (not (is_call_op i.op)) fifth.0 in
-    let seventh : (list_any is_def i.operands ≡ true) × (not (defines_any_physical i) ≡ true) = and_parts (list_any is_def i.operands) (not (defines_any_physical i)) sixth.0 in
     record {
       pure = second.0;
       computing = second.1;
       fixed = first.1;
-      virtual = (or_parts (list_any is_physical_def i.operands) (list_any is_implicit_def i.operands) (not-true (defines_any_physical i) seventh.1)).0;
+      virtual = (or_parts (list_any is_physical_def i.operands) (list_any is_implicit_def i.operands) (pure_parts i second.0).no_physical).0;
     }
 
 -- a register that its own definition uses has no value
@@ -268,13 +262,6 @@ definition_kept x names f w is_world test r extent d g pure steady = record {
   leaves = λ b block found before i after splits c state state' step. leaves x names f w is_world r extent d g b block found before i after splits c state state' step;
 }
 
-pure_is_no_phi : (i : InstrData) → is_pure i ≡ true → is_phi i ≡ false
-pure_is_no_phi i pure =
-    let third : ((is_erasable i && not (is_load (access_of i.op)) && not (is_phi_op i.op)) ≡ true) × (not (copies_physical i) ≡ true) =
-    and_parts (is_erasable i && not (is_load (access_of i.op)) && not (is_phi_op i.op)) (not (copies_physical i)) pure in
-    let fourth : ((is_erasable i && not (is_load (access_of i.op))) ≡ true) × (not (is_phi_op i.op) ≡ true) = and_parts (is_erasable i && not (is_load (access_of i.op))) (not (is_phi_op i.op)) third.0 in
-    joining_is i.flags i.op ∙ not-true (is_phi_op i.op) fourth.1
-
 -- in runs in which an instruction that fails a test is undefined: what the test says of the definition is known where it was passed
 pub passed_definition_holds : (x : ℕ) (names : List (List ℕ)) (f : FunctionData) (w : World) → IsWorld x w → (test : InstrData → Bool) → IsOrderly f → (b : ℕ) (block : BlockData) (before back : List (ℕ × InstrData))
     → slice_get f.blocks b ≡ Some block → after_phis block.instrs ≡ before ++ back → (r : ℕ) (d : ℕ × InstrData) → IsAvailable f b (phis_of block.instrs ++ before) r → definition f r ≡ Some d → is_pure d.1 ≡ true
@@ -285,7 +272,7 @@ passed_definition_holds x names f w is_world test orderly b block before back fo
       orderly = orderly;
       contained = available.contained;
       definition = is_definition;
-      no_phi = pure_is_no_phi d.1 pure;
+      no_phi = joining_is d.1.flags d.1.op ∙ (pure_parts d.1 pure).no_phi;
       no_terminator = no_terminator;
     } in
     (kept_where_reached (setting_of x names f) w test f r available.extent available.contained (HasNone d) (IsPassed (setting_of x names f) w d)

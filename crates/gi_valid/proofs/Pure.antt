@@ -1,12 +1,12 @@
 -- A pure definition that stands in its row computes, and reads no physical register but x0.
-use Rattle.std.proofs.Common.{◌≡◌, ℕ, Bool, true, false, not, ◌&&◌, ◌==◌, List, [], ◌∷◌, ◌++◌, map, Option, Some, None, ◌⊎◌, inl, inr, ⊎_elim, refl, sym, ap₂, subst}
+use Rattle.std.proofs.Common.{◌≡◌, ℕ, Bool, true, false, not, ◌&&◌, ◌==◌, List, [], ◌∷◌, ◌++◌, map, Option, Some, None, ◌⊎◌, inl, inr, ⊎_elim, refl, sym, ap₂, ◌∙◌, subst, true≢false}
 use Rattle.std.specs.List.{list_all, list_any}
-use Rattle.std.proofs.lemmas.Bool.{and_parts, not-true, or_parts}
+use Rattle.std.proofs.lemmas.Bool.{and_parts, false_from_ne_true, not-true, or_parts}
 use Rattle.gi_llt.specs.declared.Llt.{Llt}
 use Rattle.gi_mir.specs.Data.{InstrData, BlockData, FunctionData}
 use Rattle.gi_mir.specs.Edit.{all_instrs}
-use Rattle.gi_mir.specs.Formed.{is_def, is_physical}
-use Rattle.gi_mir.specs.Row.{access_of, is_call_op, is_phi_op, typing_of}
+use Rattle.gi_mir.specs.Formed.{is_def, is_formed, is_physical}
+use Rattle.gi_mir.specs.Row.{access_of, is_call_op, is_phi_op, is_terminator_op, typing_of}
 use Rattle.gi_mir.specs.Typings.{TypingData}
 use Rattle.gi_mir.specs.declared.opcode.Opcode.{Opcode}
 use Rattle.gi_mir.specs.declared.opcode.Opcode.TheVariants as op
@@ -15,9 +15,44 @@ use Rattle.gi_mir.specs.declared.operand.Operand.{Operand}
 use Rattle.gi_mir.specs.declared.operand.Operand.TheVariants as operand
 use Rattle.gi_meaning.specs.InRow.{type_in, results_in, sources_in, have_types, has_memory, may_read, has_beside, may_be_beside, is_operand_of, is_in_row, are_in_rows}
 use Rattle.gi_meaning.specs.Meaning.{meaning_of}
-use Rattle.gi_valid.specs.Definitions.{defines_any_physical, is_erasable, is_load, is_copy, copies_physical, is_pure}
+use Rattle.gi_valid.specs.Definitions.{defines_any_physical, is_load, is_copy, copies_physical, is_pure}
 use Rattle.gi_valid.specs.Facts.{is_computing, is_fixed, is_steady}
 use Rattle.gi_valid.proofs.Single.{IsIn}
+use Rattle.gi_valid.proofs.Terminators.{terminator_defines_none}
+
+-- ══ Its parts ══
+
+-- what the test of a pure instruction says
+pub record IsPure (i : InstrData) : Type 0 where
+  pub defines : list_any is_def i.operands ≡ true
+  pub no_physical : defines_any_physical i ≡ false
+  pub no_load : is_load (access_of i.op) ≡ false
+  pub no_phi : is_phi_op i.op ≡ false
+  pub no_copy : copies_physical i ≡ false
+
+pub pure_parts : (i : InstrData) → is_pure i ≡ true → IsPure i
+pure_parts i pure =
+    let defines : Bool = list_any is_def i.operands in
+    let no_physical : Bool = not (defines_any_physical i) in
+    let no_call : Bool = not (is_call_op i.op) in
+    let no_load : Bool = not (is_load (access_of i.op)) in
+    let no_phi : Bool = not (is_phi_op i.op) in
+    let a : ((((defines && no_physical) && no_call) && no_load) && no_phi ≡ true) × (not (copies_physical i) ≡ true) = and_parts ((((defines && no_physical) && no_call) && no_load) && no_phi) (not (copies_physical i)) pure in
+    let b : (((defines && no_physical) && no_call) && no_load ≡ true) × (no_phi ≡ true) = and_parts (((defines && no_physical) && no_call) && no_load) no_phi a.0 in
+    let c : ((defines && no_physical) && no_call ≡ true) × (no_load ≡ true) = and_parts ((defines && no_physical) && no_call) no_load b.0 in
+    let d : (defines && no_physical ≡ true) × (no_call ≡ true) = and_parts (defines && no_physical) no_call c.0 in
+    let e : (defines ≡ true) × (no_physical ≡ true) = and_parts defines no_physical d.0 in
+    record {
+      defines = e.0;
+      no_physical = not-true (defines_any_physical i) e.1;
+      no_load = not-true (is_load (access_of i.op)) c.1;
+      no_phi = not-true (is_phi_op i.op) b.1;
+      no_copy = not-true (copies_physical i) a.1;
+    }
+
+-- a formed one is no terminator
+pub pure_is_no_terminator : (i : InstrData) → is_pure i ≡ true → is_formed i ≡ true → is_terminator_op i.op ≡ false
+pure_is_no_terminator i pure formed = false_from_ne_true (is_terminator_op i.op) (λ ends. true≢false (sym (pure_parts i pure).defines ∙ terminator_defines_none i formed ends))
 
 -- ══ It computes ══
 
@@ -140,15 +175,11 @@ steady_in_row x type i pure row =
     and_parts (have_types x i.op (typing_of i.op) rs ss && has_memory x (access_of i.op) i.op (rs ++ ss) i.mem) (list_all (is_operand_of x i.op (rs ++ ss)) i.operands) row in
     let types : have_types x i.op (typing_of i.op) rs ss ≡ true =
     (and_parts (have_types x i.op (typing_of i.op) rs ss) (has_memory x (access_of i.op) i.op (rs ++ ss) i.mem) first.0).0 in
-    let third = and_parts (is_erasable i && not (is_load (access_of i.op)) && not (is_phi_op i.op)) (not (copies_physical i)) pure in
-    let fourth = and_parts (is_erasable i && not (is_load (access_of i.op))) (not (is_phi_op i.op)) third.0 in
-    let fifth = and_parts (is_erasable i) (not (is_load (access_of i.op))) fourth.0 in
-    let sixth = and_parts (list_any is_def i.operands && not (defines_any_physical i)) (not (is_call_op i.op)) fifth.0 in
-    let seventh : (list_any is_def i.operands ≡ true) × (not (defines_any_physical i) ≡ true) = and_parts (list_any is_def i.operands) (not (defines_any_physical i)) sixth.0 in
-    let some : rs ≡ [] → ⊥ = some_result type i.operands seventh.0 in
+    let parts : IsPure i = pure_parts i pure in
+    let some : rs ≡ [] → ⊥ = some_result type i.operands parts.defines in
     steady_from (is_pure i) (is_computing (meaning_of i.flags i.op)) (list_all is_fixed i.operands) pure
-    (computing_in_row x i.flags i.op rs ss some (not-true (is_load (access_of i.op)) fifth.1) (not-true (is_phi_op i.op) fourth.1) types)
-    (fixed_operands x i.op (rs ++ ss) i.operands (none_beside x i.op rs ss some types) (either_copies (is_copy i.op) (list_any is_physical i.operands) (not-true (copies_physical i) third.1)) first.1)
+    (computing_in_row x i.flags i.op rs ss some parts.no_load parts.no_phi types)
+    (fixed_operands x i.op (rs ++ ss) i.operands (none_beside x i.op rs ss some types) (either_copies (is_copy i.op) (list_any is_physical i.operands) parts.no_copy) first.1)
 
 -- ══ In a function ══
 

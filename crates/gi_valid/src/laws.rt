@@ -1,12 +1,10 @@
 //! The laws of valid functions.
 
-ghost use Rattle.std.specs.Prelude.{◌≡◌, ◌++◌, ◌∷◌, ◌⊎◌, ℕ, List, Some, false, true, slice_get};
-ghost use Rattle.std.specs.List.{list_any};
+ghost use Rattle.std.specs.Prelude.{◌≡◌, ◌++◌, ◌∷◌, ◌⊎◌, ℕ, List, Some, true, slice_get};
 ghost use Rattle.gi_llt.specs.Llt.{width_of};
 ghost use Rattle.gi_mir.specs.Data.{BlockData, FunctionData, InstrData};
 ghost use Rattle.gi_mir.specs.Edit.{uses};
-ghost use Rattle.gi_mir.specs.Formed.{is_def, is_formed};
-ghost use Rattle.gi_mir.specs.Row.{is_terminator_op};
+ghost use Rattle.gi_mir.specs.Formed.{is_formed};
 ghost use Rattle.gi_mir.specs.declared.opcode.Opcode.TheVariants.{GenericZeroExtendLoad};
 ghost use Rattle.gi_mir.specs.declared.operand.MemOp.{MemOp};
 ghost use Rattle.gi_meaning.specs.InRow.{are_in_rows};
@@ -23,18 +21,17 @@ ghost use Rattle.gi_valid.specs.Valid.{IsInvalid, IsValid};
 /// In every run of a valid function, at every moment: each available register with a pure definition holds what that
 /// definition may give of the present values of its operands, and one that a zero-extending load of so many bits defines
 /// holds a value of so many bits. The moment is behind the phis of a block and some of its other instructions. A run is
-/// undefined where it comes to an instruction that doesn't stand in its row. A formed terminator is no definition.
+/// undefined where it comes to an instruction that doesn't stand in its row. The definition is formed, as each instruction in a text is.
 pub fn definitions_hold()
     ensures computed { (x : ℕ) (phase : Phase) (names : List (List ℕ)) (f : FunctionData) (w : World) → IsWorld x w → IsValid x phase f
         → (b : ℕ) (block : BlockData) (before back : List (ℕ × InstrData)) → slice_get f.blocks b ≡ Some block → after_phis block.instrs ≡ before ++ back
-        → (r : ℕ) (d : ℕ × InstrData) → IsAvailable f b (phis_of block.instrs ++ before) r → definition f r ≡ Some d → is_pure d.1 ≡ true → is_terminator_op d.1.op ≡ false
+        → (r : ℕ) (d : ℕ × InstrData) → IsAvailable f b (phis_of block.instrs ++ before) r → definition f r ≡ Some d → is_pure d.1 ≡ true → is_formed d.1 ≡ true
         → (state : State) → IsReachedInRuns x names f w b before state → HoldsDefinition (setting_of x names f) w d.1 state }
     ensures extended { (x : ℕ) (phase : Phase) (names : List (List ℕ)) (f : FunctionData) (w : World) → IsWorld x w → IsValid x phase f
         → (b : ℕ) (block : BlockData) (before back : List (ℕ × InstrData)) → slice_get f.blocks b ≡ Some block → after_phis block.instrs ≡ before ++ back
         → (r : ℕ) (d : ℕ × InstrData) → IsAvailable f b (phis_of block.instrs ++ before) r → definition f r ≡ Some d
         → (m : MemOp) → d.1.op ≡ GenericZeroExtendLoad → d.1.mem ≡ Some m
         → (state : State) → IsReachedInRuns x names f w b before state → HoldsBelow r (width_of x m.ty) state }
-    ensures terminators { (i : InstrData) → is_formed i ≡ true → is_terminator_op i.op ≡ true → list_any is_def i.operands ≡ false }
 {}
 
 /// The same in runs in which rows aren't looked at, the first fact where the function's instructions stand in their rows.
