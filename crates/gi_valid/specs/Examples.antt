@@ -180,6 +180,19 @@ class_sum = on 8 op.Add (def_of_class 1 ∷ use_of 0 ∷ use_of 0 ∷ [])
 abbrev pub adds_x10 : FunctionData
 adds_x10 = one_block (10 ∷ []) (class_copy ∷ class_sum ∷ on 9 op.Add (def_of_class 2 ∷ use_of 1 ∷ Phys 10 ∷ []) ∷ return_of 10 10 ∷ [])
 
+-- ══ A terminator that isn't formed ══
+
+-- the second branch defines %2, as no row of a branch has it, and the first one may leave the block before
+abbrev pub jump_with_result : ℕ × InstrData
+jump_with_result = on 10 op.GenericBranch (def_of 2 32 ∷ Block 2 ∷ [])
+
+abbrev pub jumps_with_result : FunctionData
+jumps_with_result = function_of
+    (block_of (1 ∷ 2 ∷ []) (10 ∷ []) (copy_in 7 0 10 ∷ constant 8 1 1 1 ∷ on 9 op.GenericBranchConditional (use_of 1 ∷ Block 1 ∷ []) ∷ jump_with_result ∷ [])
+    ∷ block_of [] [] (on 11 op.PseudoReturn [] ∷ [])
+    ∷ block_of [] [] (on 12 op.PseudoReturn [] ∷ [])
+    ∷ [])
+
 -- ══ Sets, and a world ══
 
 -- each of some registers is computed from each of others, and those of a list are available at the start of block 1

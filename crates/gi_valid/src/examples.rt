@@ -1,7 +1,8 @@
 //! Small functions, valid and invalid: the definitions are neither empty nor too wide.
 
-ghost use Rattle.std.specs.Prelude.{◌≡◌, ◌∷◌, [], ℕ, Some, false, true};
+ghost use Rattle.std.specs.Prelude.{◌≡◌, ◌∷◌, [], ℕ, None, Some, false, true};
 ghost use Rattle.gi_mir.specs.Data.{reg_of};
+ghost use Rattle.gi_mir.specs.Formed.{is_formed};
 ghost use Rattle.gi_mir.specs.declared.opcode.Opcode.TheVariants.{GenericLoad, GenericZeroExtendLoad};
 ghost use Rattle.gi_mir.specs.declared.operand.Operand.TheVariants.{ImplicitUse, Use};
 ghost use Rattle.gi_meaning.specs.InRow.{are_in_rows};
@@ -10,7 +11,7 @@ ghost use Rattle.gi_meaning.specs.State.{State};
 ghost use Rattle.gi_refine.specs.Reached.{IsReached};
 ghost use Rattle.gi_valid.specs.Available.{IsAvailable, IsExtent};
 ghost use Rattle.gi_valid.specs.Definitions.{definition, is_pure};
-ghost use Rattle.gi_valid.specs.Examples.{adds_a_byte, adds_x10, ahead_of_itself, class_copy, class_sum, defines_twice, divides_between, divides_first, extents_of_ahead, goes_nowhere, goes_on_behind, goes_round, joins_at_start, loads_a_pointer, loads_all, loop_phi, loop_sum, points_to_zero, returns_nothing_there, returns_twice, widens_a_constant, world_with};
+ghost use Rattle.gi_valid.specs.Examples.{adds_a_byte, adds_x10, ahead_of_itself, class_copy, class_sum, defines_twice, divides_between, divides_first, extents_of_ahead, goes_nowhere, goes_on_behind, goes_round, joins_at_start, jump_with_result, jumps_with_result, loads_a_pointer, loads_all, loop_phi, loop_sum, points_to_zero, returns_nothing_there, returns_twice, widens_a_constant, world_with};
 ghost use Rattle.gi_valid.specs.Facts.{IsReachedInRuns};
 ghost use Rattle.gi_valid.specs.Faults.{fault_at, faults};
 ghost use Rattle.gi_valid.specs.Typing.{Typed, Untyped};
@@ -62,4 +63,13 @@ pub fn a_run_meets_a_failing_row()
     ensures available { IsAvailable adds_x10 0 (class_copy ∷ class_sum ∷ []) 1 }
     ensures pure { (definition adds_x10 1 ≡ Some class_sum) × (is_pure class_sum.1 ≡ true) }
     ensures reached { (state : State) × IsReachedInRuns 32 [] adds_x10 (world_with 5) 0 (class_copy ∷ class_sum ∷ []) state × (state.values 0 ≡ Some 5) × (state.values 1 ≡ Some 10) }
+{}
+
+/// A law of pure definitions has to ask that they are formed: a branch that defines `%2` is valid and pure, a run leaves the block
+/// before it, and in the next one `%2` is available and has no value.
+pub fn a_terminator_that_defines_is_not_passed()
+    ensures valid { IsValid 32 Typed jumps_with_result }
+    ensures pure { (definition jumps_with_result 2 ≡ Some jump_with_result) × (is_pure jump_with_result.1 ≡ true) × (is_formed jump_with_result.1 ≡ false) }
+    ensures available { IsAvailable jumps_with_result 1 [] 2 }
+    ensures reached { (state : State) × IsReachedInRuns 32 [] jumps_with_result (world_with 5) 1 [] state × (state.values 2 ≡ None) }
 {}

@@ -6,8 +6,8 @@ mod invalid;
 mod laws;
 
 pub use examples::{
-    a_loop_is_invalid, a_loop_runs, a_run_meets_a_failing_row, examples_are_invalid,
-    examples_are_valid,
+    a_loop_is_invalid, a_loop_runs, a_run_meets_a_failing_row,
+    a_terminator_that_defines_is_not_passed, examples_are_invalid, examples_are_valid,
 };
 pub use invalid::{Fault, Invalid};
 pub use laws::{
