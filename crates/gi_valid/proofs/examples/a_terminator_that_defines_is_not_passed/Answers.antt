@@ -1,4 +1,4 @@
-use Rattle.std.proofs.Common.{◌≡◌, ℕ, zero, suc, true, [], ◌∷◌, None, Some, refl, sym, subst}
+use Rattle.std.proofs.Common.{◌≡◌, ℕ, zero, suc, true, [], ◌∷◌, ◌==◌, None, Some, refl, sym, subst}
 use Rattle.std.proofs.lemmas.Bool.{and_parts, eqb-true}
 use Rattle.gi_mir.specs.Formed.{is_formed}
 use Rattle.gi_mir.specs.Places.{body_at}
@@ -6,7 +6,7 @@ use Rattle.gi_meaning.specs.Act.{Results, Leaves}
 use Rattle.gi_meaning.specs.InRow.{checked_blocks}
 use Rattle.gi_meaning.specs.Runs.{On, Left, is_among}
 use Rattle.gi_meaning.specs.State.{State, outside_of, start, Virtual, put}
-use Rattle.gi_valid.specs.Available.{IsExtent, IsReachedBlock, at_end, successors_of}
+use Rattle.gi_valid.specs.Available.{IsReachedBlock, at_end, successors_of}
 use Rattle.gi_valid.specs.Examples.{extents_of, jumps_with_result, world_with}
 use Rattle.gi_valid.proofs.Trials.{alone_contained, computed_within}
 use Rattle.gi_valid.proofs.examples.a_terminator_that_defines_is_not_passed.Goals as goal
