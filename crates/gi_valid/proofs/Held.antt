@@ -24,7 +24,7 @@ use Rattle.gi_refine.proofs.SizedAnswers.{loaded_small}
 use Rattle.gi_valid.specs.Facts.{is_computing, AreHeld}
 use Rattle.gi_meaning.specs.InRow.{results_in}
 use Rattle.gi_valid.proofs.Single.{often}
-use Rattle.gi_valid.proofs.Stepping.{put_all_keeps, written_not}
+use Rattle.gi_valid.proofs.Stepping.{places_not, put_all_keeps}
 
 -- ══ Written places ══
 
@@ -113,9 +113,6 @@ acts_anywhere x w _ c mem widths arguments o p rs h any = cc
 put_value_keeps : (q : ℕ) (made : Option State) (ps : List Place) (v : Option ℕ) (middle : State) → writes q ps ≡ false → put_value made ps v ≡ Some middle → (state : State) × (made ≡ Some state) × (middle.values q ≡ state.values q)
 put_value_keeps q (Some state) (p ∷ []) (Some v) middle h puts = (state, refl, put_all_keeps q state (p ∷ []) (v ∷ []) middle h puts)
 put_value_keeps q _ _ _ middle h puts = cc
-
-places_not : (q : ℕ) (os : List Operand) → list_any (is_def_of q) os ≡ false → writes q (places_of os) ≡ false
-places_not q os h = written_not q Copying os h
 
 pub joined_keeps : (q : ℕ) (entered : State) (from : Option ℕ) (is : List (ℕ × InstrData)) (middle : State) → list_any (defines q) is ≡ false → joined entered from is ≡ Some middle → middle.values q ≡ entered.values q
 joined_keeps q entered from [] middle h joins = ap (λ (k : State). k.values q) (sym (same_Some entered middle joins))

@@ -108,7 +108,7 @@ put_all_keeps q state (p ∷ ps) [] state' h puts = absurd (none-some state' put
 put_all_keeps q state (p ∷ ps) (v ∷ vs) state' h puts =
     put_all_keeps q (put state p v) ps vs state' (or_parts (is_virtual q p) (writes q ps) h).1 puts ∙ put_other q v state p (or_parts (is_virtual q p) (writes q ps) h).0
 
-places_not : (q : ℕ) (os : List Operand) → list_any (is_def_of q) os ≡ false → writes q (places_of os) ≡ false
+pub places_not : (q : ℕ) (os : List Operand) → list_any (is_def_of q) os ≡ false → writes q (places_of os) ≡ false
 places_not q [] h = refl
 places_not q (operand.Def r kind ∷ os) h =
     let each : ((r.0 == q) ≡ false) × (list_any (is_def_of q) os ≡ false) = or_parts (r.0 == q) (list_any (is_def_of q) os) h in

@@ -10,7 +10,8 @@ use Rattle.gi_mir.specs.declared.operand.Operand.TheVariants as operand
 use Rattle.gi_meaning.specs.Runs.{is_among}
 use Rattle.gi_valid.specs.Available.{successors_of, IsReachedBlock, at_end, IsExtent}
 use Rattle.gi_valid.specs.Definitions.{is_pure, definition, uses_purely, IsComputedOver, IsComputedFrom}
-use Rattle.gi_valid.specs.Examples.{extents_of}
+use Rattle.gi_meaning.specs.State.{State, start, Virtual, put}
+use Rattle.gi_valid.specs.Examples.{extents_of, world_with}
 use Rattle.gi_meaning.specs.InRow.{results_in, sources_in}
 use Rattle.gi_valid.specs.Valid.{IsGreatest}
 
@@ -146,3 +147,13 @@ loop_contained computed origins f keep first second others ends r = record {
     from zero b among own = at_first own
     from (suc zero) b among own = at_second own
     from (suc (suc a)) b among own = absurd (true≢false (sym among ∙ ap (is_among b) (others a)))
+
+-- ══ States of runs in which x10 is 5 ══
+
+-- behind the copy of x10 to %0
+abbrev pub copied : State
+copied = put (start (world_with 5)) (Virtual 0) 5
+
+-- behind the constant 1 in %1
+abbrev pub copied_and_set : State
+copied_and_set = put copied (Virtual 1) 1

@@ -5,13 +5,13 @@ use Rattle.gi_llt.specs.declared.Llt.TheVariants.{Scalar, Pointer}
 use Rattle.gi_mir.specs.Data.{InstrData, BlockData, FunctionData, reg_of, no_flags}
 use Rattle.gi_mir.specs.declared.opcode.Opcode.{Opcode}
 use Rattle.gi_mir.specs.declared.opcode.Opcode.TheVariants as op
-use Rattle.gi_mir.specs.declared.operand.Kind.{Kind}
 use Rattle.gi_mir.specs.declared.operand.Kind.TheVariants.{Generic, Class}
 use Rattle.gi_mir.specs.declared.operand.Operand.{Operand}
 use Rattle.gi_mir.specs.declared.operand.Operand.TheVariants.{Def, Use, Phys, PhysDef, ImplicitUse, ImplicitDef, Int, Block, Constant, Global, SavedMask}
 use Rattle.gi_mir.specs.declared.operand.SymbolFlag.TheVariants.{Call}
 use Rattle.gi_meaning.specs.Runs.{is_among}
 use Rattle.gi_meaning.specs.State.{World}
+use Rattle.gi_refine.specs.Examples.{bits}
 use Rattle.gi_valid.specs.Available.{Extent}
 
 -- ══ Making functions ══
@@ -28,9 +28,6 @@ function_of blocks = record { name = 0; legalized = false; banked = false; selec
 
 abbrev pub one_block : (liveins : List ℕ) → List (ℕ × InstrData) → FunctionData
 one_block liveins instrs = function_of (block_of [] liveins instrs ∷ [])
-
-abbrev pub bits : ℕ → Kind
-bits n = Generic (Scalar n)
 
 abbrev pub use_of : ℕ → Operand
 use_of r = Use (reg_of r)

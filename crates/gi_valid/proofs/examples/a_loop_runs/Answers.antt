@@ -4,7 +4,7 @@ use Rattle.gi_meaning.specs.Act.{Results, Leaves}
 use Rattle.gi_meaning.specs.Runs.{On, Left}
 use Rattle.gi_meaning.specs.State.{State, outside_of, start, Virtual, put}
 use Rattle.gi_valid.specs.Examples.{extents_of_round, goes_round, world_with}
-use Rattle.gi_valid.proofs.Trials.{loop_contained}
+use Rattle.gi_valid.proofs.Trials.{copied, copied_and_set, loop_contained}
 use Rattle.gi_valid.proofs.examples.a_loop_runs.Goals as goal
 
 pub returns-clause-available : goal.returns-clause-available
@@ -14,15 +14,9 @@ returns-clause-available c = record {
   holds = refl;
 }
 
--- the states behind the copy, the constant, the phi and the sum
-abbrev copied : State
-copied = put (start (world_with 5)) (Virtual 0) 5
-
-abbrev set : State
-set = put copied (Virtual 1) 1
-
+-- the states behind the phi and the sum
 abbrev joined_first : State
-joined_first = put set (Virtual 2) 5
+joined_first = put copied_and_set (Virtual 2) 5
 
 abbrev summed : State
 summed = put joined_first (Virtual 4) 6
@@ -36,7 +30,7 @@ returns-clause-reached c = (
     enters = record {
       entries = 1;
       from = Some 0;
-      entered = set;
+      entered = copied_and_set;
       arrives = (
         None,
         0,
@@ -46,14 +40,14 @@ returns-clause-reached c = (
           block = body_at goes_round.blocks 0;
           middle = start (world_with 5);
           joins = record { here = refl; phis = refl };
-          progress = Left 1 set;
+          progress = Left 1 copied_and_set;
           body = (
             On copied,
             (Results (5 ∷ []) (outside_of (start (world_with 5))), (5 ∷ [], refl, refl), refl),
             (
-              On set,
+              On copied_and_set,
               (Results (1 ∷ []) (outside_of copied), (1 ∷ [], refl, refl), refl),
-              (Left 1 set, (Leaves 1, refl, refl), refl),
+              (Left 1 copied_and_set, (Leaves 1, refl, refl), refl),
             ),
           );
           goes = (refl, refl);

@@ -6,7 +6,7 @@ use Rattle.gi_meaning.specs.InRow.{checked_blocks}
 use Rattle.gi_meaning.specs.Runs.{On}
 use Rattle.gi_meaning.specs.State.{State, outside_of, start, Virtual, put}
 use Rattle.gi_valid.specs.Examples.{adds_x10, extents_of, world_with}
-use Rattle.gi_valid.proofs.Trials.{alone_contained}
+use Rattle.gi_valid.proofs.Trials.{alone_contained, copied}
 use Rattle.gi_valid.proofs.examples.a_run_meets_a_failing_row.Goals as goal
 
 pub returns-clause-valid : goal.returns-clause-valid
@@ -29,10 +29,7 @@ returns-clause-available c = record {
 pub returns-clause-pure : goal.returns-clause-pure
 returns-clause-pure c = (refl, refl)
 
--- the states behind the copy and the sum
-abbrev copied : State
-copied = put (start (world_with 5)) (Virtual 0) 5
-
+-- the state behind the sum
 abbrev summed : State
 summed = put copied (Virtual 1) 10
 

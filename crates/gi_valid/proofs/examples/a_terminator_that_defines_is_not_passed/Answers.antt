@@ -5,10 +5,10 @@ use Rattle.gi_mir.specs.Places.{body_at}
 use Rattle.gi_meaning.specs.Act.{Results, Leaves}
 use Rattle.gi_meaning.specs.InRow.{checked_blocks}
 use Rattle.gi_meaning.specs.Runs.{On, Left, is_among}
-use Rattle.gi_meaning.specs.State.{State, outside_of, start, Virtual, put}
+use Rattle.gi_meaning.specs.State.{outside_of, start}
 use Rattle.gi_valid.specs.Available.{IsReachedBlock, at_end, successors_of}
 use Rattle.gi_valid.specs.Examples.{extents_of, jumps_with_result, world_with}
-use Rattle.gi_valid.proofs.Trials.{alone_contained, computed_within}
+use Rattle.gi_valid.proofs.Trials.{alone_contained, computed_within, copied, copied_and_set}
 use Rattle.gi_valid.proofs.examples.a_terminator_that_defines_is_not_passed.Goals as goal
 
 pub returns-clause-valid : goal.returns-clause-valid
@@ -40,23 +40,16 @@ returns-clause-available c = record {
   holds = refl;
 }
 
--- the states behind the copy and the condition
-abbrev copied : State
-copied = put (start (world_with 5)) (Virtual 0) 5
-
-abbrev set : State
-set = put copied (Virtual 1) 1
-
 pub returns-clause-reached : goal.returns-clause-reached
 returns-clause-reached c = (
-  set,
+  copied_and_set,
   record {
     block = body_at (checked_blocks 32 jumps_with_result) 1;
-    middle = set;
+    middle = copied_and_set;
     enters = record {
       entries = 1;
       from = Some 0;
-      entered = set;
+      entered = copied_and_set;
       arrives = (
         None,
         0,
@@ -66,14 +59,14 @@ returns-clause-reached c = (
           block = body_at (checked_blocks 32 jumps_with_result) 0;
           middle = start (world_with 5);
           joins = record { here = refl; phis = refl };
-          progress = Left 1 set;
+          progress = Left 1 copied_and_set;
           body = (
             On copied,
             (Results (5 ∷ []) (outside_of (start (world_with 5))), (5 ∷ [], refl, refl), refl),
             (
-              On set,
+              On copied_and_set,
               (Results (1 ∷ []) (outside_of copied), (1 ∷ [], refl, refl), refl),
-              (Left 1 set, (Leaves 1, refl, refl), refl),
+              (Left 1 copied_and_set, (Leaves 1, refl, refl), refl),
             ),
           );
           goes = (refl, refl);
