@@ -78,7 +78,7 @@ no_terminator_defines f orderly d inside plain q defined (i ∷ is) there ends =
     (not_defined f orderly d inside q defined (λ k. is_terminator_op k.op) plain i (there i (inl refl)) each.0)
     (no_terminator_defines f orderly d inside plain q defined is (λ j later. there j (inr later)) each.1)
 
-second_fails : (a b : Bool) → (a && b) ≡ false → a ≡ true → b ≡ false
+pub second_fails : (a b : Bool) → (a && b) ≡ false → a ≡ true → b ≡ false
 second_fails a b none h = false_from_ne_true b (λ l. true≢false (sym (and_from a b h l) ∙ none))
 
 -- what writes results is neither

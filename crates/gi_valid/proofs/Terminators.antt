@@ -13,6 +13,7 @@ use Rattle.gi_mir.specs.declared.operand.Operand.{Operand}
 use Rattle.gi_mir.specs.declared.operand.Operand.TheVariants as operand
 use Rattle.gi_mir.specs.declared.row.Form.{Form}
 use Rattle.gi_mir.specs.declared.row.Form.TheVariants as form
+use Rattle.gi_valid.proofs.Defining.{second_fails}
 
 -- ══ Forms that no definition has ══
 
@@ -71,22 +72,13 @@ none_in_rows (fs ∷ rows) os h fit =
 
 -- ══ Terminators ══
 
-rows_free : (o : Opcode) → is_terminator_op o ≡ true → list_any (list_any is_def_form) (rows_of o) ≡ false
-rows_free op.PseudoReturn h = refl
-rows_free op.GenericBranch h = refl
-rows_free op.GenericBranchConditional h = refl
-rows_free op.BranchEqual h = refl
-rows_free op.BranchNotEqual h = refl
-rows_free op.BranchLess h = refl
-rows_free op.BranchGreaterEqual h = refl
-rows_free op.BranchLessUnsigned h = refl
-rows_free op.BranchGreaterEqualUnsigned h = refl
-rows_free op.PseudoBranch h = refl
-rows_free _ h = cc
+rows_free : (o : Opcode) → (is_terminator_op o && list_any (list_any is_def_form) (rows_of o)) ≡ false
+rows_free op.Copy = refl
+rows_free _ = refl
 
 pub terminator_defines_none : (i : InstrData) → is_formed i ≡ true → is_terminator_op i.op ≡ true → list_any is_def i.operands ≡ false
 unfolding is_formed
 terminator_defines_none i formed ends =
     let row : Bool = fits_one_of (rows_of i.op) i.operands in
     let access : Bool = has_access (access_of i.op) i.mem in
-    none_in_rows (rows_of i.op) i.operands (rows_free i.op ends) (and_parts row access (and_parts (row && access) (list_all is_in_range i.operands) formed).0).0
+    none_in_rows (rows_of i.op) i.operands (second_fails (is_terminator_op i.op) (list_any (list_any is_def_form) (rows_of i.op)) (rows_free i.op) ends) (and_parts row access (and_parts (row && access) (list_all is_in_range i.operands) formed).0).0
