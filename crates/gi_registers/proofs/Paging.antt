@@ -7,7 +7,7 @@ use Rattle.std.proofs.lemmas.List.{get_or-set_same, get_or-set_other, length-app
 use Rattle.std.proofs.lemmas.List.Folds.{position_or_len_push}
 use Rattle.gi_mir.proofs.Places.{position_or_len-bound}
 use Rattle.gi_mir.specs.Numbering.{with_register}
-use Rattle.gi_registers.specs.Pages.{held, above, IsPaged, IsPageAlike, AreAlike, IsWritten}
+use Rattle.gi_registers.specs.Pages.{number_at, one_above, IsPaged, IsPageAlike, AreAlike, IsWritten}
 
 zeros : (m k : ℕ) → get_or {A = ℕ} (replicate m 0) k 0 ≡ 0
 zeros zero k = refl
@@ -38,16 +38,16 @@ with_empty_page (x ∷ xs) (suc k) = with_empty_page xs k
 pub grown : (old pages : List (List ℕ)) → AreAlike old pages → AreAlike old (pages ++ [] ∷ [])
 grown old pages h = record { alike = λ k. ap (λ page. get_or page (k % 256) 0) (with_empty_page pages (k / 256)) ∙ h.alike k }
 
-on_page : (pages : List (List ℕ)) (at : ℕ) (page : List ℕ) (k : ℕ) → at < length pages → k / 256 ≡ at → held (set pages at page) k ≡ get_or page (k % 256) 0
+on_page : (pages : List (List ℕ)) (at : ℕ) (page : List ℕ) (k : ℕ) → at < length pages → k / 256 ≡ at → number_at (set pages at page) k ≡ get_or page (k % 256) 0
 on_page pages at page k h e = ap (λ p. get_or p (k % 256) 0) (ap (λ i. get_or (set pages at page) i []) e ∙ get_or-set_same pages at page [] h)
 
-off_page : (pages : List (List ℕ)) (at : ℕ) (page : List ℕ) (k : ℕ) → k / 256 ≢ at → held (set pages at page) k ≡ held pages k
+off_page : (pages : List (List ℕ)) (at : ℕ) (page : List ℕ) (k : ℕ) → k / 256 ≢ at → number_at (set pages at page) k ≡ number_at pages k
 off_page pages at page k h = ap (λ p. get_or p (k % 256) 0) (get_or-set_other pages at (k / 256) page [] h)
 
 pub unwritten : (old pages : List (List ℕ)) (at : ℕ) (page : List ℕ) → AreAlike old pages → at < length pages → IsPageAlike (get_or pages at []) page → AreAlike old (set pages at page)
 unwritten old pages at page alike within same = record { alike = λ k. by k (nat_eq (k / 256) at) refl }
   where
-    by : (k : ℕ) (b : Bool) → nat_eq (k / 256) at ≡ b → held (set pages at page) k ≡ held old k
+    by : (k : ℕ) (b : Bool) → nat_eq (k / 256) at ≡ b → number_at (set pages at page) k ≡ number_at old k
     by k true e = let here = eqb-true (k / 256) at e in on_page pages at page k within here ∙ same.alike (k % 256) ∙ sym (ap (λ i. get_or (get_or pages i []) (k % 256) 0) here) ∙ alike.alike k
     by k false e = off_page pages at page k (eqb-false (k / 256) at e) ∙ alike.alike k
 
@@ -60,7 +60,7 @@ written old pages n place page alike within same long = record {
     on : n % 256 < length page
     on = grind (arith)
 
-    by : (k : ℕ) (b : Bool) → nat_eq (k / 256) (n / 256) ≡ b → nat_eq n k ≡ false → held (set pages (n / 256) (set page (n % 256) place)) k ≡ held old k
+    by : (k : ℕ) (b : Bool) → nat_eq (k / 256) (n / 256) ≡ b → nat_eq n k ≡ false → number_at (set pages (n / 256) (set page (n % 256) place)) k ≡ number_at old k
     by k true e apart =
         let here = eqb-true (k / 256) (n / 256) e in
         on_page pages (n / 256) (set page (n % 256) place) k within here
@@ -71,11 +71,11 @@ written old pages n place page alike within same long = record {
         one q r = omega (arith, q, r)
     by k false e apart = off_page pages (n / 256) (set page (n % 256) place) k (eqb-false (k / 256) (n / 256) e) ∙ alike.alike k
 
-pub no_place : (found : Option ℕ) → 0 ≡ above found → None ≡ found
+pub no_place : (found : Option ℕ) → 0 ≡ one_above found → None ≡ found
 no_place None h = refl
 no_place (Some k) h = absurd (omega (arith, h))
 
-pub a_place : (found : Option ℕ) (h : ℕ) → h ≡ above found → (h ≡ 0 → ⊥) → Some (h - 1) ≡ found
+pub a_place : (found : Option ℕ) (h : ℕ) → h ≡ one_above found → (h ≡ 0 → ⊥) → Some (h - 1) ≡ found
 a_place None h e apart = absurd (apart e)
 a_place (Some k) h e apart = ap Some (omega (arith, e))
 
@@ -120,14 +120,14 @@ pub place_of_added : (keys : List ℕ) (n : ℕ) → None ≡ position (nat_eq n
 place_of_added keys n h = first_of_more keys n n ∙ rw (is_missing keys n h, same n) refl
 
 pub paged_with : (keys : List ℕ) (old new : List (List ℕ)) (n place : ℕ) → IsPaged keys old → None ≡ position (nat_eq n) keys → place ≡ length keys + 1 → IsWritten old new n place → IsPaged (keys ++ n ∷ []) new
-paged_with keys old new n place paged h count wrote = record { held = λ k. by k (nat_eq n k) refl }
+paged_with keys old new n place paged h count wrote = record { number_at = λ k. by k (nat_eq n k) refl }
   where
-    by : (k : ℕ) (b : Bool) → nat_eq n k ≡ b → held new k ≡ above (position (nat_eq k) (keys ++ n ∷ []))
-    by k true e = subst (λ m. held new m ≡ above (position (nat_eq m) (keys ++ n ∷ []))) (eqb-true n k e) (wrote.here ∙ count ∙ by_place)
+    by : (k : ℕ) (b : Bool) → nat_eq n k ≡ b → number_at new k ≡ one_above (position (nat_eq k) (keys ++ n ∷ []))
+    by k true e = subst (λ m. number_at new m ≡ one_above (position (nat_eq m) (keys ++ n ∷ []))) (eqb-true n k e) (wrote.here ∙ count ∙ by_place)
       where
-        by_place : length keys + 1 ≡ above (position (nat_eq n) (keys ++ n ∷ []))
+        by_place : length keys + 1 ≡ one_above (position (nat_eq n) (keys ++ n ∷ []))
         by_place = rw (place_of_added keys n h) (omega arith)
-    by k false e = wrote.elsewhere k e ∙ paged.held k ∙ ap above (sym (first_of_more keys n k ∙ apart (nat_lt (position_or_len (nat_eq k) keys) (length keys)) refl))
+    by k false e = wrote.elsewhere k e ∙ paged.number_at k ∙ ap one_above (sym (first_of_more keys n k ∙ apart (nat_lt (position_or_len (nat_eq k) keys) (length keys)) refl))
       where
         other : nat_eq k n ≡ false
         other = ne_eqb k n (λ q. eqb-false n k e (sym q))

@@ -4,7 +4,7 @@
 //! as it can make a hash. A page is filled where a register of it is.
 
 ghost use Rattle.std.specs.Prelude.{◌≡◌, ◌<◌, ◌≤◌, ◌^◌, ◌/◌, ◌%◌, ◌+◌, [], Some, OnOk, OnErr, IfOk, length, nat_eq, position, get_or, set};
-ghost use Rattle.gi_registers.specs.Pages.{held, AreAlike, IsPageAlike, IsWritten};
+ghost use Rattle.gi_registers.specs.Pages.{number_at, AreAlike, IsPageAlike, IsWritten};
 ghost use Rattle.gi_mir.specs.Numbering.{with_register};
 
 use gi_llt::Memory;
@@ -31,7 +31,7 @@ impl Model for Page {
 
 impl Page {
     /// The number at this place.
-    fn held(&self, at: usize) -> usize
+    fn number_at(&self, at: usize) -> usize
         ensures { result ≡ get_or self.now at 0 }
     {
         match self.places.as_slice().get(at) {
@@ -62,11 +62,11 @@ impl Page {
 }
 
 /// The number at a place.
-fn held(pages: &[Page], n: u32) -> usize
-    ensures { result ≡ held pages.now n }
+fn number_at(pages: &[Page], n: u32) -> usize
+    ensures { result ≡ number_at pages.now n }
 {
     match pages.get((n / PAGE) as usize) {
-        Some(page) => page.held((n % PAGE) as usize),
+        Some(page) => page.number_at((n % PAGE) as usize),
         None => 0,
     }
 }
@@ -141,9 +141,9 @@ impl RegisterSet {
     pub fn index_of(&self, reg: Reg) -> Option<usize>
         ensures { result ≡ position (nat_eq reg.0) self.now }
     {
-        match held(self.pages.as_slice(), reg.0) {
+        match number_at(self.pages.as_slice(), reg.0) {
             0 => None,
-            above => Some(above - 1),
+            one_above => Some(one_above - 1),
         }
     }
 
