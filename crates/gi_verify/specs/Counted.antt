@@ -1,7 +1,7 @@
 -- How often registers were defined, as it is kept.
 use Rattle.std.specs.Prelude.{◌≡◌, ℕ, zero, suc, Bool, true, false, List, Option, Some, None, nat_eq}
 use Rattle.indexmap.specs.IndexMap.{get}
-use Rattle.gi_valid.specs.Faults.{times}
+use Rattle.gi_valid.specs.Faults.{count_of, times}
 use Rattle.gi_verify.specs.declared.definitions.Counted.{Counted}
 use Rattle.gi_verify.specs.declared.definitions.Times.{Times}
 use Rattle.gi_verify.specs.declared.definitions.Times.TheVariants.{Once, Often}
@@ -30,3 +30,7 @@ is_once (Some Often) = false
 -- of each register it is kept how often these define it
 pub record AreCounted (before : List (ℕ × ℕ)) (kept : Counted) : Type 0 where
   pub each : (r : ℕ) → counted kept r ≡ kept_of (times r before)
+
+-- of each number it is kept how often it is in this list
+pub record AreTallied (list : List ℕ) (kept : Counted) : Type 0 where
+  pub each : (n : ℕ) → counted kept n ≡ kept_of (count_of n list)

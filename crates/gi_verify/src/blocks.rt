@@ -4,8 +4,9 @@ ghost use Rattle.std.specs.Prelude.{◌≡◌, ◌++◌, ◌∷◌, ◌<◌, [],
 ghost use Rattle.std.specs.List.{list_all, list_any};
 ghost use Rattle.gi_meaning.specs.Runs.{is_among};
 ghost use Rattle.gi_valid.specs.Faults as faults;
+ghost use Rattle.gi_verify.specs.Counted.{AreTallied};
 
-use crate::available::is_listed;
+use crate::definitions::Counted;
 use gi_llt::Memory;
 use gi_mir::function::Function;
 use gi_mir::operand::Operand;
@@ -60,36 +61,70 @@ pub(crate) fn unknown_among(function: &Function, blocks: &[u32]) -> Option<Inval
     }
 }
 
-/// How often a block is in a list.
-fn count_of(b: u32, list: &[u32]) -> usize
-    ensures { result ≡ faults.count_of b list.now }
+/// How often each block is in a list.
+fn tally(alloc: Global, list: &[u32]) -> Result<Counted, Memory>
+    ensures { IfOk result (λ kept. AreTallied list.now kept) }
 {
-    let mut count = 0;
-    for c in list {
-        if *c == b {
-            count += 1;
-        }
+    let mut kept = Counted::new(alloc);
+    for b in list {
+        kept.count_one(*b)?;
     }
-    count
+    Ok(kept)
 }
 
 /// Whether all blocks are among others.
-fn are_listed(blocks: &[u32], list: &[u32]) -> bool
+fn are_listed(blocks: &[u32], list: &[u32], kept: &Counted) -> bool
+    requires { AreTallied list.now kept.now }
     ensures { result ≡ list_all (λ b. is_among b list.now) blocks.now }
 {
-    blocks.iter().all(|b| is_listed(*b, list))
+    for b in blocks {
+        if !kept.has(list, *b) {
+            return false;
+        }
+    }
+    true
 }
 
 /// Whether a list has each of these blocks once.
-fn have_once(blocks: &[u32], list: &[u32]) -> bool
+fn have_once(blocks: &[u32], list: &[u32], kept: &Counted) -> bool
+    requires { AreTallied list.now kept.now }
     ensures { result ≡ list_all (λ b. faults.count_of b list.now == 1) blocks.now }
 {
-    blocks.iter().all(|b| count_of(*b, list) == 1)
+    for b in blocks {
+        if !kept.has_once(list, *b) {
+            return false;
+        }
+    }
+    true
+}
+
+/// Whether a list has each of these blocks once.
+fn have_each_once(alloc: Global, blocks: &[u32], list: &[u32]) -> Result<bool, Memory>
+    ensures { IfOk result (λ t. t ≡ list_all (λ b. faults.count_of b list.now == 1) blocks.now) }
+{
+    let kept = tally(alloc, list)?;
+    Ok(have_once(blocks, list, &kept))
+}
+
+/// Whether all blocks are among others.
+fn are_all_listed(alloc: Global, blocks: &[u32], list: &[u32]) -> Result<bool, Memory>
+    ensures { IfOk result (λ t. t ≡ list_all (λ b. is_among b list.now) blocks.now) }
+{
+    let kept = tally(alloc, list)?;
+    Ok(are_listed(blocks, list, &kept))
 }
 
 /// Whether the entries of a phi are one for each predecessor.
-pub(crate) fn are_entries(predecessors: &[u32], entries: &[u32]) -> bool
-    ensures { result ≡ faults.are_entries predecessors.now entries.now }
+pub(crate) fn are_entries(
+    alloc: Global,
+    predecessors: &[u32],
+    entries: &[u32],
+) -> Result<bool, Memory>
+    ensures { IfOk result (λ t. t ≡ faults.are_entries predecessors.now entries.now) }
 {
-    have_once(predecessors, entries) && are_listed(entries, predecessors)
+    if have_each_once(alloc, predecessors, entries)? {
+        are_all_listed(alloc, entries, predecessors)
+    } else {
+        Ok(false)
+    }
 }

@@ -6,7 +6,8 @@ ghost use Rattle.gi_valid.specs.declared.invalid.Invalid.TheVariants as Invalid;
 ghost use Rattle.gi_mir.specs.Edit.{all_instrs};
 ghost use Rattle.gi_valid.specs.Faults as faults;
 ghost use Rattle.gi_meaning.specs.InRow.{results_in};
-ghost use Rattle.gi_verify.specs.Counted.{AreCounted, counted, is_once, once_more};
+ghost use Rattle.gi_meaning.specs.Runs.{is_among};
+ghost use Rattle.gi_verify.specs.Counted.{AreCounted, AreTallied, counted, is_once, once_more};
 
 use gi_llt::Memory;
 use gi_mir::block::Numbered;
@@ -103,7 +104,7 @@ fn is_once(times: Option<Times>) -> bool
 
 impl Counted {
     /// Before all definitions.
-    fn new(alloc: Global) -> Counted
+    pub(crate) fn new(alloc: Global) -> Counted
         ensures { AreCounted [] result }
     {
         Counted {
@@ -126,6 +127,34 @@ impl Counted {
             Ok(_) => Ok(()),
             Err(_) => Err(Memory),
         }
+    }
+
+    /// Counts a number once more.
+    pub(crate) fn count_one(&mut self, n: u32) -> Result<(), Memory>
+        ensures { OnOk result ((q : ℕ) → counted self.new q ≡ (if n == q then Some (once_more (counted self.old n)) else counted self.old q)) }
+    {
+        let times = once_more(self.times(n));
+        self.set(n, times)
+    }
+
+    /// Whether a list, whose numbers were counted, has a number once.
+    #[tactic(auto, using(crate::proofs::Counting::once_tallied))]
+    pub(crate) fn has_once(&self, list: &[u32], n: u32) -> bool
+        requires { AreTallied list.now self.now }
+        ensures { result ≡ (faults.count_of n list.now == 1) }
+    {
+        let _ = list;
+        is_once(self.times(n))
+    }
+
+    /// Whether a list, whose numbers were counted, has a number.
+    #[tactic(auto, using(crate::proofs::Counting::among_tallied))]
+    pub(crate) fn has(&self, list: &[u32], n: u32) -> bool
+        requires { AreTallied list.now self.now }
+        ensures { result ≡ is_among n list.now }
+    {
+        let _ = list;
+        self.times(n).is_some()
     }
 
     /// Whether the next definition of a register is its second.

@@ -93,7 +93,7 @@ fn has_entries(
 {
     let _ = function;
     let entries = blocks_in(alloc, instr.operands.as_slice())?;
-    Ok(are_entries(all.of(b), entries.as_slice()))
+    are_entries(alloc, all.of(b), entries.as_slice())
 }
 
 /// The fault of a phi's entries.
