@@ -1,5 +1,5 @@
 -- The blocks that name each block as a successor, as they are kept.
-use Rattle.std.specs.Prelude.{◌≡◌, ◌≢◌, ℕ, Bool, not, ◌&&◌, ◌==◌, List, [], ◌∷◌, ◌++◌, take, nat_eq, if◌then◌else◌}
+use Rattle.std.specs.Prelude.{◌≡◌, ◌≢◌, ℕ, Bool, not, ◌&&◌, ◌||◌, ◌==◌, List, [], ◌∷◌, ◌++◌, take, nat_eq, if◌then◌else◌}
 use Rattle.std.specs.Option.{option_map_or}
 use Rattle.indexmap.specs.IndexMap.{get}
 use Rattle.gi_mir.specs.Data.{FunctionData}
@@ -23,6 +23,11 @@ pub record IsGrown (old new : Predecessors) (b a : ℕ) : Type 0 where
 -- one more block names one, unless it is among those that it named before
 pub record IsNamedOnce (old new : Predecessors) (a : ℕ) (front : List ℕ) (b : ℕ) : Type 0 where
   pub each : (q : ℕ) → names new q ≡ names old q ++ only_if ((q == b) && not (is_among b front)) a
+
+-- it names one more, and that is in the list of those that it named
+pub record IsNamedNext (old new : Predecessors) (a : ℕ) (front more : List ℕ) (b : ℕ) : Type 0 where
+  pub named : IsNamedOnce old new a front b
+  pub listed : (q : ℕ) → is_among q more ≡ (is_among q front || (q == b))
 
 -- one more block names these
 pub record AreNamed (old new : Predecessors) (a : ℕ) (successors : List ℕ) : Type 0 where

@@ -1,10 +1,10 @@
 //! The predecessors of each block.
 
-ghost use Rattle.std.specs.Prelude.{◌≡◌, ◌<◌, ◌∷◌, ◌++◌, ℕ, [], OnOk, IfOk, take, length, nat_lt};
+ghost use Rattle.std.specs.Prelude.{◌≡◌, ◌∷◌, ◌++◌, ℕ, [], OnOk, IfOk, length, nat_lt};
 ghost use Rattle.gi_valid.specs.Available as available;
-ghost use Rattle.gi_verify.specs.Named.{AreNamed, ArePredecessors, IsGrown, IsNamedOnce, names};
+ghost use Rattle.gi_verify.specs.Named.{AreNamed, ArePredecessors, IsGrown, IsNamedNext, names};
 
-use crate::available::is_listed;
+use crate::listed::Listed;
 use gi_llt::Memory;
 use gi_mir::function::Function;
 use indexmap::IndexMap;
@@ -24,14 +24,6 @@ fn push(blocks: &mut Vec<u32>, b: u32) -> Result<(), Memory>
         Ok(()) => Ok(()),
         Err(_) => Err(Memory),
     }
-}
-
-/// The blocks in front of one.
-fn in_front(blocks: &[u32], k: usize) -> &[u32]
-    requires { k < length blocks.now }
-    ensures { result.now ≡ take k blocks.now }
-{
-    &blocks[..k]
 }
 
 impl Predecessors {
@@ -77,26 +69,26 @@ impl Predecessors {
         }
     }
 
-    /// A block that another one names behind others.
-    #[tactic(auto, using(crate::proofs::Naming::named_again, crate::proofs::Naming::named_first))]
-    fn name_one(&mut self, a: u32, front: &[u32], b: u32) -> Result<(), Memory>
-        ensures { OnOk result (IsNamedOnce self.old self.new a front.now b) }
+    /// A block that another one names, and that is put into the list of those that it named before where it isn't in it.
+    #[tactic(auto, using(crate::proofs::Naming::next_again, crate::proofs::Naming::next_first))]
+    fn name_one(&mut self, a: u32, front: &mut Listed, b: u32) -> Result<(), Memory>
+        ensures { OnOk result (IsNamedNext self.old self.new a front.old front.new b) }
     {
-        if is_listed(b, front) {
+        if front.has(b) {
             Ok(())
         } else {
+            front.add(b)?;
             self.add(b, a)
         }
     }
 
     /// The blocks that another one names.
-    #[tactic(auto, using(crate::proofs::Naming::named_none))]
     fn name_all(&mut self, a: u32, successors: &[u32]) -> Result<(), Memory>
         ensures { OnOk result (AreNamed self.old self.new a successors.now) }
     {
-        for k in 0..successors.len() {
-            let front = in_front(successors, k);
-            self.name_one(a, front, successors[k])?;
+        let mut front = Listed::new(*self.lists.allocator());
+        for b in successors {
+            self.name_one(a, &mut front, *b)?;
         }
         Ok(())
     }
