@@ -54,7 +54,7 @@ none_tallied kept are = record { each = are.each }
 pub once_tallied : (n : ℕ) (list : List ℕ) (kept : Counted) → AreTallied list kept → is_once (counted kept n) ≡ (count_of n list == 1)
 once_tallied n list kept are = ap is_once (are.each n) ∙ once_kept (count_of n list)
 
-swapped : (m n : ℕ) → (m == n) ≡ (n == m)
+pub swapped : (m n : ℕ) → (m == n) ≡ (n == m)
 swapped m n = by (m == n) (n == m) refl refl
   where
     by : (s t : Bool) → (m == n) ≡ s → (n == m) ≡ t → s ≡ t
@@ -75,11 +75,11 @@ some_kept (suc k) = refl
 
 among_counted : (n : ℕ) (list : List ℕ) → is_some (kept_of (count_of n list)) ≡ is_among n list
 among_counted n [] = refl
-among_counted n (c ∷ cs) = by (c == n) refl
+among_counted n (c ∷ cs) = ap (λ t. is_some (kept_of (cond t 1 0 + count_of n cs))) (swapped c n) ∙ by (n == c) (among_counted n cs)
   where
-    by : (t : Bool) → (c == n) ≡ t → is_some (kept_of (cond (c == n) 1 0 + count_of n cs)) ≡ ((n == c) || is_among n cs)
-    by true so = ap (λ b. is_some (kept_of (cond b 1 0 + count_of n cs))) so ∙ ap (λ m. is_some (kept_of m)) (one_on (count_of n cs)) ∙ some_kept (count_of n cs) ∙ sym (ap (λ b. b || is_among n cs) (swapped n c ∙ so))
-    by false so = ap (λ b. is_some (kept_of (cond b 1 0 + count_of n cs))) so ∙ ap (λ m. is_some (kept_of m)) (none_on (count_of n cs)) ∙ among_counted n cs ∙ sym (ap (λ b. b || is_among n cs) (swapped n c ∙ so))
+    by : (t : Bool) → is_some (kept_of (count_of n cs)) ≡ is_among n cs → is_some (kept_of (cond t 1 0 + count_of n cs)) ≡ (t || is_among n cs)
+    by true h = ap (λ m. is_some (kept_of m)) (one_on (count_of n cs)) ∙ some_kept (count_of n cs)
+    by false h = ap (λ m. is_some (kept_of m)) (none_on (count_of n cs)) ∙ h
 
 pub among_tallied : (n : ℕ) (list : List ℕ) (kept : Counted) → AreTallied list kept → is_some (counted kept n) ≡ is_among n list
 among_tallied n list kept are = ap is_some (are.each n) ∙ among_counted n list

@@ -9,11 +9,13 @@ pub mod Kept
 pub mod Letters
 pub mod Linked
 pub mod Marking
+pub mod Masking
 pub mod Missing
 pub mod Naming
 pub mod Ordering
 pub mod Passing
 pub mod Placing
+pub mod Rising
 pub mod Same
 pub mod Sooner
 pub mod Told

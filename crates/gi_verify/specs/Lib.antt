@@ -1,4 +1,5 @@
 pub mod Counted
+pub mod Masks
 pub mod Named
 pub mod Passed
 pub mod Refusal

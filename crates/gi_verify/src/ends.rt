@@ -9,7 +9,6 @@ ghost use Rattle.gi_valid.specs.Faults as faults;
 ghost use Rattle.gi_verify.specs.Named.{ArePredecessors};
 ghost use Rattle.gi_verify.specs.Passed.{IsPassed};
 
-use crate::available::is_listed;
 use crate::blocks::{are_entries, blocks_in};
 use crate::passed::{Passed, is_late};
 use crate::predecessors::Predecessors;
@@ -29,22 +28,34 @@ pub(crate) fn is_phi(instr: &Instr) -> bool
 }
 
 /// Whether all of these are among the successors of a block.
-fn are_successors(function: &Function, b: u32, blocks: &[u32]) -> bool
-    requires { b < length function.now.blocks }
+fn are_successors(function: &Function, all: &Predecessors, b: u32, blocks: &[u32]) -> bool
+    requires within { b < length function.now.blocks }
+    requires all { ArePredecessors function.now all.now }
     ensures { result ≡ list_all (λ c. is_among c (successors_of function.now b)) blocks.now }
 {
-    let successors = function.block(b).successors.as_slice();
-    blocks.iter().all(|c| is_listed(*c, successors))
+    for c in blocks {
+        if !all.is_successor(function, b, *c) {
+            return false;
+        }
+    }
+    true
 }
 
 /// Whether a branch goes to no successor of its block.
-fn is_astray(alloc: Global, function: &Function, b: u32, instr: &Instr) -> Result<bool, Memory>
-    requires { b < length function.now.blocks }
+fn is_astray(
+    alloc: Global,
+    function: &Function,
+    all: &Predecessors,
+    b: u32,
+    instr: &Instr,
+) -> Result<bool, Memory>
+    requires within { b < length function.now.blocks }
+    requires all { ArePredecessors function.now all.now }
     ensures { IfOk result (λ t. t ≡ (is_branch_op (instr.now).op && not (list_all (λ c. is_among c (successors_of function.now b)) (faults.blocks_in (instr.now).operands)))) }
 {
     if instr.op.is_branch() {
         let blocks = blocks_in(alloc, instr.operands.as_slice())?;
-        Ok(!are_successors(function, b, blocks.as_slice()))
+        Ok(!are_successors(function, all, b, blocks.as_slice()))
     } else {
         Ok(false)
     }
@@ -62,6 +73,7 @@ fn is_first_late(passed: Passed, front: &[Numbered], instr: &Instr) -> bool
 pub(crate) fn terminator(
     alloc: Global,
     function: &Function,
+    all: &Predecessors,
     b: u32,
     passed: Passed,
     front: &[Numbered],
@@ -69,11 +81,12 @@ pub(crate) fn terminator(
     after: &[Numbered],
 ) -> Result<Option<Invalid>, Memory>
     requires within { b < length function.now.blocks }
+    requires all { ArePredecessors function.now all.now }
     requires passed { IsPassed front.now passed }
     ensures { IfOk result (λ found. found ≡ faults.terminator function.now (record { block = b; before = front.now; instr = instr.now; after = after.now })) }
 {
     let _ = after;
-    if is_first_late(passed, front, instr) || is_astray(alloc, function, b, instr)? {
+    if is_first_late(passed, front, instr) || is_astray(alloc, function, all, b, instr)? {
         Ok(Some(Invalid::Terminator))
     } else {
         Ok(None)

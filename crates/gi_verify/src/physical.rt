@@ -1,16 +1,19 @@
 //! Physical registers: where they are available, and those that are used behind what may overwrite them.
 
-ghost use Rattle.std.specs.Prelude.{◌≡◌, ◌<◌, ◌⊎◌, ◌||◌, ◌&&◌, ◌==◌, not, [], Some, None, IfOk, length, find, nat_lt, option_map};
-ghost use Rattle.std.specs.List.{list_any, range_with_len};
+ghost use Rattle.std.specs.Prelude.{◌≡◌, ◌<◌, ◌≤◌, ◌+◌, ◌⊎◌, ◌||◌, ◌&&◌, ◌==◌, not, [], Some, None, IfOk, length, find, nat_lt, option_map, take};
+ghost use Rattle.std.specs.List.{range_with_len};
+ghost use Rattle.gi_mir.specs.Edit.{block_at};
 ghost use Rattle.gi_meaning.specs.Runs.{is_among};
 ghost use Rattle.gi_valid.specs.Available as available;
-ghost use Rattle.gi_valid.specs.Definitions as definitions;
 ghost use Rattle.gi_valid.specs.Faults as faults;
 ghost use Rattle.gi_valid.specs.Typing as typings;
 ghost use Rattle.gi_valid.specs.declared.invalid.Invalid.TheVariants as Invalid;
+ghost use Rattle.gi_verify.specs.Masks.{AreEffects, IsMaskOf, has};
 
+use crate::effects::Effect;
+use crate::mask::{Mask, either, has, none, with};
 use crate::mismatch::may_call;
-use crate::operands::{defines_physical, reads_physical};
+use crate::operands::defines_physical;
 use gi_llt::{Memory, Target};
 use gi_mir::block::Numbered;
 use gi_mir::function::Function;
@@ -18,101 +21,115 @@ use gi_mir::stage::Stage;
 use gi_valid::Invalid;
 use std::alloc::Global;
 
-/// Whether a register is among these.
-fn is_livein(n: u8, liveins: &[u8]) -> bool
-    ensures { result ≡ is_among n liveins.now }
+/// A set with each of these registers.
+fn with_all(mask: Mask, registers: &[u8]) -> Mask
+    ensures { IsMaskOf (λ n. has mask n || is_among n registers.now) result }
 {
-    for m in liveins {
-        if n == *m {
-            return true;
-        }
+    let mut all = mask;
+    for n in registers {
+        all = with(all, *n);
     }
-    false
+    all
 }
 
-/// Whether a physical register is available at the start of a block.
-fn is_physical_at_start(function: &Function, way_back: bool, b: u32, n: u8) -> bool
+/// The registers that are available everywhere.
+#[tactic(auto, using(crate::proofs::Masking::always_in))]
+fn always() -> Mask
+    ensures { IsMaskOf (λ n. (n == 0) || (n == 2)) result }
+{
+    with(with(none(), 0), 2)
+}
+
+/// The physical registers that are available at the start of a block.
+pub(crate) fn there_at_start(function: &Function, way_back: bool, b: u32) -> Mask
     requires within { b < length function.now.blocks }
     requires way_back { way_back ≡ nat_lt 0 (length (available.predecessors function.now 0)) }
-    ensures { result ≡ available.is_physical_at_start function.now b n }
+    ensures { IsMaskOf (available.is_physical_at_start function.now b) result }
 {
-    n == 0 || n == 2 || b == 0 && !way_back && is_livein(n, function.block(b).liveins.as_slice())
+    if b == 0 && !way_back {
+        with_all(always(), function.block(b).liveins.as_slice())
+    } else {
+        always()
+    }
 }
 
-/// Whether one of these defines a physical register.
-fn any_defines_physical(n: u8, front: &[Numbered]) -> bool
-    ensures { result ≡ list_any (definitions.defines_physical n) front.now }
+/// The physical registers that are available behind one more instruction of a block.
+pub(crate) fn there_with(
+    function: &Function,
+    b: u32,
+    effects: &[Effect],
+    k: usize,
+    there: Mask,
+) -> Mask
+    requires here { k < length (block_at function.now b).instrs }
+    requires effects { AreEffects (block_at function.now b).instrs effects.now }
+    requires there { IsMaskOf (available.is_physical_there function.now b (take k (block_at function.now b).instrs)) there }
+    ensures { IsMaskOf (available.is_physical_there function.now b (take (k + 1) (block_at function.now b).instrs)) result }
 {
-    front.iter().any(|numbered| defines_physical(n, numbered))
+    let _ = function;
+    let effect = effects[k];
+    either(there, effect.definitions)
 }
 
 /// Whether a physical register is available behind the front of a block.
 pub(crate) fn is_physical_there(
     function: &Function,
-    way_back: bool,
+    there: Mask,
     b: u32,
     front: &[Numbered],
     n: u8,
 ) -> bool
-    requires within { b < length function.now.blocks }
-    requires way_back { way_back ≡ nat_lt 0 (length (available.predecessors function.now 0)) }
+    requires within { n < 32 }
+    requires there { IsMaskOf (available.is_physical_there function.now b front.now) there }
     ensures { result ≡ available.is_physical_there function.now b front.now n }
 {
-    is_physical_at_start(function, way_back, b, n) || any_defines_physical(n, front)
-}
-
-/// Whether a physical register is used before it is defined.
-fn is_used_first(n: u8, after: &[Numbered]) -> bool
-    ensures { result ≡ faults.is_used_first n after.now }
-{
-    for numbered in after {
-        if reads_physical(n, numbered) {
-            return true;
-        }
-        if defines_physical(n, numbered) {
-            return false;
-        }
-    }
-    false
+    let _ = function;
+    let _ = front;
+    has(there, n)
 }
 
 /// Whether a physical register is used behind an instruction that may overwrite it.
 fn goes_across(
     function: &Function,
-    way_back: bool,
+    there: Mask,
+    used: Mask,
     b: u32,
     front: &[Numbered],
     numbered: &Numbered,
     after: &[Numbered],
     n: u8,
 ) -> bool
-    requires within { b < length function.now.blocks }
-    requires way_back { way_back ≡ nat_lt 0 (length (available.predecessors function.now 0)) }
+    requires within { n < 32 }
+    requires there { IsMaskOf (available.is_physical_there function.now b front.now) there }
+    requires used { IsMaskOf (λ n. faults.is_used_first n after.now) used }
     ensures { result ≡ faults.goes_across function.now (record { block = b; before = front.now; instr = (numbered.now).1; after = after.now }) n }
 {
+    let _ = after;
     n != 0
         && n != 2
-        && is_physical_there(function, way_back, b, front, n)
+        && is_physical_there(function, there, b, front, n)
         && !defines_physical(n, numbered)
-        && is_used_first(n, after)
+        && has(used, n)
 }
 
 /// The lowest register below a number that is.
 fn first_across(
     function: &Function,
-    way_back: bool,
+    there: Mask,
+    used: Mask,
     b: u32,
     front: &[Numbered],
     numbered: &Numbered,
     after: &[Numbered],
     end: u8,
 ) -> Option<u8>
-    requires within { b < length function.now.blocks }
-    requires way_back { way_back ≡ nat_lt 0 (length (available.predecessors function.now 0)) }
+    requires within { end ≤ 32 }
+    requires there { IsMaskOf (available.is_physical_there function.now b front.now) there }
+    requires used { IsMaskOf (λ n. faults.is_used_first n after.now) used }
     ensures { result ≡ find (faults.goes_across function.now (record { block = b; before = front.now; instr = (numbered.now).1; after = after.now })) (range_with_len 0 end) }
 {
     for n in 0..end {
-        if goes_across(function, way_back, b, front, numbered, after, n) {
+        if goes_across(function, there, used, b, front, numbered, after, n) {
             return Some(n);
         }
     }
@@ -135,19 +152,20 @@ pub(crate) fn physical_across(
     target: Target,
     stage: Stage,
     function: &Function,
-    way_back: bool,
+    there: Mask,
+    used: Mask,
     b: u32,
     front: &[Numbered],
     numbered: &Numbered,
     after: &[Numbered],
 ) -> Result<Option<Invalid>, Memory>
     requires xlen { (target.xlen ≡ 32) ⊎ (target.xlen ≡ 64) }
-    requires within { b < length function.now.blocks }
-    requires way_back { way_back ≡ nat_lt 0 (length (available.predecessors function.now 0)) }
+    requires there { IsMaskOf (available.is_physical_there function.now b front.now) there }
+    requires used { IsMaskOf (λ n. faults.is_used_first n after.now) used }
     ensures { IfOk result (λ found. found ≡ faults.physical_across target.xlen (typings.phase_of stage) function.now (record { block = b; before = front.now; instr = (numbered.now).1; after = after.now })) }
 {
     if may_call(alloc, target, stage, function, &numbered.instr)? {
-        Ok(told_across(first_across(function, way_back, b, front, numbered, after, 32)))
+        Ok(told_across(first_across(function, there, used, b, front, numbered, after, 32)))
     } else {
         Ok(None)
     }

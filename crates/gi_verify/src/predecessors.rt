@@ -1,6 +1,7 @@
 //! The predecessors of each block.
 
-ghost use Rattle.std.specs.Prelude.{◌≡◌, ◌∷◌, ◌++◌, ℕ, [], OnOk, IfOk, length, nat_lt};
+ghost use Rattle.std.specs.Prelude.{◌≡◌, ◌<◌, ◌∷◌, ◌++◌, ℕ, [], OnOk, IfOk, length, nat_lt};
+ghost use Rattle.gi_meaning.specs.Runs.{is_among};
 ghost use Rattle.gi_valid.specs.Available as available;
 ghost use Rattle.gi_verify.specs.Named.{AreNamed, ArePredecessors, IsGrown, IsNamedNext, names};
 
@@ -44,6 +45,16 @@ impl Predecessors {
             Some(blocks) => blocks.as_slice(),
             None => &[],
         }
+    }
+
+    /// Whether a block is a successor of another one: then that one is among its predecessors, which rise.
+    pub(crate) fn is_successor(&self, function: &Function, b: u32, c: u32) -> bool
+        requires within { b < length function.now.blocks }
+        requires all { ArePredecessors function.now self.now }
+        ensures { result ≡ is_among c (available.successors_of function.now b) }
+    {
+        let _ = function;
+        self.of(c).binary_search(&b).is_ok()
     }
 
     /// The first predecessor of a block.

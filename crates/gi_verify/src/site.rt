@@ -7,6 +7,7 @@ ghost use Rattle.gi_valid.specs.Available.{Extent};
 ghost use Rattle.gi_valid.specs.Faults as faults;
 ghost use Rattle.gi_valid.specs.Typing as typings;
 ghost use Rattle.gi_valid.specs.Valid.{IsGreatest};
+ghost use Rattle.gi_verify.specs.Masks.{IsMaskOf};
 ghost use Rattle.gi_verify.specs.Sets.{AllTold, AreReachedBlocks, AreTold, IsTold};
 ghost use Rattle.gi_verify.specs.Settled.{IsOrderOf, IsPlaced};
 ghost use Rattle.gi_mir.specs.Edit.{block_at};
@@ -15,10 +16,12 @@ ghost use Rattle.gi_verify.specs.Passed.{IsPassed};
 
 use crate::blocks::{blocks_in, unknown_among};
 use crate::definitions::push_fault;
+use crate::effects::{effects_of, used_at, used_behind};
 use crate::ends::{phi_entries, terminator};
+use crate::mask::Mask;
 use crate::mismatch::type_mismatch;
 use crate::passed::{Passed, nothing, passed_with};
-use crate::physical::physical_across;
+use crate::physical::{physical_across, there_at_start, there_with};
 use crate::predecessors::Predecessors;
 use crate::settled::Order;
 use crate::uses::not_available;
@@ -55,7 +58,9 @@ fn late_in(
     target: Target,
     stage: Stage,
     function: &Function,
-    way_back: bool,
+    all: &Predecessors,
+    there: Mask,
+    used: Mask,
     b: u32,
     passed: Passed,
     front: &[Numbered],
@@ -64,14 +69,25 @@ fn late_in(
 ) -> Result<Option<Invalid>, Memory>
     requires xlen { (target.xlen ≡ 32) ⊎ (target.xlen ≡ 64) }
     requires within { b < length function.now.blocks }
-    requires way_back { way_back ≡ nat_lt 0 (length (available.predecessors function.now 0)) }
+    requires all { ArePredecessors function.now all.now }
+    requires there { IsMaskOf (available.is_physical_there function.now b front.now) there }
+    requires used { IsMaskOf (λ n. faults.is_used_first n after.now) used }
     requires passed { IsPassed front.now passed }
     ensures { IfOk result (λ found. found ≡ option_or (faults.physical_across target.xlen (typings.phase_of stage) function.now (record { block = b; before = front.now; instr = (numbered.now).1; after = after.now })) (faults.terminator function.now (record { block = b; before = front.now; instr = (numbered.now).1; after = after.now }))) }
 {
     let across = physical_across(
-        alloc, target, stage, function, way_back, b, front, numbered, after,
+        alloc, target, stage, function, there, used, b, front, numbered, after,
     )?;
-    let ends = terminator(alloc, function, b, passed, front, &numbered.instr, after)?;
+    let ends = terminator(
+        alloc,
+        function,
+        all,
+        b,
+        passed,
+        front,
+        &numbered.instr,
+        after,
+    )?;
     Ok(first(across, ends))
 }
 
@@ -82,7 +98,8 @@ fn others_in(
     stage: Stage,
     function: &Function,
     all: &Predecessors,
-    way_back: bool,
+    there: Mask,
+    used: Mask,
     b: u32,
     passed: Passed,
     front: &[Numbered],
@@ -92,7 +109,8 @@ fn others_in(
     requires xlen { (target.xlen ≡ 32) ⊎ (target.xlen ≡ 64) }
     requires within { b < length function.now.blocks }
     requires all { ArePredecessors function.now all.now }
-    requires way_back { way_back ≡ nat_lt 0 (length (available.predecessors function.now 0)) }
+    requires there { IsMaskOf (available.is_physical_there function.now b front.now) there }
+    requires used { IsMaskOf (λ n. faults.is_used_first n after.now) used }
     requires passed { IsPassed front.now passed }
     ensures { IfOk result (λ found. found ≡ faults.others_in target.xlen (typings.phase_of stage) function.now (record { block = b; before = front.now; instr = (numbered.now).1; after = after.now })) }
 {
@@ -109,7 +127,7 @@ fn others_in(
         after,
     )?;
     let late = late_in(
-        alloc, target, stage, function, way_back, b, passed, front, numbered, after,
+        alloc, target, stage, function, all, there, used, b, passed, front, numbered, after,
     )?;
     Ok(first(types, first(blocks, first(entries, late))))
 }
@@ -123,7 +141,8 @@ pub(crate) fn fault_in(
     reached: &[bool],
     order: &Order,
     all: &Predecessors,
-    way_back: bool,
+    there: Mask,
+    used: Mask,
     b: u32,
     passed: Passed,
     front: &[Numbered],
@@ -136,15 +155,16 @@ pub(crate) fn fault_in(
     requires within { b < length function.now.blocks }
     requires placed { IsPlaced function.now b front.now numbered.now }
     requires all { ArePredecessors function.now all.now }
-    requires way_back { way_back ≡ nat_lt 0 (length (available.predecessors function.now 0)) }
+    requires there { IsMaskOf (available.is_physical_there function.now b front.now) there }
+    requires used { IsMaskOf (λ n. faults.is_used_first n after.now) used }
     requires passed { IsPassed front.now passed }
     ensures { (extents : ℕ → Extent) → ((r : ℕ) → IsGreatest function.now r (extents r)) → IfOk result (λ found. found ≡ faults.fault_in target.xlen (typings.phase_of stage) function.now extents (record { block = b; before = front.now; instr = (numbered.now).1; after = after.now })) }
 {
     let missing = not_available(
-        alloc, function, reached, order, way_back, b, front, numbered, after,
+        alloc, function, reached, order, there, b, front, numbered, after,
     )?;
     let others = others_in(
-        alloc, target, stage, function, all, way_back, b, passed, front, numbered, after,
+        alloc, target, stage, function, all, there, used, b, passed, front, numbered, after,
     )?;
     Ok(first(missing, others))
 }
@@ -196,7 +216,8 @@ fn push_site(
     reached: &[bool],
     order: &Order,
     all: &Predecessors,
-    way_back: bool,
+    there: Mask,
+    used: Mask,
     b: u32,
     passed: Passed,
     instrs: &[Numbered],
@@ -208,9 +229,10 @@ fn push_site(
     requires order { IsOrderOf function.now order.now }
     requires within { b < length function.now.blocks }
     requires all { ArePredecessors function.now all.now }
-    requires way_back { way_back ≡ nat_lt 0 (length (available.predecessors function.now 0)) }
     requires here { k < length instrs.now }
     requires instrs { instrs.now ≡ (block_at function.now b).instrs }
+    requires there { IsMaskOf (available.is_physical_there function.now b (take k instrs.now)) there }
+    requires used { IsMaskOf (λ n. faults.is_used_first n (drop (k + 1) instrs.now)) used }
     requires passed { IsPassed (take k instrs.now) passed }
     ensures { OnOk result (IsTold target.xlen (typings.phase_of stage) function.now b instrs.now k out.old.items out.new.items) }
 {
@@ -218,8 +240,8 @@ fn push_site(
     let front = in_front(instrs, k);
     let after = behind(instrs, k);
     let what = fault_in(
-        alloc, target, stage, function, reached, order, all, way_back, b, passed, front, numbered,
-        after,
+        alloc, target, stage, function, reached, order, all, there, used, b, passed, front,
+        numbered, after,
     )?;
     push_of(out, numbered, what)
 }
@@ -245,13 +267,18 @@ fn push_block(
     requires way_back { way_back ≡ nat_lt 0 (length (available.predecessors function.now 0)) }
     ensures { OnOk result (AreTold target.xlen (typings.phase_of stage) function.now b (block_at function.now b).instrs out.old.items out.new.items) }
 {
+    let effects = effects_of(alloc, function, b)?;
+    let behind = used_behind(alloc, function, b, effects.as_slice())?;
     let instrs = function.instrs(b);
+    let mut there = there_at_start(function, way_back, b);
     let mut passed = nothing();
     for k in 0..instrs.len() {
+        let used = used_at(function, b, behind.as_slice(), k);
         push_site(
-            alloc, target, stage, function, reached, order, all, way_back, b, passed, instrs, k,
+            alloc, target, stage, function, reached, order, all, there, used, b, passed, instrs, k,
             out,
         )?;
+        there = there_with(function, b, effects.as_slice(), k, there);
         passed = passed_with(passed, instrs, k);
     }
     Ok(())

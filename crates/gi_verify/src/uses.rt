@@ -2,7 +2,9 @@
 
 ghost use Rattle.std.specs.Prelude.{◌≡◌, ◌<◌, ◌||◌, ◌&&◌, ◌∷◌, ℕ, not, [], true, Some, None, Option, IfOk, length, find, nat_lt, option_map};
 ghost use Rattle.gi_mir.specs.Data.{reg_of};
+ghost use Rattle.std.specs.List.{list_all};
 ghost use Rattle.gi_mir.specs.Edit.{block_at};
+ghost use Rattle.gi_mir.specs.Formed.{is_in_range};
 ghost use Rattle.gi_mir.specs.declared.operand.Operand.TheVariants as Operand;
 ghost use Rattle.gi_meaning.specs.Runs.{entry_of, is_phi};
 ghost use Rattle.gi_valid.specs.Available as available;
@@ -10,11 +12,13 @@ ghost use Rattle.gi_valid.specs.Available.{Extent};
 ghost use Rattle.gi_valid.specs.Faults as faults;
 ghost use Rattle.gi_valid.specs.Valid.{IsGreatest};
 ghost use Rattle.gi_valid.specs.declared.invalid.Invalid.TheVariants as Invalid;
+ghost use Rattle.gi_verify.specs.Masks.{IsMaskOf};
 ghost use Rattle.gi_verify.specs.Sets.{AreReachedBlocks, IsAnswer, IsMissing, IsThere};
 ghost use Rattle.gi_verify.specs.Settled.{IsOrderOf, IsPlaced};
 
 use crate::available::is_available;
 use crate::ends::is_phi;
+use crate::mask::Mask;
 use crate::physical::is_physical_there;
 use crate::settled::{Order, comes_sooner, comes_within};
 use gi_llt::Memory;
@@ -65,7 +69,7 @@ fn is_there(
     function: &Function,
     reached: &[bool],
     order: &Order,
-    way_back: bool,
+    there: Mask,
     b: u32,
     front: &[Numbered],
     numbered: &Numbered,
@@ -75,7 +79,8 @@ fn is_there(
     requires order { IsOrderOf function.now order.now }
     requires within { b < length function.now.blocks }
     requires placed { IsPlaced function.now b front.now numbered.now }
-    requires way_back { way_back ≡ nat_lt 0 (length (available.predecessors function.now 0)) }
+    requires there { IsMaskOf (available.is_physical_there function.now b front.now) there }
+    requires range { is_in_range operand ≡ true }
     ensures { IfOk result (λ t. IsThere function.now b front.now operand t) }
 {
     match operand {
@@ -83,7 +88,7 @@ fn is_there(
             is_use_there(alloc, function, reached, order, b, front, numbered, r.0)
         }
         Operand::Phys(n) | Operand::ImplicitUse(n) => {
-            Ok(is_physical_there(function, way_back, b, front, n))
+            Ok(is_physical_there(function, there, b, front, n))
         }
         _ => Ok(true),
     }
@@ -119,7 +124,7 @@ fn missing_among(
     function: &Function,
     reached: &[bool],
     order: &Order,
-    way_back: bool,
+    there: Mask,
     b: u32,
     front: &[Numbered],
     numbered: &Numbered,
@@ -129,13 +134,14 @@ fn missing_among(
     requires order { IsOrderOf function.now order.now }
     requires within { b < length function.now.blocks }
     requires placed { IsPlaced function.now b front.now numbered.now }
-    requires way_back { way_back ≡ nat_lt 0 (length (available.predecessors function.now 0)) }
+    requires there { IsMaskOf (available.is_physical_there function.now b front.now) there }
+    requires range { list_all is_in_range operands.now ≡ true }
     ensures { IfOk result (λ found. IsMissing function.now b front.now operands.now found) }
 {
     for k in 0..operands.len() {
         let operand = operands[k];
         if !is_there(
-            alloc, function, reached, order, way_back, b, front, numbered, operand,
+            alloc, function, reached, order, there, b, front, numbered, operand,
         )? {
             return Ok(Some(Invalid::NotAvailable(operand)));
         }
@@ -149,7 +155,7 @@ fn missing_use(
     function: &Function,
     reached: &[bool],
     order: &Order,
-    way_back: bool,
+    there: Mask,
     b: u32,
     front: &[Numbered],
     numbered: &Numbered,
@@ -158,7 +164,7 @@ fn missing_use(
     requires order { IsOrderOf function.now order.now }
     requires within { b < length function.now.blocks }
     requires placed { IsPlaced function.now b front.now numbered.now }
-    requires way_back { way_back ≡ nat_lt 0 (length (available.predecessors function.now 0)) }
+    requires there { IsMaskOf (available.is_physical_there function.now b front.now) there }
     ensures { IfOk result (λ found. IsMissing function.now b front.now ((numbered.now).1).operands found) }
 {
     let found = missing_among(
@@ -166,7 +172,7 @@ fn missing_use(
         function,
         reached,
         order,
-        way_back,
+        there,
         b,
         front,
         numbered,
@@ -297,7 +303,7 @@ pub(crate) fn not_available(
     function: &Function,
     reached: &[bool],
     order: &Order,
-    way_back: bool,
+    there: Mask,
     b: u32,
     front: &[Numbered],
     numbered: &Numbered,
@@ -307,7 +313,7 @@ pub(crate) fn not_available(
     requires order { IsOrderOf function.now order.now }
     requires within { b < length function.now.blocks }
     requires placed { IsPlaced function.now b front.now numbered.now }
-    requires way_back { way_back ≡ nat_lt 0 (length (available.predecessors function.now 0)) }
+    requires there { IsMaskOf (available.is_physical_there function.now b front.now) there }
     ensures { (extents : ℕ → Extent) → ((r : ℕ) → IsGreatest function.now r (extents r)) → IfOk result (λ found. found ≡ faults.not_available function.now extents (record { block = b; before = front.now; instr = (numbered.now).1; after = after.now })) }
 {
     let _ = after;
@@ -316,9 +322,7 @@ pub(crate) fn not_available(
         let found = missing_entries(alloc, function, reached, order, operands)?;
         Ok(found)
     } else {
-        let found = missing_use(
-            alloc, function, reached, order, way_back, b, front, numbered,
-        )?;
+        let found = missing_use(alloc, function, reached, order, there, b, front, numbered)?;
         Ok(found)
     }
 }
