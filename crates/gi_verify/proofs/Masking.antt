@@ -1,7 +1,7 @@
 -- Masks of physical registers, bit by bit.
 use Rattle.std.proofs.Common.{◌≡◌, ℕ, zero, suc, ◌+◌, ◌-◌, ◌*◌, ◌/◌, ◌%◌, ◌^◌, ◌<◌, ◌≤◌, min, max, Bool, true, false, not, ◌&&◌, ◌||◌, ◌==◌, List, [], ◌∷◌, ◌++◌, Some, length, take, drop, get_or, ◌⊎◌, inl, inr, ⊎_elim, refl, sym, ap, ap₂, ◌∙◌, subst, add-one, take-suc, take_all, arith, true≢false}
 use Rattle.std.specs.Prelude.{slice_get}
-use Rattle.std.specs.List.{list_any}
+use Rattle.std.specs.List.{list_all, list_any}
 use Rattle.std.specs.Int.{bit_at, bit_not, w32}
 use Rattle.std.specs.Int.RustNames.{bit_or}
 use Rattle.std.specs.Int.Bits.{bit_and}
@@ -10,6 +10,8 @@ use Rattle.std.proofs.lemmas.List.Folds.{list_any-append}
 use Rattle.std.proofs.lemmas.Nat.Bits.{bit_at-zero, bit_at-lt, bit_at_and, bit_at_or, bit_at_not, bit_at_set_same, bit_at_set_other, shr_and_one}
 use Rattle.std.proofs.lemmas.Option.{same_Some, slice_get-get_or}
 use Rattle.gi_mir.specs.Data.{InstrData, FunctionData}
+use Rattle.gi_mir.specs.Formed.{has_access, fits_one_of, is_formed, is_in_range}
+use Rattle.gi_mir.specs.Row.{access_of, rows_of}
 use Rattle.gi_meaning.specs.Runs.{is_among}
 use Rattle.gi_valid.specs.Available.{is_physical_at_start, is_physical_there}
 use Rattle.gi_valid.specs.Definitions.{defines_physical, reads_physical}
@@ -299,3 +301,14 @@ used_here is used k d within are =
 
     inside : length used - 1 - k < length used
     inside = omega (arith, within, many)
+
+-- ══ Operands ══
+
+last_of : (a b : Bool) → (a && b) ≡ true → b ≡ true
+last_of true b h = h
+last_of false b h = cc
+
+-- the physical registers of an instruction are below 32
+pub formed_in_range : (i : InstrData) → is_formed i ≡ true → list_all is_in_range i.operands ≡ true
+unfolding is_formed
+formed_in_range i formed = last_of (fits_one_of (rows_of i.op) i.operands && has_access (access_of i.op) i.mem) (list_all is_in_range i.operands) formed

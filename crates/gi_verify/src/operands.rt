@@ -25,16 +25,6 @@ fn is_physical_def_of(n: u8, operand: Operand) -> bool
     }
 }
 
-/// Whether an operand reads a physical register.
-fn is_physical_use_of(n: u8, operand: Operand) -> bool
-    ensures { result ≡ definitions.is_physical_use_of n operand }
-{
-    match operand {
-        Operand::Phys(m) | Operand::ImplicitUse(m) => m == n,
-        _ => false,
-    }
-}
-
 /// Whether an instruction defines a physical register, also beside what it shows.
 pub(crate) fn defines_physical(n: u8, numbered: &Numbered) -> bool
     ensures { result ≡ definitions.defines_physical n numbered.now }
@@ -45,18 +35,6 @@ pub(crate) fn defines_physical(n: u8, numbered: &Numbered) -> bool
         .as_slice()
         .iter()
         .any(|x| is_physical_def_of(n, *x))
-}
-
-/// Whether an instruction reads a physical register.
-pub(crate) fn reads_physical(n: u8, numbered: &Numbered) -> bool
-    ensures { result ≡ definitions.reads_physical n numbered.now }
-{
-    numbered
-        .instr
-        .operands
-        .as_slice()
-        .iter()
-        .any(|x| is_physical_use_of(n, *x))
 }
 
 /// Whether an instruction defines a register.

@@ -78,7 +78,7 @@ fn late_in(
     let across = physical_across(
         alloc, target, stage, function, there, used, b, front, numbered, after,
     )?;
-    let ends = terminator(
+    match terminator(
         alloc,
         function,
         all,
@@ -87,8 +87,10 @@ fn late_in(
         front,
         &numbered.instr,
         after,
-    )?;
-    Ok(first(across, ends))
+    ) {
+        Ok(ends) => Ok(first(across, ends)),
+        Err(_) => Err(Memory),
+    }
 }
 
 /// What is told first of a site where its registers are available.
