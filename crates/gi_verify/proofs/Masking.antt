@@ -14,7 +14,7 @@ use Rattle.gi_mir.specs.Formed.{has_access, fits_one_of, is_formed, is_in_range}
 use Rattle.gi_mir.specs.Row.{access_of, rows_of}
 use Rattle.gi_meaning.specs.Runs.{is_among}
 use Rattle.gi_valid.specs.Available.{is_physical_at_start, is_physical_there}
-use Rattle.gi_valid.specs.Definitions.{defines_physical, reads_physical}
+use Rattle.gi_valid.specs.Definitions.{defines_physical}
 use Rattle.gi_valid.specs.Faults.{is_used_first}
 use Rattle.gi_verify.specs.declared.effects.Effect.{Effect}
 use Rattle.gi_verify.specs.declared.mask.Mask.{Mask}

@@ -1,4 +1,4 @@
-use Rattle.std.proofs.Common.{◌≤◌, ◌<◌, ◌+◌, length, get_or, take, take_all, sym, subst, arith}
+use Rattle.std.proofs.Common.{◌≤◌, ◌<◌, length, get_or, take, take_all, sym, subst, arith}
 use Rattle.gi_verify.specs.Counted.{AreTallied}
 use Rattle.gi_verify.proofs.Counting.{none_tallied, one_tallied}
 use Rattle.gi_verify.proofs.Marking.{taken_next}

@@ -1,4 +1,4 @@
-use Rattle.std.proofs.Common.{◌<◌, length, sym, subst, rules, arith}
+use Rattle.std.proofs.Common.{◌<◌, length, sym, subst, rules}
 use Rattle.gi_mir.specs.Edit.{block_at}
 use Rattle.gi_verify.proofs.Masking.{effects_length, there_next}
 use Rattle.gi_verify.proofs.physical.there_with.Goals as goal
