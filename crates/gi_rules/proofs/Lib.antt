@@ -1,1 +1,4 @@
 mod Examples
+mod FittingExamples
+mod IllegalLines
+mod ToldLines

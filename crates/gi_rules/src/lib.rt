@@ -1,5 +1,6 @@
-//! Legality: the instructions that stand behind the legaliser.
+//! Legality: the instructions that stand behind the legaliser, and which fit a stage.
 #![tactic(auto)]
 
+pub mod fitting;
 pub mod legal;
 pub mod table;
