@@ -3,7 +3,9 @@ pub mod AnswerLemmas
 pub mod AnyTexts
 pub mod ClassedRuns
 pub mod CompileLaws
+pub mod IllegalLines
 pub mod LegalOutput
+pub mod LegalSames
 pub mod LowestFaults
 pub mod MachineSums
 pub mod MessageLemmas

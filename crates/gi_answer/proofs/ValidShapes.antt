@@ -31,7 +31,7 @@ use Rattle.gi_answer.specs.Messages.{unbuilt_line}
 use Rattle.gi_answer.specs.Selectable.{IsOneBlock, IsSelectable, AllSelectable}
 use Rattle.gi_answer.specs.Shapes.{is_banked_word, is_argument, is_short, is_plain, is_copied, is_short_constant, is_sum, is_returned, are_shaped, is_shaped, ShapedInstr, CopyIn, MakeConstant, AddUp, CopyOut, Return, word_kind, shaped_instr, IsShapedInstr, stands_behind, defined_after, are_in_order}
 use Rattle.gi_answer.specs.Unselected.{other_line, other_in_instrs, other_in_blocks, has_several, is_blank, last_of, blank_message, unselected, unselected_in_function, unselected_in}
-use Rattle.gi_answer.specs.Unrun.{selects, unbuilt, unprinted}
+use Rattle.gi_answer.specs.Unrun.{selects, unbuilt, unrun}
 use Rattle.gi_answer.specs.Validity.{AreValid}
 use Rattle.gi_options.specs.declared.machine.Machine.{Machine}
 use Rattle.gi_answer.proofs.SelectFronts.{defines_next}
@@ -347,4 +347,4 @@ pub built_selectable : (x : ℕ) (phase : Phase) (start stop : Pass) (machine : 
     → AllSelectable fs
 built_selectable x phase start stop machine [] valid built so = tt
 built_selectable x phase start stop machine (f ∷ fs) valid built so =
-    selected_all x phase (f ∷ fs) valid (sym (ap (λ (t : Bool). if t then unselected (f ∷ fs) else unprinted start stop (f ∷ fs)) so) ∙ built)
+    selected_all x phase (f ∷ fs) valid (sym (ap (λ (t : Bool). if t then unselected (f ∷ fs) else unrun start stop) so) ∙ built)

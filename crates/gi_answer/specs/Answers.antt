@@ -1,5 +1,5 @@
 -- What the program answers to an input: the text that it writes, or why it refuses the input.
-use Rattle.std.specs.Prelude.{◌≡◌, ◌⊎◌, ℕ, ◌≤◌, ◌<◌, Bool, true, false, List, length, codes, Option, Some, None, Result, Ok, Err}
+use Rattle.std.specs.Prelude.{◌≡◌, ◌⊎◌, ℕ, ◌≤◌, ◌<◌, Bool, true, false, List, [], length, codes, Option, Some, None, Result, Ok, Err}
 use Rattle.gi_mir.specs.Data.{ModuleData}
 use Rattle.gi_mir.specs.Numbering.{numbered_module}
 use Rattle.gi_observe.specs.declared.pass.Pass.{Pass}
@@ -11,6 +11,7 @@ use Rattle.gi_spelling.specs.Read.{IsReadModule}
 use Rattle.gi_spelling.specs.declared.written.Wrong.{Wrong}
 use Rattle.gi_answer.specs.Checks.{check_of}
 use Rattle.gi_options.specs.declared.machine.Machine.{Machine}
+use Rattle.gi_answer.specs.Legality.{SaysIllegalOf, illegal_for}
 use Rattle.gi_answer.specs.Messages.{message_of_wrong, not_built}
 use Rattle.gi_options.specs.Options.{OptionsData, options_of}
 use Rattle.gi_answer.specs.Selection.{IsSelectedModule}
@@ -37,6 +38,7 @@ pub record IsChecked (options : OptionsData) (read : List ℕ) (start : Pass) (m
   pub reads : IsReadModule read source
   pub right : check_of options.target start read source ≡ Ok machine
   pub valid : AreValidFor machine start source.functions
+  pub fits : illegal_for machine start source.functions ≡ []
 
 -- the text of what is selected from a module, with its registers numbered by first appearance
 pub record IsSelectedText (source : ModuleData) (written : List ℕ) : Type 0 where
@@ -106,6 +108,17 @@ pub record IsInvalidModule (options : OptionsData) (read message : List ℕ) : T
   pub right : check_of options.target start read source ≡ Ok machine
   pub fault : SaysFaultOf machine start source.functions message
 
+-- an instruction doesn't fit the stage in which the start leaves it
+pub record IsIllegalModule (options : OptionsData) (read message : List ℕ) : Type 0 where
+  pub start : Pass
+  pub started : options.start ≡ Some start
+  pub machine : Machine
+  pub source : ModuleData
+  pub reads : IsReadModule read source
+  pub right : check_of options.target start read source ≡ Ok machine
+  pub valid : AreValidFor machine start source.functions
+  pub fault : SaysIllegalOf machine start source.functions message
+
 -- a pass that is to be run isn't built, or not for such a module
 pub record IsNotBuilt (options : OptionsData) (read message : List ℕ) : Type 0 where
   pub start : Pass
@@ -117,7 +130,11 @@ pub record IsNotBuilt (options : OptionsData) (read message : List ℕ) : Type 0
 abbrev pub IsRefusedText : (options : OptionsData) (read message : List ℕ) → Type 0
 IsRefusedText options read message =
     IsUntranslated options message
-    ⊎ (IsWrongText options read message ⊎ (IsWrongModule options read message ⊎ (IsInvalidModule options read message ⊎ IsNotBuilt options read message)))
+    ⊎ (IsWrongText options read message
+    ⊎ (IsWrongModule options read message
+    ⊎ (IsInvalidModule options read message
+    ⊎ (IsIllegalModule options read message
+    ⊎ IsNotBuilt options read message))))
 
 abbrev pub IsRefusal : (options : OptionsData) (read message : List ℕ) → Type 0
 IsRefusal options read message = IsTooLong read message ⊎ ((length read ≤ limit) × IsRefusedText options read message)

@@ -2,6 +2,7 @@ pub mod AddRuns
 pub mod Answers
 pub mod Checks
 pub mod Keys
+pub mod Legality
 pub mod Messages
 pub mod NormalForm
 pub mod Promise

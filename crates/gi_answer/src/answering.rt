@@ -12,6 +12,7 @@ ghost use Rattle.gi_answer.specs.Selectable.{AllSelectable};
 ghost use Rattle.gi_observe.specs.Passes.{word_of};
 
 use crate::checks::{check, slice};
+use crate::legality::check_legal;
 use crate::messages::{Refused, not_built, syntax, unknown};
 use crate::select::select_module;
 use crate::unrun::{check_built, selects};
@@ -111,13 +112,10 @@ fn checked(
     ensures passes { IfOk result (λ machine. IsChecked options.now text.now start machine m.now) }
     ensures refused { IfErr result (λ why. Tells why (IsRefusedText options.now text.now)) }
 {
-    match check(alloc, options.target, start, text, m) {
-        Ok(machine) => match check_valid(alloc, machine, start, m.functions.as_slice()) {
-            Ok(()) => Ok(machine),
-            Err(why) => Err(why),
-        },
-        Err(why) => Err(why),
-    }
+    let machine = check(alloc, options.target, start, text, m)?;
+    check_valid(alloc, machine, start, m.functions.as_slice())?;
+    check_legal(alloc, machine, start, m.functions.as_slice())?;
+    Ok(machine)
 }
 
 /// The text for a module that was read.

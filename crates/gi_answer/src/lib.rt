@@ -6,6 +6,7 @@ mod checks;
 mod example;
 mod keys;
 mod laws;
+mod legality;
 mod messages;
 mod normal_form;
 mod same;

@@ -59,6 +59,14 @@ pub fn limit(alloc: Global, line: u32, number: u64) -> Result<Vec<u8>, Memory>
     Ok(text.into_bytes())
 }
 
+/// An instruction doesn't fit its stage.
+pub fn not_legal(alloc: Global, line: u32, word: &str) -> Result<Vec<u8>, Memory>
+    ensures { IfOk result (λ message. message.items ≡ at_line line (codes "not legal " ++ word.now)) }
+{
+    let text = format!(in alloc; "gisel: line {line}: not legal {word}").map_err(|_| Memory)?;
+    Ok(text.into_bytes())
+}
+
 /// What a line asks for isn't built.
 pub fn not_built_at(alloc: Global, line: u32, word: &str) -> Result<Vec<u8>, Memory>
     ensures { IfOk result (λ message. message.items ≡ at_line line (codes "not built " ++ word.now)) }

@@ -18,7 +18,7 @@ use gi_verify::{VerifyError, verify};
 use std::alloc::Global;
 
 /// The stage behind a pass.
-fn stage_after(pass: Pass) -> Stage
+pub fn stage_after(pass: Pass) -> Stage
     ensures { result ≡ stage_after pass }
 {
     match pass {

@@ -1,4 +1,4 @@
 mod Examples
 mod FittingExamples
 mod IllegalLines
-mod ToldLines
+pub mod ToldLines
