@@ -25,6 +25,6 @@ module _ (x : ℕ) (stage : Stage) where
   one_function_more fs k f told later within there some none known =
       subst (λ lines. IsTold lines (of_lower_line told later))
       (ap (λ lines. illegal_among x stage (take k fs) ++ lines) (sym (append-nil (illegal_in x stage f)))
-        ∙ sym (among-append (take k fs) (f ∷ [])) ∙ ap (λ g. illegal_among x stage (take k fs ++ g ∷ [])) there
-        ∙ ap (illegal_among x stage) (sym (take_more fs k f within)))
+      ∙ sym (among-append (take k fs) (f ∷ [])) ∙ ap (λ g. illegal_among x stage (take k fs ++ g ∷ [])) there
+      ∙ ap (illegal_among x stage) (sym (take_more fs k f within)))
       (told_of_both (illegal_among x stage (take k fs)) (illegal_in x stage f) told later known (told_by (illegal_in x stage f) later some none))

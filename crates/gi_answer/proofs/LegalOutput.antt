@@ -136,15 +136,15 @@ if_legal x f i false legal = refl
 legalized_legal : (x : ℕ) → IsLegalStage x stage.Legalized
 legalized_legal x = record {
   legal = λ f i fit.
-      let parts = and_parts (stands_on x stage.Legalized i.op) (list_all (is_defined_in stage.Legalized) i.operands && is_legal x f i) fit in
-      if_legal x f i (is_before_selection (standing_of i.op)) (and_parts (list_all (is_defined_in stage.Legalized) i.operands) (is_legal x f i) parts.1).1;
+      let parts = and_parts (stands_on x stage.Legalized i.op && list_all (is_defined_in stage.Legalized) i.operands) (is_legal x f i) fit in
+      if_legal x f i (is_before_selection (standing_of i.op)) parts.1;
 }
 
 banked_legal : (x : ℕ) → IsLegalStage x stage.Banked
 banked_legal x = record {
   legal = λ f i fit.
-      let parts = and_parts (stands_on x stage.Banked i.op) (list_all (is_defined_in stage.Banked) i.operands && is_legal x f i) fit in
-      if_legal x f i (is_before_selection (standing_of i.op)) (and_parts (list_all (is_defined_in stage.Banked) i.operands) (is_legal x f i) parts.1).1;
+      let parts = and_parts (stands_on x stage.Banked i.op && list_all (is_defined_in stage.Banked) i.operands) (is_legal x f i) fit in
+      if_legal x f i (is_before_selection (standing_of i.op)) parts.1;
 }
 
 none_before : (s : Standing) → stands_in stage.Selected s ≡ true → is_before_selection s ≡ false
@@ -155,8 +155,9 @@ none_before standing.Both h = refl
 selected_legal : (x : ℕ) → IsLegalStage x stage.Selected
 selected_legal x = record {
   legal = λ f i fit.
-      let parts = and_parts (stands_on x stage.Selected i.op) (list_all (is_defined_in stage.Selected) i.operands && true) fit in
-      let stands = and_parts (is_opcode_of stage.Selected i.op) (x == 64 || not (is_wide_op i.op)) parts.0 in
+      let parts = and_parts (stands_on x stage.Selected i.op && list_all (is_defined_in stage.Selected) i.operands) true fit in
+      let there = and_parts (stands_on x stage.Selected i.op) (list_all (is_defined_in stage.Selected) i.operands) parts.0 in
+      let stands = and_parts (is_opcode_of stage.Selected i.op) (x == 64 || not (is_wide_op i.op)) there.0 in
       ap (λ (t : Bool). if t then is_legal x f i else true) (none_before (standing_of i.op) stands.0);
 }
 

@@ -26,7 +26,7 @@ pub fn output_is_one()
 {}
 
 /// Where the legaliser has run, what is written is legal: of each function with the key `legalized`, in whatever module the
-/// text spells, each generic instruction is. So far none is left in such a function.
+/// text spells, each generic instruction is.
 pub fn output_is_legal()
     ensures { (words : List (List ℕ)) (read written : List ℕ) → IsOutput words read written → IsLegalText words read written }
 {}

@@ -44,11 +44,10 @@ Passes:
   regbankselect
   instruction-select
 
-  Built so far: a run that starts behind the pass with which it stops, where
-  that is one of the first two (the text is checked, and written in its
-  canonical form), and instruction-select for riscv32, of functions of one
-  block that copy argument registers, make constants of 12 bits, add and
-  return.
+  Built so far: a run that starts behind the pass with which it stops (the
+  text is checked, and written in its canonical form), and
+  instruction-select for riscv32, of functions of one block that copy
+  argument registers, make constants of 12 bits, add and return.
 
 Exit status:
   0
