@@ -5,12 +5,14 @@ ghost use Rattle.std.specs.Prelude.{◌≡◌, ◌↔◌, IsTrue, ◌-◌, ◌^�
 ghost use Rattle.gi_mir.specs.Edit.{block_at, head_of, ids_of, empty_function, register_above, above_registers, with_block, with_stack, with_keys, spot_in, with_instr, home_of, place_in_block, IsLive, StandsBefore, instr_of, id_at, id_after, id_before, without_instr, with_new_reg, CanSetOperand, with_operand_of, IsDefAt, with_changed, with_kind, definition_of, users_of, uses, all_instrs};
 ghost use Rattle.gi_mir.specs.Formed.{is_formed};
 ghost use Rattle.gi_mir.specs.Ids.{AreOwnIds};
+ghost use Rattle.gi_mir.specs.Instrs.{left};
 ghost use Rattle.gi_mir.specs.Places.{id_in};
 ghost use Rattle.gi_mir.specs.Registers.{kind_in_operand, kind_in_operands, kind_of};
 ghost use Rattle.gi_mir.specs.Uses.{with_reg_replaced, IsPartlyReplaced};
 
 use crate::block::{Block, Body, InstrId, Numbered};
 use crate::instr::Instr;
+use crate::instrs::Instrs;
 use crate::layout::{Layout, place_among, stands_at};
 use crate::mentions::{definition_key, first, use_key};
 use crate::operand::{Kind, Operand, Reg, StackObject};
@@ -158,12 +160,13 @@ impl Function {
     }
 
     /// The instructions of a block, in order.
-    pub fn instrs(&self, block: u32) -> &[Numbered]
+    pub fn instrs(&self, block: u32) -> Instrs<'_>
         requires { block < length self.now.blocks }
-        ensures { result.now ≡ (block_at self.now block).instrs }
+        ensures left { left result ≡ (block_at self.now block).instrs }
+        ensures fits { length (block_at self.now block).instrs < 2 ^ 64 }
     {
         let body = &self.layout.blocks[block as usize];
-        body.instrs.as_slice()
+        Instrs::new(body.instrs.as_slice())
     }
 
     /// Puts an instruction before the one that is named in this block, or last, and answers its id. Those behind

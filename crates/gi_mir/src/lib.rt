@@ -7,6 +7,7 @@ pub mod entry;
 pub mod formed;
 pub mod function;
 pub mod instr;
+pub mod instrs;
 mod layout;
 mod mentions;
 pub mod module;

@@ -1,0 +1,7 @@
+-- The instructions that an iterator over a block still gives.
+use Rattle.std.specs.Prelude.{ℕ, List}
+use Rattle.gi_mir.specs.Data.{InstrData}
+use Rattle.gi_mir.specs.declared.instrs.Instrs.{Instrs}
+
+unfoldable pub left : Instrs → List (ℕ × InstrData)
+left it = it.rest.now
