@@ -4,6 +4,7 @@ ghost use Rattle.std.specs.Prelude.{◌≡◌, ◌++◌, ◌∷◌, ◌<◌, ◌
 ghost use Rattle.std.specs.List.{list_any};
 ghost use Rattle.gi_llt.specs.Tokens.{Spaces, piece_bytes};
 ghost use Rattle.gi_spelling.specs.Printed.{sources_pieces, instr_line, instr_lines, falls_through, implied_successors, block_pieces, physical_pieces, block_head_pieces, states_successors, liveins_lines, set_off, block_lines, text_of};
+ghost use Rattle.gi_mir.specs.Instrs.{left};
 ghost use Rattle.gi_mir.specs.Row.{is_unconditional_op, is_branch_op};
 ghost use Rattle.gi_mir_print.specs.Shown.{kind_at, shown_instr, shown_instrs, is_target, has_target, gap_after, successors_stated};
 
@@ -12,6 +13,7 @@ use crate::pieces::{push, push_block, push_number, push_physical};
 use crate::registers::Registers;
 use gi_llt::Memory;
 use gi_mir::block::{Block, Numbered};
+use gi_mir::instrs::Instrs;
 use gi_mir::names::Names;
 use gi_mir::operand::Operand;
 
@@ -33,10 +35,10 @@ fn push_line(
 fn push_lines(
     registers: &Registers,
     names: &Names,
-    instrs: &[Numbered],
+    instrs: Instrs<'_>,
     out: &mut Vec<u8>,
 ) -> Result<(), Memory>
-    ensures { OnOk result (out.new.items ≡ out.old.items ++ text_of (instr_lines (kind_at registers.now) names.now (shown_instrs registers.now instrs.now))) }
+    ensures { OnOk result (out.new.items ≡ out.old.items ++ text_of (instr_lines (kind_at registers.now) names.now (shown_instrs registers.now (left instrs.entry)))) }
 {
     for numbered in instrs {
         push_line(registers, names, numbered, out)?;
@@ -158,10 +160,11 @@ fn has_target(numbered: &Numbered) -> bool
 }
 
 /// Whether an instruction branches to a block.
-fn any_branch(instrs: &[Numbered]) -> bool
-    ensures { result ≡ list_any has_target instrs.now }
+fn any_branch(instrs: Instrs<'_>) -> bool
+    ensures { result ≡ list_any has_target (left instrs.entry) }
 {
-    instrs.iter().any(|numbered| has_target(numbered))
+    let mut rest = instrs;
+    rest.any(|numbered| has_target(numbered))
 }
 
 /// Whether what follows an instruction may run after it.
@@ -172,19 +175,19 @@ fn goes_on(numbered: &Numbered) -> bool
 }
 
 /// Whether control may go past the end of the instructions.
-fn falls_through(instrs: &[Numbered]) -> bool
-    ensures { result ≡ falls_through instrs.now }
+fn falls_through(instrs: Instrs<'_>) -> bool
+    ensures { result ≡ falls_through (left instrs.entry) }
 {
-    match instrs {
-        [] => true,
-        [.., last] => goes_on(last),
+    match instrs.last() {
+        None => true,
+        Some(last) => goes_on(last),
     }
 }
 
 /// Whether control may go on to the next block.
-fn goes_past(place: u32, count: u32, instrs: &[Numbered]) -> bool
+fn goes_past(place: u32, count: u32, instrs: Instrs<'_>) -> bool
     requires { place < count }
-    ensures { result ≡ (falls_through instrs.now && not (place + 1 == count)) }
+    ensures { result ≡ (falls_through (left instrs.entry) && not (place + 1 == count)) }
 {
     falls_through(instrs) && place + 1 != count
 }
@@ -197,17 +200,17 @@ fn either(first: bool, second: bool) -> bool
 }
 
 /// Whether a block that states no successors would have some.
-fn has_implied(place: u32, count: u32, instrs: &[Numbered]) -> bool
+fn has_implied(place: u32, count: u32, instrs: Instrs<'_>) -> bool
     requires { place < count }
-    ensures { result ≡ states_successors [] (implied_successors place count instrs.now) }
+    ensures { result ≡ states_successors [] (implied_successors place count (left instrs.entry)) }
 {
     either(goes_past(place, count, instrs), any_branch(instrs))
 }
 
 /// Whether a block has a line of its successors.
-fn states_successors(place: u32, count: u32, successors: &[u32], instrs: &[Numbered]) -> bool
+fn states_successors(place: u32, count: u32, successors: &[u32], instrs: Instrs<'_>) -> bool
     requires { place < count }
-    ensures { result ≡ states_successors successors.now (implied_successors place count instrs.now) }
+    ensures { result ≡ states_successors successors.now (implied_successors place count (left instrs.entry)) }
 {
     !successors.is_empty() || has_implied(place, count, instrs)
 }
@@ -219,11 +222,11 @@ pub(crate) fn push_block_lines(
     place: u32,
     count: u32,
     block: &Block,
-    instrs: &[Numbered],
+    instrs: Instrs<'_>,
     out: &mut Vec<u8>,
 ) -> Result<(), Memory>
     requires { place < count }
-    ensures { OnOk result (out.new.items ≡ out.old.items ++ text_of (block_lines (kind_at registers.now) names.now place count (record { successors = block.now.successors; liveins = block.now.liveins; instrs = shown_instrs registers.now instrs.now }))) }
+    ensures { OnOk result (out.new.items ≡ out.old.items ++ text_of (block_lines (kind_at registers.now) names.now place count (record { successors = block.now.successors; liveins = block.now.liveins; instrs = shown_instrs registers.now (left instrs.entry) }))) }
 {
     push_head(place, out)?;
     let successors = block.successors.as_slice();

@@ -1,6 +1,7 @@
 //! What a printer knows of a function's registers.
 
 ghost use Rattle.std.specs.Prelude.{◌≡◌, ℕ, [], unwrap_or, flat_map, OnOk, IfOk};
+ghost use Rattle.gi_mir.specs.Instrs.{left};
 ghost use Rattle.gi_mir.specs.Numbering.{number_in, with_register, order_of, registers_in_operand, registers_in_instr};
 ghost use Rattle.gi_mir.specs.Registers.{first_there, kind_in_operand, kind_in_operands, kind_in_instrs, kind_in_blocks};
 ghost use Rattle.gi_registers.specs.Noted.{kind_noted};
@@ -9,6 +10,7 @@ ghost use Rattle.gi_mir_print.specs.Shown.{IsNoted, kind_at};
 use gi_llt::Memory;
 use gi_mir::block::Numbered;
 use gi_mir::function::Function;
+use gi_mir::instrs::Instrs;
 use gi_mir::operand::{Kind, Operand, Reg};
 use gi_registers::kinds::RegisterKinds;
 use gi_registers::set::RegisterSet;
@@ -112,8 +114,8 @@ impl Registers {
     }
 
     /// Notes the registers of a block.
-    fn note_instrs(&mut self, instrs: &[Numbered]) -> Result<(), Memory>
-        ensures { OnOk result (IsNoted self.old self.new (flat_map registers_in_instr instrs.now) (λ r. kind_in_instrs r instrs.now)) }
+    fn note_instrs(&mut self, instrs: Instrs<'_>) -> Result<(), Memory>
+        ensures { OnOk result (IsNoted self.old self.new (flat_map registers_in_instr (left instrs.entry)) (λ r. kind_in_instrs r (left instrs.entry))) }
     {
         for numbered in instrs {
             self.note_instr(numbered)?;

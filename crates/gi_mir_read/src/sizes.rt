@@ -2,6 +2,7 @@
 
 ghost use Rattle.std.specs.Prelude.{◌≡◌, ◌≤◌, ◌<◌, ◌^◌, ◌⊎◌, ℕ, ◌+◌, None, Some, flat_map, length, if◌then◌else◌, OnOk, IfErr};
 ghost use Rattle.std.specs.List.{list_any};
+ghost use Rattle.gi_mir.specs.Instrs.{left};
 ghost use Rattle.gi_mir.specs.Registers.{kind_of, type_of_kind};
 ghost use Rattle.gi_mir.specs.Row.{rows_of};
 ghost use Rattle.gi_mir.specs.Types.{is_any};
@@ -15,6 +16,7 @@ use gi_mir::accepted::{
 use gi_mir::block::Numbered;
 use gi_mir::function::Function;
 use gi_mir::instr::Instr;
+use gi_mir::instrs::Instrs;
 use gi_mir::module::Module;
 use gi_mir::opcode::Opcode;
 use gi_mir::operand::{Kind, MemOp, Operand, Reg, StackObject};
@@ -626,12 +628,12 @@ fn with_instrs(
     target: Target,
     f: &Function,
     before: u32,
-    instrs: &[Numbered],
+    instrs: Instrs<'_>,
 ) -> (Option<Fault>, u32)
     requires target { (target.xlen ≡ 32) ⊎ (target.xlen ≡ 64) }
     requires before { before ≤ 262145 }
-    ensures lowest { result.0 ≡ lowest_after lowest (instrs_faults target.xlen (kind_of f.now) before instrs.now) }
-    ensures counted { result.1 ≡ counted before instrs.now }
+    ensures lowest { result.0 ≡ lowest_after lowest (instrs_faults target.xlen (kind_of f.now) before (left instrs.entry)) }
+    ensures counted { result.1 ≡ counted before (left instrs.entry) }
     ensures within { result.1 ≤ 262145 }
 {
     let mut lowest = lowest;
@@ -656,13 +658,11 @@ fn with_blocks(lowest: Option<Fault>, target: Target, f: &Function) -> Option<Fa
 }
 
 /// The line of the first of some instructions.
-fn line_of(instrs: &[Numbered]) -> Option<u32>
-    ensures { result ≡ line_of instrs.now }
+fn line_of(instrs: Instrs<'_>) -> Option<u32>
+    ensures { result ≡ line_of (left instrs.entry) }
 {
-    match instrs {
-        [first, ..] => Some(first.instr.line),
-        [] => None,
-    }
+    let mut rest = instrs;
+    rest.next().map(|first| first.instr.line)
 }
 
 /// The line of the first instruction of a function in layout, and 1 without one.
