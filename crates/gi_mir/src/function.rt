@@ -162,8 +162,7 @@ impl Function {
     /// The instructions of a block, in order.
     pub fn instrs(&self, block: u32) -> Instrs<'_>
         requires { block < length self.now.blocks }
-        ensures left { left result ≡ (block_at self.now block).instrs }
-        ensures fits { length (block_at self.now block).instrs < 2 ^ 64 }
+        ensures { left result ≡ (block_at self.now block).instrs }
     {
         let body = &self.layout.blocks[block as usize];
         Instrs::new(body.instrs.as_slice())

@@ -1,6 +1,6 @@
 //! The instructions of a block, one after the other.
 
-ghost use Rattle.std.specs.Prelude.{◌≡◌, take};
+ghost use Rattle.std.specs.Prelude.{◌≡◌, length, take};
 ghost use Rattle.std.specs.Iterator.{YieldsFirstRef, item_count};
 ghost use Rattle.gi_mir.specs.Instrs.{left};
 
@@ -19,6 +19,14 @@ impl<'a> Instrs<'a> {
         ensures { left result ≡ rest.entry.now }
     {
         Instrs { rest }
+    }
+
+    /// How many there are.
+    #[tactic(auto, unfolding(crate::specs::Instrs::left))]
+    pub fn len(self) -> usize
+        ensures { result ≡ length (left self.entry) }
+    {
+        self.rest.len()
     }
 
     /// Those that come first, at most so many.
