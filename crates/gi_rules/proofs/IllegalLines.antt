@@ -18,13 +18,11 @@ module _ (x : ℕ) (stage : Stage) (f : FunctionData) where
   abbrev line_of : ℕ × InstrData → Option (ℕ × Opcode)
   line_of i = illegal_line x stage f i.1
 
-  pub one_instr_more : (is : List (ℕ × InstrData)) (k : ℕ) (i : ℕ × InstrData) (told : Option (ℕ × Opcode)) → k < length is → i ≡ get_or is k i
-      → IsTold (illegal_in_instrs x stage f (take k is)) told → IsTold (illegal_in_instrs x stage f (take (k + 1) is)) (of_lower_line told (illegal_line x stage f i.1))
-  one_instr_more is k i told within there known =
-      subst (λ lines. IsTold lines (of_lower_line told (illegal_line x stage f i.1)))
-      (sym (filter_map-append line_of (take k is) (i ∷ [])) ∙ ap (λ js. filter_map line_of (take k is ++ js ∷ [])) there
-      ∙ ap (filter_map line_of) (sym (take_more is k i within)))
-      (told_of_both (illegal_in_instrs x stage f (take k is)) (cons_option (illegal_line x stage f i.1) []) told (illegal_line x stage f i.1) known (told_of_one (illegal_line x stage f i.1)))
+  pub one_instr_more : (is : List (ℕ × InstrData)) (i : ℕ × InstrData) (told : Option (ℕ × Opcode))
+      → IsTold (illegal_in_instrs x stage f is) told → IsTold (illegal_in_instrs x stage f (is ++ i ∷ [])) (of_lower_line told (illegal_line x stage f i.1))
+  one_instr_more is i told known =
+      subst (λ lines. IsTold lines (of_lower_line told (illegal_line x stage f i.1))) (sym (filter_map-append line_of is (i ∷ [])))
+      (told_of_both (illegal_in_instrs x stage f is) (cons_option (illegal_line x stage f i.1) []) told (illegal_line x stage f i.1) known (told_of_one (illegal_line x stage f i.1)))
 
   blocks-append : (bs cs : List BlockData) → illegal_in_blocks x stage f (bs ++ cs) ≡ illegal_in_blocks x stage f bs ++ illegal_in_blocks x stage f cs
   blocks-append [] cs = refl

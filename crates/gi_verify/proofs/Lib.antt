@@ -18,5 +18,6 @@ pub mod Placing
 pub mod Rising
 pub mod Same
 pub mod Sooner
+pub mod Splitting
 pub mod Told
 pub mod Unmet

@@ -18,6 +18,7 @@ use Rattle.gi_valid.specs.Definitions.{defines_physical}
 use Rattle.gi_valid.specs.Faults.{is_used_first}
 use Rattle.gi_verify.specs.declared.effects.Effect.{Effect}
 use Rattle.gi_verify.specs.declared.mask.Mask.{Mask}
+use Rattle.gi_verify.proofs.Splitting.{IsSplit}
 use Rattle.gi_verify.specs.Masks.{has, AreEffects, AreUsedBehind, IsEffect, IsMaskOf}
 use Rattle.gi_verify.proofs.Counting.{swapped}
 use Rattle.gi_verify.proofs.Growing.{among_more}
@@ -158,10 +159,10 @@ effects_append (j ∷ is) (f ∷ es) i e are one = (are.0, effects_append is es 
 effects_append [] (f ∷ es) i e are one = absurd are
 effects_append (j ∷ is) [] i e are one = absurd are
 
-pub effects_with : (is : List (ℕ × InstrData)) (k : ℕ) (i : ℕ × InstrData) → k < length is → i ≡ get_or is k i → (old new : List Effect) (e : Effect) → AreEffects (take k is) old → IsEffect i e → new ≡ old ++ e ∷ [] → AreEffects (take (k + 1) is) new
-effects_with is k i within at old new e are one grown =
-    subst (λ l. AreEffects l new) (ap (λ j. take k is ++ j ∷ []) at ∙ sym (ap (λ j. take j is) (add-one k) ∙ take-suc is k i within))
-    (subst (AreEffects (take k is ++ i ∷ [])) (sym grown) (effects_append (take k is) old i e are one))
+pub effects_with : (is : List (ℕ × InstrData)) (k : ℕ) (i : ℕ × InstrData) (after : List (ℕ × InstrData)) → IsSplit is k i after → (old new : List Effect) (e : Effect) → AreEffects (take k is) old → IsEffect i e → new ≡ old ++ e ∷ []
+    → AreEffects (take (k + 1) is) new
+effects_with is k i after split old new e are one grown =
+    subst (λ l. AreEffects l new) (sym split.front) (subst (AreEffects (take k is ++ i ∷ [])) (sym grown) (effects_append (take k is) old i e are one))
 
 pub effects_all : (is : List (ℕ × InstrData)) (k : ℕ) (es : List Effect) → length is ≤ k → AreEffects (take k is) es → AreEffects is es
 effects_all is k es past are = subst (λ l. AreEffects l es) (take_all k is past) are

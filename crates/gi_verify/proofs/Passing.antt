@@ -48,7 +48,3 @@ passed_one front n old new before terminator unconditional late phis = record {
   lates = late ∙ ap (λ b. b || is_late front n.1) before.lates ∙ sym (late_with [] front n);
   each = phis ∙ ap (λ b. b && is_phi n.1) before.each ∙ sym (all_with (λ p. is_phi p.1) front n);
 }
-
-pub passed_taken : (instrs : List (ℕ × InstrData)) (k : ℕ) (n : ℕ × InstrData) (passed : Passed) → k < length instrs → n ≡ get_or instrs k n → IsPassed (take k instrs ++ n ∷ []) passed → IsPassed (take (k + 1) instrs) passed
-passed_taken instrs k n passed within is one =
-    subst (λ l. IsPassed l passed) (ap (λ i. take k instrs ++ i ∷ []) is ∙ sym (ap (λ j. take j instrs) (add-one k) ∙ take-suc instrs k n within)) one

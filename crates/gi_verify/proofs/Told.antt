@@ -20,64 +20,39 @@ on_ok : {T E : Type 0} (r : Result T E) (P Q : Type 0) → (P → Q) → OnOk r 
 on_ok (Ok v) P Q f h = f h
 on_ok (Err e) P Q f h = h
 
-pub site_told : (x : ℕ) (phase : Phase) (f : FunctionData) (b : ℕ) (instrs : List (ℕ × InstrData)) (k : ℕ) → k < length instrs → (n : ℕ × InstrData) → n ≡ get_or instrs k n
-    → (front after : List (ℕ × InstrData)) → front ≡ take k instrs → after ≡ drop (k + 1) instrs → (what : Option Invalid)
+pub site_told : (x : ℕ) (phase : Phase) (f : FunctionData) (b : ℕ) (front : List (ℕ × InstrData)) (n : ℕ × InstrData) (after : List (ℕ × InstrData)) (what : Option Invalid)
     → ((extents : ℕ → Extent) → ((r : ℕ) → IsGreatest f r (extents r)) → what ≡ fault_in x phase f extents (record { block = b; before = front; instr = n.1; after = after }))
-    → (old new : List Fault) → {T E : Type 0} (r : Result T E) → OnOk r (new ≡ old ++ with_fault n.1.line what []) → OnOk r (IsTold x phase f b instrs k old new)
-site_told x phase f b instrs k within n is front after front_is after_is what says old new r put =
-    on_ok r (new ≡ old ++ with_fault n.1.line what []) (IsTold x phase f b instrs k old new) (λ grown. record {
-      by = λ extents greatest i here.
-          let same : n ≡ i = is ∙ same_Some (get_or instrs k n) i (sym (slice_get-get_or instrs k n within) ∙ here) in
-          grown
-          ∙ ap (λ w. old ++ with_fault n.1.line w []) (says extents greatest ∙ ap₂ (λ l m. fault_in x phase f extents (record { block = b; before = l; instr = n.1; after = m })) front_is after_is)
-          ∙ ap (λ (j : ℕ × InstrData). old ++ with_fault j.1.line (fault_in x phase f extents (record { block = b; before = take k instrs; instr = j.1; after = drop (k + 1) instrs })) []) same;
-    }) put
+    → (old new : List Fault) → {T E : Type 0} (r : Result T E) → OnOk r (new ≡ old ++ with_fault n.1.line what []) → OnOk r (IsTold x phase f b front n after old new)
+site_told x phase f b front n after what says old new r put =
+    on_ok r (new ≡ old ++ with_fault n.1.line what []) (IsTold x phase f b front n after old new)
+    (λ grown. record { by = λ extents greatest. grown ∙ ap (λ w. old ++ with_fault n.1.line w []) (says extents greatest) }) put
 
--- of the sites from one on
-abbrev pub left_in : (x : ℕ) → Phase → FunctionData → (extents : ℕ → Extent) → (b : ℕ) → List (ℕ × InstrData) → (k : ℕ) → List Fault
-left_in x phase f extents b instrs k = told (fault_in x phase f extents) (sites_in b (take k instrs) (drop k instrs))
+-- what is told of those in front, and then of the rest, is what is told of all
+pub record AreToldTo (x : ℕ) (phase : Phase) (f : FunctionData) (b : ℕ) (all front rest : List (ℕ × InstrData)) (old new : List Fault) : Type 0 where
+  pub by : (extents : ℕ → Extent) → ((r : ℕ) → IsGreatest f r (extents r)) → new ++ told (fault_in x phase f extents) (sites_in b front rest) ≡ old ++ told (fault_in x phase f extents) (sites_in b [] all)
 
-pub record AreToldTo (x : ℕ) (phase : Phase) (f : FunctionData) (b : ℕ) (instrs : List (ℕ × InstrData)) (k : ℕ) (old new : List Fault) : Type 0 where
-  pub by : (extents : ℕ → Extent) → ((r : ℕ) → IsGreatest f r (extents r)) → new ++ left_in x phase f extents b instrs k ≡ old ++ told (fault_in x phase f extents) (sites_in b [] instrs)
-
-pub none_told : (x : ℕ) (phase : Phase) (f : FunctionData) (b : ℕ) (instrs : List (ℕ × InstrData)) (old : List Fault) → AreToldTo x phase f b instrs 0 old old
-none_told x phase f b instrs old = record { by = λ extents greatest. refl }
+pub none_told : (x : ℕ) (phase : Phase) (f : FunctionData) (b : ℕ) (all : List (ℕ × InstrData)) (old : List Fault) → AreToldTo x phase f b all [] all old old
+none_told x phase f b all old = record { by = λ extents greatest. refl }
 
 in_front_of : (line : ℕ) (what : Option Invalid) (rest : List Fault) → with_fault line what [] ++ rest ≡ with_fault line what rest
 in_front_of line None rest = refl
 in_front_of line (Some what) rest = refl
 
-taken_more : (xs : List (ℕ × InstrData)) (k : ℕ) (d : ℕ × InstrData) → k < length xs → take k xs ++ get_or xs k d ∷ [] ≡ take (k + 1) xs
-taken_more xs k d h = sym (ap (λ n. take n xs) (add-one k) ∙ take-suc xs k d h)
-
-some_instr : (instrs : List (ℕ × InstrData)) (k : ℕ) → k < length instrs → (i : ℕ × InstrData) × (slice_get instrs k ≡ Some i) × ((d : ℕ × InstrData) → get_or instrs k d ≡ i)
-some_instr [] k h = absurd (omega arith)
-some_instr (i ∷ is) zero h = (i, refl, λ d. refl)
-some_instr (i ∷ is) (suc k) h = let low : k < length is = omega (arith, h) in some_instr is k low
-
-pub one_told : (x : ℕ) (phase : Phase) (f : FunctionData) (b : ℕ) (instrs : List (ℕ × InstrData)) (k : ℕ) → k < length instrs → (old mid new : List Fault) → AreToldTo x phase f b instrs k old mid → IsTold x phase f b instrs k mid new
-    → AreToldTo x phase f b instrs (k + 1) old new
-one_told x phase f b instrs k within old mid new are one =
-    let at : (i : ℕ × InstrData) × (slice_get instrs k ≡ Some i) × ((d : ℕ × InstrData) → get_or instrs k d ≡ i) = some_instr instrs k within in
-    record {
-      by = λ extents greatest.
-          let g : Site → Option Invalid = fault_in x phase f extents in
-          let site : Site = record { block = b; before = take k instrs; instr = (at.0).1; after = drop (k + 1) instrs } in
-          let rest : List Fault = left_in x phase f extents b instrs (k + 1) in
-          let step : left_in x phase f extents b instrs k ≡ with_fault (at.0).1.line (g site) rest =
-          ap (λ l. told g (sites_in b (take k instrs) l)) (drop_step instrs k at.0 within ∙ ap (λ i. i ∷ drop (k + 1) instrs) (at.2 at.0))
-          ∙ ap (λ l. with_fault (at.0).1.line (g site) (told g (sites_in b l (drop (k + 1) instrs)))) (ap (λ i. take k instrs ++ i ∷ []) (sym (at.2 at.0)) ∙ taken_more instrs k at.0 within) in
-          ap (λ l. l ++ rest) (one.by extents greatest at.0 at.1)
-          ∙ append_assoc mid (with_fault (at.0).1.line (g site) []) rest
-          ∙ ap (λ l. mid ++ l) (in_front_of (at.0).1.line (g site) rest ∙ sym step)
-          ∙ are.by extents greatest;
-    }
-
-pub all_told : (x : ℕ) (phase : Phase) (f : FunctionData) (b : ℕ) (instrs : List (ℕ × InstrData)) (k : ℕ) → length instrs ≤ k → (old new : List Fault) → AreToldTo x phase f b instrs k old new → AreTold x phase f b instrs old new
-all_told x phase f b instrs k past old new are = record {
+pub one_told : (x : ℕ) (phase : Phase) (f : FunctionData) (b : ℕ) (all front : List (ℕ × InstrData)) (n : ℕ × InstrData) (after : List (ℕ × InstrData)) (old mid new : List Fault)
+    → AreToldTo x phase f b all front (n ∷ after) old mid → IsTold x phase f b front n after mid new → AreToldTo x phase f b all (front ++ n ∷ []) after old new
+one_told x phase f b all front n after old mid new are one = record {
   by = λ extents greatest.
-      sym (append-nil new) ∙ ap (λ l. new ++ told (fault_in x phase f extents) (sites_in b (take k instrs) l)) (sym (drop_of_length-le instrs past)) ∙ are.by extents greatest;
+      let g : Site → Option Invalid = fault_in x phase f extents in
+      let site : Site = record { block = b; before = front; instr = n.1; after = after } in
+      let rest : List Fault = told g (sites_in b (front ++ n ∷ []) after) in
+      ap (λ l. l ++ rest) (one.by extents greatest)
+      ∙ append_assoc mid (with_fault n.1.line (g site) []) rest
+      ∙ ap (λ l. mid ++ l) (in_front_of n.1.line (g site) rest)
+      ∙ are.by extents greatest;
 }
+
+pub all_told : (x : ℕ) (phase : Phase) (f : FunctionData) (b : ℕ) (all front : List (ℕ × InstrData)) (old new : List Fault) → AreToldTo x phase f b all front [] old new → AreTold x phase f b all old new
+all_told x phase f b all front old new are = record { by = λ extents greatest. sym (append-nil new) ∙ are.by extents greatest }
 
 -- ══ Blocks ══
 

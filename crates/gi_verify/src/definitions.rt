@@ -8,10 +8,12 @@ ghost use Rattle.gi_valid.specs.Faults as faults;
 ghost use Rattle.gi_meaning.specs.InRow.{results_in};
 ghost use Rattle.gi_meaning.specs.Runs.{is_among};
 ghost use Rattle.gi_verify.specs.Counted.{AreCounted, AreTallied, counted, is_once, once_more};
+ghost use Rattle.gi_mir.specs.Instrs.{left};
 
 use gi_llt::Memory;
 use gi_mir::block::Numbered;
 use gi_mir::function::Function;
+use gi_mir::instrs::Instrs;
 use gi_mir::operand::{Operand, Reg};
 use gi_valid::{Fault, Invalid};
 use indexmap::IndexMap;
@@ -52,8 +54,8 @@ fn push_of(out: &mut Vec<(u32, u32)>, numbered: &Numbered) -> Result<(), Memory>
 }
 
 /// Puts the definitions of instructions at the end of a list.
-fn push_among(out: &mut Vec<(u32, u32)>, instrs: &[Numbered]) -> Result<(), Memory>
-    ensures { OnOk result (out.new.items ≡ out.old.items ++ faults.definitions instrs.now) }
+fn push_among(out: &mut Vec<(u32, u32)>, instrs: Instrs<'_>) -> Result<(), Memory>
+    ensures { OnOk result (out.new.items ≡ out.old.items ++ faults.definitions (left instrs.entry)) }
 {
     for numbered in instrs {
         push_of(out, numbered)?;

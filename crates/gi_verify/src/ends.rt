@@ -8,6 +8,7 @@ ghost use Rattle.gi_valid.specs.Available.{predecessors, successors_of};
 ghost use Rattle.gi_valid.specs.Faults as faults;
 ghost use Rattle.gi_verify.specs.Named.{ArePredecessors};
 ghost use Rattle.gi_verify.specs.Passed.{IsPassed};
+ghost use Rattle.gi_mir.specs.Instrs.{left};
 
 use crate::blocks::{are_entries, blocks_in};
 use crate::passed::{Passed, is_late};
@@ -16,6 +17,7 @@ use gi_llt::Memory;
 use gi_mir::block::Numbered;
 use gi_mir::function::Function;
 use gi_mir::instr::Instr;
+use gi_mir::instrs::Instrs;
 use gi_valid::Invalid;
 use std::alloc::Global;
 
@@ -62,9 +64,9 @@ fn is_astray(
 }
 
 /// Whether an instruction is the first one that stands behind the terminators.
-fn is_first_late(passed: Passed, front: &[Numbered], instr: &Instr) -> bool
-    requires passed { IsPassed front.now passed }
-    ensures { result ≡ (faults.is_late front.now instr.now && not (faults.has_late [] front.now)) }
+fn is_first_late(passed: Passed, front: Instrs<'_>, instr: &Instr) -> bool
+    requires passed { IsPassed (left front.entry) passed }
+    ensures { result ≡ (faults.is_late (left front.entry) instr.now && not (faults.has_late [] (left front.entry))) }
 {
     is_late(passed, front, instr) && !passed.late
 }
@@ -76,14 +78,14 @@ pub(crate) fn terminator(
     all: &Predecessors,
     b: u32,
     passed: Passed,
-    front: &[Numbered],
+    front: Instrs<'_>,
     instr: &Instr,
-    after: &[Numbered],
+    after: Instrs<'_>,
 ) -> Result<Option<Invalid>, Memory>
     requires within { b < length function.now.blocks }
     requires all { ArePredecessors function.now all.now }
-    requires passed { IsPassed front.now passed }
-    ensures { IfOk result (λ found. found ≡ faults.terminator function.now (record { block = b; before = front.now; instr = instr.now; after = after.now })) }
+    requires passed { IsPassed (left front.entry) passed }
+    ensures { IfOk result (λ found. found ≡ faults.terminator function.now (record { block = b; before = left front.entry; instr = instr.now; after = left after.entry })) }
 {
     let _ = after;
     if is_first_late(passed, front, instr) || is_astray(alloc, function, all, b, instr)? {
@@ -116,14 +118,14 @@ pub(crate) fn phi_entries(
     all: &Predecessors,
     b: u32,
     passed: Passed,
-    front: &[Numbered],
+    front: Instrs<'_>,
     instr: &Instr,
-    after: &[Numbered],
+    after: Instrs<'_>,
 ) -> Result<Option<Invalid>, Memory>
     requires within { b < length function.now.blocks }
     requires all { ArePredecessors function.now all.now }
-    requires passed { IsPassed front.now passed }
-    ensures { IfOk result (λ found. found ≡ faults.phi_entries function.now (record { block = b; before = front.now; instr = instr.now; after = after.now })) }
+    requires passed { IsPassed (left front.entry) passed }
+    ensures { IfOk result (λ found. found ≡ faults.phi_entries function.now (record { block = b; before = left front.entry; instr = instr.now; after = left after.entry })) }
 {
     let _ = front;
     let _ = after;

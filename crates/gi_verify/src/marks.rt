@@ -12,6 +12,7 @@ use crate::tree::Tree;
 use gi_llt::Memory;
 use gi_mir::block::{InstrId, Numbered};
 use gi_mir::function::Function;
+use gi_mir::instrs::Instrs;
 use gi_mir::operand::{Operand, Reg};
 use std::alloc::Global;
 use std::marker::Model;
@@ -58,7 +59,7 @@ struct Guess {
 }
 
 /// A number above the ids of these instructions.
-fn past(least: usize, instrs: &[Numbered]) -> usize {
+fn past(least: usize, instrs: Instrs<'_>) -> usize {
     let mut end = least;
     for numbered in instrs {
         if end <= numbered.id.0 {
@@ -157,7 +158,7 @@ fn look_through(
     tree: &Tree,
     guess: &mut Guess,
     b: u32,
-    instrs: &[Numbered],
+    instrs: Instrs<'_>,
 ) -> Result<(), Memory>
     requires { IsLinked tree.now }
 {

@@ -8,9 +8,11 @@ ghost use Rattle.gi_mir.specs.Row.{access_of};
 ghost use Rattle.gi_valid.specs.Definitions as definitions;
 ghost use Rattle.gi_valid.specs.Available as available;
 ghost use Rattle.gi_valid.specs.Faults as faults;
+ghost use Rattle.gi_mir.specs.Instrs.{left};
 
 use gi_mir::block::Numbered;
 use gi_mir::instr::Instr;
+use gi_mir::instrs::Instrs;
 use gi_mir::opcode::Opcode;
 use gi_mir::operand::{Operand, Reg};
 use gi_mir::row::Access;
@@ -45,10 +47,11 @@ pub(crate) fn defines(r: u32, numbered: &Numbered) -> bool
 }
 
 /// Whether one of these instructions does.
-pub(crate) fn any_defines(r: u32, instrs: &[Numbered]) -> bool
-    ensures { result ≡ list_any (defines r) instrs.now }
+pub(crate) fn any_defines(r: u32, instrs: Instrs<'_>) -> bool
+    ensures { result ≡ list_any (defines r) (left instrs.entry) }
 {
-    instrs.iter().any(|n| defines(r, n))
+    let mut rest = instrs;
+    rest.any(|n| defines(r, n))
 }
 
 /// Whether an operand uses a register.

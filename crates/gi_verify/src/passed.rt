@@ -5,10 +5,12 @@ ghost use Rattle.gi_mir.specs.Row.{is_terminator_op, is_unconditional_op};
 ghost use Rattle.gi_meaning.specs.Runs.{is_phi};
 ghost use Rattle.gi_valid.specs.Faults as faults;
 ghost use Rattle.gi_verify.specs.Passed.{IsPassed};
+ghost use Rattle.gi_mir.specs.Instrs.{left};
 
 use crate::ends::is_phi;
 use gi_mir::block::Numbered;
 use gi_mir::instr::Instr;
+use gi_mir::instrs::Instrs;
 
 /// What the instructions in front are.
 #[derive(Clone, Copy)]
@@ -36,9 +38,9 @@ pub(crate) fn nothing() -> Passed
 }
 
 /// Whether an instruction stands behind the terminators.
-pub(crate) fn is_late(passed: Passed, front: &[Numbered], instr: &Instr) -> bool
-    requires passed { IsPassed front.now passed }
-    ensures { result ≡ faults.is_late front.now instr.now }
+pub(crate) fn is_late(passed: Passed, front: Instrs<'_>, instr: &Instr) -> bool
+    requires passed { IsPassed (left front.entry) passed }
+    ensures { result ≡ faults.is_late (left front.entry) instr.now }
 {
     let _ = front;
     passed.unconditional || passed.terminator && !instr.op.is_terminator()
@@ -59,9 +61,9 @@ fn any_unconditional(before: bool, numbered: &Numbered) -> bool
 }
 
 /// Whether one stands behind the terminators, with one more instruction.
-fn any_late(passed: Passed, front: &[Numbered], numbered: &Numbered) -> bool
-    requires passed { IsPassed front.now passed }
-    ensures { result ≡ (passed.late || faults.is_late front.now (numbered.now).1) }
+fn any_late(passed: Passed, front: Instrs<'_>, numbered: &Numbered) -> bool
+    requires passed { IsPassed (left front.entry) passed }
+    ensures { result ≡ (passed.late || faults.is_late (left front.entry) (numbered.now).1) }
 {
     passed.late || is_late(passed, front, &numbered.instr)
 }
@@ -74,9 +76,9 @@ fn all_phis(before: bool, numbered: &Numbered) -> bool
 }
 
 /// Of one more instruction.
-fn with_one(passed: Passed, front: &[Numbered], numbered: &Numbered) -> Passed
-    requires passed { IsPassed front.now passed }
-    ensures { IsPassed (front.now ++ numbered.now ∷ []) result }
+pub(crate) fn passed_with(passed: Passed, front: Instrs<'_>, numbered: &Numbered) -> Passed
+    requires passed { IsPassed (left front.entry) passed }
+    ensures { IsPassed ((left front.entry) ++ numbered.now ∷ []) result }
 {
     let terminator = any_terminator(passed.terminator, numbered);
     let unconditional = any_unconditional(passed.unconditional, numbered);
@@ -90,12 +92,3 @@ fn with_one(passed: Passed, front: &[Numbered], numbered: &Numbered) -> Passed
     }
 }
 
-/// Of the instructions up to one and with it.
-#[tactic(auto, using(crate::proofs::Passing::passed_taken))]
-pub(crate) fn passed_with(passed: Passed, instrs: &[Numbered], k: usize) -> Passed
-    requires here { k < length instrs.now }
-    requires passed { IsPassed (take k instrs.now) passed }
-    ensures { IsPassed (take (k + 1) instrs.now) result }
-{
-    with_one(passed, &instrs[..k], &instrs[k])
-}

@@ -9,6 +9,7 @@ ghost use Rattle.gi_valid.specs.Faults as faults;
 ghost use Rattle.gi_valid.specs.Typing as typings;
 ghost use Rattle.gi_valid.specs.declared.invalid.Invalid.TheVariants as Invalid;
 ghost use Rattle.gi_verify.specs.Masks.{AreEffects, IsMaskOf, has};
+ghost use Rattle.gi_mir.specs.Instrs.{left};
 
 use crate::effects::Effect;
 use crate::mask::{Mask, either, has, none, with};
@@ -17,6 +18,7 @@ use crate::operands::defines_physical;
 use gi_llt::{Memory, Target};
 use gi_mir::block::Numbered;
 use gi_mir::function::Function;
+use gi_mir::instrs::Instrs;
 use gi_mir::stage::Stage;
 use gi_valid::Invalid;
 use std::alloc::Global;
@@ -76,12 +78,12 @@ pub(crate) fn is_physical_there(
     function: &Function,
     there: Mask,
     b: u32,
-    front: &[Numbered],
+    front: Instrs<'_>,
     n: u8,
 ) -> bool
     requires within { n < 32 }
-    requires there { IsMaskOf (available.is_physical_there function.now b front.now) there }
-    ensures { result ≡ available.is_physical_there function.now b front.now n }
+    requires there { IsMaskOf (available.is_physical_there function.now b (left front.entry)) there }
+    ensures { result ≡ available.is_physical_there function.now b (left front.entry) n }
 {
     let _ = function;
     let _ = front;
@@ -94,15 +96,15 @@ fn goes_across(
     there: Mask,
     used: Mask,
     b: u32,
-    front: &[Numbered],
+    front: Instrs<'_>,
     numbered: &Numbered,
-    after: &[Numbered],
+    after: Instrs<'_>,
     n: u8,
 ) -> bool
     requires within { n < 32 }
-    requires there { IsMaskOf (available.is_physical_there function.now b front.now) there }
-    requires used { IsMaskOf (λ n. faults.is_used_first n after.now) used }
-    ensures { result ≡ faults.goes_across function.now (record { block = b; before = front.now; instr = (numbered.now).1; after = after.now }) n }
+    requires there { IsMaskOf (available.is_physical_there function.now b (left front.entry)) there }
+    requires used { IsMaskOf (λ n. faults.is_used_first n (left after.entry)) used }
+    ensures { result ≡ faults.goes_across function.now (record { block = b; before = left front.entry; instr = (numbered.now).1; after = left after.entry }) n }
 {
     let _ = after;
     n != 0
@@ -118,15 +120,15 @@ fn first_across(
     there: Mask,
     used: Mask,
     b: u32,
-    front: &[Numbered],
+    front: Instrs<'_>,
     numbered: &Numbered,
-    after: &[Numbered],
+    after: Instrs<'_>,
     end: u8,
 ) -> Option<u8>
     requires within { end ≤ 32 }
-    requires there { IsMaskOf (available.is_physical_there function.now b front.now) there }
-    requires used { IsMaskOf (λ n. faults.is_used_first n after.now) used }
-    ensures { result ≡ find (faults.goes_across function.now (record { block = b; before = front.now; instr = (numbered.now).1; after = after.now })) (range_with_len 0 end) }
+    requires there { IsMaskOf (available.is_physical_there function.now b (left front.entry)) there }
+    requires used { IsMaskOf (λ n. faults.is_used_first n (left after.entry)) used }
+    ensures { result ≡ find (faults.goes_across function.now (record { block = b; before = left front.entry; instr = (numbered.now).1; after = left after.entry })) (range_with_len 0 end) }
 {
     for n in 0..end {
         if goes_across(function, there, used, b, front, numbered, after, n) {
@@ -155,14 +157,14 @@ pub(crate) fn physical_across(
     there: Mask,
     used: Mask,
     b: u32,
-    front: &[Numbered],
+    front: Instrs<'_>,
     numbered: &Numbered,
-    after: &[Numbered],
+    after: Instrs<'_>,
 ) -> Result<Option<Invalid>, Memory>
     requires xlen { (target.xlen ≡ 32) ⊎ (target.xlen ≡ 64) }
-    requires there { IsMaskOf (available.is_physical_there function.now b front.now) there }
-    requires used { IsMaskOf (λ n. faults.is_used_first n after.now) used }
-    ensures { IfOk result (λ found. found ≡ faults.physical_across target.xlen (typings.phase_of stage) function.now (record { block = b; before = front.now; instr = (numbered.now).1; after = after.now })) }
+    requires there { IsMaskOf (available.is_physical_there function.now b (left front.entry)) there }
+    requires used { IsMaskOf (λ n. faults.is_used_first n (left after.entry)) used }
+    ensures { IfOk result (λ found. found ≡ faults.physical_across target.xlen (typings.phase_of stage) function.now (record { block = b; before = left front.entry; instr = (numbered.now).1; after = left after.entry })) }
 {
     if may_call(alloc, target, stage, function, &numbered.instr)? {
         Ok(told_across(first_across(function, there, used, b, front, numbered, after, 32)))

@@ -13,6 +13,7 @@ ghost use Rattle.gi_verify.specs.Settled.{IsOrderOf, IsPlaced};
 ghost use Rattle.gi_mir.specs.Edit.{block_at};
 ghost use Rattle.gi_verify.specs.Named.{ArePredecessors};
 ghost use Rattle.gi_verify.specs.Passed.{IsPassed};
+ghost use Rattle.gi_mir.specs.Instrs.{left};
 
 use crate::blocks::{blocks_in, unknown_among};
 use crate::definitions::push_fault;
@@ -29,6 +30,7 @@ use gi_llt::{Memory, Target};
 use gi_mir::block::Numbered;
 use gi_mir::function::Function;
 use gi_mir::instr::Instr;
+use gi_mir::instrs::Instrs;
 use gi_mir::stage::Stage;
 use gi_valid::{Fault, Invalid};
 use std::alloc::Global;
@@ -63,17 +65,17 @@ fn late_in(
     used: Mask,
     b: u32,
     passed: Passed,
-    front: &[Numbered],
+    front: Instrs<'_>,
     numbered: &Numbered,
-    after: &[Numbered],
+    after: Instrs<'_>,
 ) -> Result<Option<Invalid>, Memory>
     requires xlen { (target.xlen ≡ 32) ⊎ (target.xlen ≡ 64) }
     requires within { b < length function.now.blocks }
     requires all { ArePredecessors function.now all.now }
-    requires there { IsMaskOf (available.is_physical_there function.now b front.now) there }
-    requires used { IsMaskOf (λ n. faults.is_used_first n after.now) used }
-    requires passed { IsPassed front.now passed }
-    ensures { IfOk result (λ found. found ≡ option_or (faults.physical_across target.xlen (typings.phase_of stage) function.now (record { block = b; before = front.now; instr = (numbered.now).1; after = after.now })) (faults.terminator function.now (record { block = b; before = front.now; instr = (numbered.now).1; after = after.now }))) }
+    requires there { IsMaskOf (available.is_physical_there function.now b (left front.entry)) there }
+    requires used { IsMaskOf (λ n. faults.is_used_first n (left after.entry)) used }
+    requires passed { IsPassed (left front.entry) passed }
+    ensures { IfOk result (λ found. found ≡ option_or (faults.physical_across target.xlen (typings.phase_of stage) function.now (record { block = b; before = left front.entry; instr = (numbered.now).1; after = left after.entry })) (faults.terminator function.now (record { block = b; before = left front.entry; instr = (numbered.now).1; after = left after.entry }))) }
 {
     let across = physical_across(
         alloc, target, stage, function, there, used, b, front, numbered, after,
@@ -104,17 +106,17 @@ fn others_in(
     used: Mask,
     b: u32,
     passed: Passed,
-    front: &[Numbered],
+    front: Instrs<'_>,
     numbered: &Numbered,
-    after: &[Numbered],
+    after: Instrs<'_>,
 ) -> Result<Option<Invalid>, Memory>
     requires xlen { (target.xlen ≡ 32) ⊎ (target.xlen ≡ 64) }
     requires within { b < length function.now.blocks }
     requires all { ArePredecessors function.now all.now }
-    requires there { IsMaskOf (available.is_physical_there function.now b front.now) there }
-    requires used { IsMaskOf (λ n. faults.is_used_first n after.now) used }
-    requires passed { IsPassed front.now passed }
-    ensures { IfOk result (λ found. found ≡ faults.others_in target.xlen (typings.phase_of stage) function.now (record { block = b; before = front.now; instr = (numbered.now).1; after = after.now })) }
+    requires there { IsMaskOf (available.is_physical_there function.now b (left front.entry)) there }
+    requires used { IsMaskOf (λ n. faults.is_used_first n (left after.entry)) used }
+    requires passed { IsPassed (left front.entry) passed }
+    ensures { IfOk result (λ found. found ≡ faults.others_in target.xlen (typings.phase_of stage) function.now (record { block = b; before = left front.entry; instr = (numbered.now).1; after = left after.entry })) }
 {
     let types = type_mismatch(alloc, target, stage, function, &numbered.instr)?;
     let blocks = unknown_block(alloc, function, &numbered.instr)?;
@@ -147,20 +149,20 @@ pub(crate) fn fault_in(
     used: Mask,
     b: u32,
     passed: Passed,
-    front: &[Numbered],
+    front: Instrs<'_>,
     numbered: &Numbered,
-    after: &[Numbered],
+    after: Instrs<'_>,
 ) -> Result<Option<Invalid>, Memory>
     requires xlen { (target.xlen ≡ 32) ⊎ (target.xlen ≡ 64) }
     requires reached { AreReachedBlocks function.now reached.now }
     requires order { IsOrderOf function.now order.now }
     requires within { b < length function.now.blocks }
-    requires placed { IsPlaced function.now b front.now numbered.now }
+    requires placed { IsPlaced function.now b (left front.entry) numbered.now }
     requires all { ArePredecessors function.now all.now }
-    requires there { IsMaskOf (available.is_physical_there function.now b front.now) there }
-    requires used { IsMaskOf (λ n. faults.is_used_first n after.now) used }
-    requires passed { IsPassed front.now passed }
-    ensures { (extents : ℕ → Extent) → ((r : ℕ) → IsGreatest function.now r (extents r)) → IfOk result (λ found. found ≡ faults.fault_in target.xlen (typings.phase_of stage) function.now extents (record { block = b; before = front.now; instr = (numbered.now).1; after = after.now })) }
+    requires there { IsMaskOf (available.is_physical_there function.now b (left front.entry)) there }
+    requires used { IsMaskOf (λ n. faults.is_used_first n (left after.entry)) used }
+    requires passed { IsPassed (left front.entry) passed }
+    ensures { (extents : ℕ → Extent) → ((r : ℕ) → IsGreatest function.now r (extents r)) → IfOk result (λ found. found ≡ faults.fault_in target.xlen (typings.phase_of stage) function.now extents (record { block = b; before = left front.entry; instr = (numbered.now).1; after = left after.entry })) }
 {
     let missing = not_available(
         alloc, function, reached, order, there, b, front, numbered, after,
@@ -192,23 +194,6 @@ fn push_of(out: &mut Vec<Fault>, numbered: &Numbered, what: Option<Invalid>) -> 
     push_told(out, numbered.instr.line, what)
 }
 
-/// The instructions behind one.
-#[tactic(auto, using(crate::proofs::Missing::slice_from))]
-fn behind(instrs: &[Numbered], k: usize) -> &[Numbered]
-    requires { k < length instrs.now }
-    ensures { result.now ≡ drop (k + 1) instrs.now }
-{
-    &instrs[k + 1..]
-}
-
-/// The instructions in front of one.
-fn in_front(instrs: &[Numbered], k: usize) -> &[Numbered]
-    requires { k < length instrs.now }
-    ensures { result.now ≡ take k instrs.now }
-{
-    &instrs[..k]
-}
-
 /// Puts what is told of a site at the end of a list.
 fn push_site(
     alloc: Global,
@@ -222,8 +207,9 @@ fn push_site(
     used: Mask,
     b: u32,
     passed: Passed,
-    instrs: &[Numbered],
-    k: usize,
+    front: Instrs<'_>,
+    numbered: &Numbered,
+    after: Instrs<'_>,
     out: &mut Vec<Fault>,
 ) -> Result<(), Memory>
     requires xlen { (target.xlen ≡ 32) ⊎ (target.xlen ≡ 64) }
@@ -231,16 +217,12 @@ fn push_site(
     requires order { IsOrderOf function.now order.now }
     requires within { b < length function.now.blocks }
     requires all { ArePredecessors function.now all.now }
-    requires here { k < length instrs.now }
-    requires instrs { instrs.now ≡ (block_at function.now b).instrs }
-    requires there { IsMaskOf (available.is_physical_there function.now b (take k instrs.now)) there }
-    requires used { IsMaskOf (λ n. faults.is_used_first n (drop (k + 1) instrs.now)) used }
-    requires passed { IsPassed (take k instrs.now) passed }
-    ensures { OnOk result (IsTold target.xlen (typings.phase_of stage) function.now b instrs.now k out.old.items out.new.items) }
+    requires placed { IsPlaced function.now b (left front.entry) numbered.now }
+    requires there { IsMaskOf (available.is_physical_there function.now b (left front.entry)) there }
+    requires used { IsMaskOf (λ n. faults.is_used_first n (left after.entry)) used }
+    requires passed { IsPassed (left front.entry) passed }
+    ensures { OnOk result (IsTold target.xlen (typings.phase_of stage) function.now b (left front.entry) numbered.now (left after.entry) out.old.items out.new.items) }
 {
-    let numbered = &instrs[k];
-    let front = in_front(instrs, k);
-    let after = behind(instrs, k);
     let what = fault_in(
         alloc, target, stage, function, reached, order, all, there, used, b, passed, front,
         numbered, after,
@@ -272,16 +254,21 @@ fn push_block(
     let effects = effects_of(alloc, function, b)?;
     let behind = used_behind(alloc, function, b, effects.as_slice())?;
     let instrs = function.instrs(b);
+    let _length = instrs.len();
     let mut there = there_at_start(function, way_back, b);
     let mut passed = nothing();
-    for k in 0..instrs.len() {
+    let mut rest = instrs;
+    let mut k = 0;
+    while let Some(numbered) = rest.next() {
+        let front = instrs.first(k);
         let used = used_at(function, b, behind.as_slice(), k);
         push_site(
-            alloc, target, stage, function, reached, order, all, there, used, b, passed, instrs, k,
-            out,
+            alloc, target, stage, function, reached, order, all, there, used, b, passed, front,
+            numbered, rest, out,
         )?;
         there = there_with(function, b, effects.as_slice(), k, there);
-        passed = passed_with(passed, instrs, k);
+        passed = passed_with(passed, front, numbered);
+        k += 1;
     }
     Ok(())
 }
@@ -314,8 +301,8 @@ pub(crate) fn push_sites(
 }
 
 /// The line of the last of these instructions, and this one where there is none.
-fn last_line(line: u32, instrs: &[Numbered]) -> u32
-    ensures { result ≡ faults.last_line line instrs.now }
+fn last_line(line: u32, instrs: Instrs<'_>) -> u32
+    ensures { result ≡ faults.last_line line (left instrs.entry) }
 {
     let mut last = line;
     for numbered in instrs {

@@ -15,6 +15,7 @@ ghost use Rattle.gi_valid.specs.declared.invalid.Invalid.TheVariants as Invalid;
 ghost use Rattle.gi_verify.specs.Masks.{IsMaskOf};
 ghost use Rattle.gi_verify.specs.Sets.{AreReachedBlocks, IsAnswer, IsMissing, IsThere};
 ghost use Rattle.gi_verify.specs.Settled.{IsOrderOf, IsPlaced};
+ghost use Rattle.gi_mir.specs.Instrs.{left};
 
 use crate::available::is_available;
 use crate::ends::is_phi;
@@ -24,6 +25,7 @@ use crate::settled::{Order, comes_sooner, comes_within};
 use gi_llt::Memory;
 use gi_mir::block::{InstrId, Numbered};
 use gi_mir::function::Function;
+use gi_mir::instrs::Instrs;
 use gi_mir::operand::{Operand, Reg};
 use gi_valid::Invalid;
 use std::alloc::Global;
@@ -41,13 +43,13 @@ fn is_sooner(
     order: &Order,
     r: u32,
     b: u32,
-    front: &[Numbered],
+    front: Instrs<'_>,
     numbered: &Numbered,
 ) -> bool
     requires order { IsOrderOf function.now order.now }
     requires within { b < length function.now.blocks }
-    requires placed { IsPlaced function.now b front.now numbered.now }
-    ensures { result ≡ true → IsAnswer function.now r b front.now true }
+    requires placed { IsPlaced function.now b (left front.entry) numbered.now }
+    ensures { result ≡ true → IsAnswer function.now r b (left front.entry) true }
 {
     let _ = front;
     let id = id_of(numbered);
@@ -71,17 +73,17 @@ fn is_there(
     order: &Order,
     there: Mask,
     b: u32,
-    front: &[Numbered],
+    front: Instrs<'_>,
     numbered: &Numbered,
     operand: Operand,
 ) -> Result<bool, Memory>
     requires reached { AreReachedBlocks function.now reached.now }
     requires order { IsOrderOf function.now order.now }
     requires within { b < length function.now.blocks }
-    requires placed { IsPlaced function.now b front.now numbered.now }
-    requires there { IsMaskOf (available.is_physical_there function.now b front.now) there }
+    requires placed { IsPlaced function.now b (left front.entry) numbered.now }
+    requires there { IsMaskOf (available.is_physical_there function.now b (left front.entry)) there }
     requires range { is_in_range operand ≡ true }
-    ensures { IfOk result (λ t. IsThere function.now b front.now operand t) }
+    ensures { IfOk result (λ t. IsThere function.now b (left front.entry) operand t) }
 {
     match operand {
         Operand::Use(r) => {
@@ -101,15 +103,15 @@ fn is_use_there(
     reached: &[bool],
     order: &Order,
     b: u32,
-    front: &[Numbered],
+    front: Instrs<'_>,
     numbered: &Numbered,
     r: u32,
 ) -> Result<bool, Memory>
     requires reached { AreReachedBlocks function.now reached.now }
     requires order { IsOrderOf function.now order.now }
     requires within { b < length function.now.blocks }
-    requires placed { IsPlaced function.now b front.now numbered.now }
-    ensures { IfOk result (λ t. IsThere function.now b front.now (Operand.Use (reg_of r)) t) }
+    requires placed { IsPlaced function.now b (left front.entry) numbered.now }
+    ensures { IfOk result (λ t. IsThere function.now b (left front.entry) (Operand.Use (reg_of r)) t) }
 {
     if is_sooner(function, order, r, b, front, numbered) {
         return Ok(true);
@@ -126,17 +128,17 @@ fn missing_among(
     order: &Order,
     there: Mask,
     b: u32,
-    front: &[Numbered],
+    front: Instrs<'_>,
     numbered: &Numbered,
     operands: &[Operand],
 ) -> Result<Option<Invalid>, Memory>
     requires reached { AreReachedBlocks function.now reached.now }
     requires order { IsOrderOf function.now order.now }
     requires within { b < length function.now.blocks }
-    requires placed { IsPlaced function.now b front.now numbered.now }
-    requires there { IsMaskOf (available.is_physical_there function.now b front.now) there }
+    requires placed { IsPlaced function.now b (left front.entry) numbered.now }
+    requires there { IsMaskOf (available.is_physical_there function.now b (left front.entry)) there }
     requires range { list_all is_in_range operands.now ≡ true }
-    ensures { IfOk result (λ found. IsMissing function.now b front.now operands.now found) }
+    ensures { IfOk result (λ found. IsMissing function.now b (left front.entry) operands.now found) }
 {
     for k in 0..operands.len() {
         let operand = operands[k];
@@ -157,15 +159,15 @@ fn missing_use(
     order: &Order,
     there: Mask,
     b: u32,
-    front: &[Numbered],
+    front: Instrs<'_>,
     numbered: &Numbered,
 ) -> Result<Option<Invalid>, Memory>
     requires reached { AreReachedBlocks function.now reached.now }
     requires order { IsOrderOf function.now order.now }
     requires within { b < length function.now.blocks }
-    requires placed { IsPlaced function.now b front.now numbered.now }
-    requires there { IsMaskOf (available.is_physical_there function.now b front.now) there }
-    ensures { IfOk result (λ found. IsMissing function.now b front.now ((numbered.now).1).operands found) }
+    requires placed { IsPlaced function.now b (left front.entry) numbered.now }
+    requires there { IsMaskOf (available.is_physical_there function.now b (left front.entry)) there }
+    ensures { IfOk result (λ found. IsMissing function.now b (left front.entry) ((numbered.now).1).operands found) }
 {
     let found = missing_among(
         alloc,
@@ -305,16 +307,16 @@ pub(crate) fn not_available(
     order: &Order,
     there: Mask,
     b: u32,
-    front: &[Numbered],
+    front: Instrs<'_>,
     numbered: &Numbered,
-    after: &[Numbered],
+    after: Instrs<'_>,
 ) -> Result<Option<Invalid>, Memory>
     requires reached { AreReachedBlocks function.now reached.now }
     requires order { IsOrderOf function.now order.now }
     requires within { b < length function.now.blocks }
-    requires placed { IsPlaced function.now b front.now numbered.now }
-    requires there { IsMaskOf (available.is_physical_there function.now b front.now) there }
-    ensures { (extents : ℕ → Extent) → ((r : ℕ) → IsGreatest function.now r (extents r)) → IfOk result (λ found. found ≡ faults.not_available function.now extents (record { block = b; before = front.now; instr = (numbered.now).1; after = after.now })) }
+    requires placed { IsPlaced function.now b (left front.entry) numbered.now }
+    requires there { IsMaskOf (available.is_physical_there function.now b (left front.entry)) there }
+    ensures { (extents : ℕ → Extent) → ((r : ℕ) → IsGreatest function.now r (extents r)) → IfOk result (λ found. found ≡ faults.not_available function.now extents (record { block = b; before = left front.entry; instr = (numbered.now).1; after = left after.entry })) }
 {
     let _ = after;
     if is_phi_at(numbered) {

@@ -1,14 +1,17 @@
-use Rattle.std.proofs.Common.{◌∙◌}
+use Rattle.std.proofs.Common.{length, ap, ◌∙◌}
+use Rattle.gi_mir.specs.Instrs.{left}
 use Rattle.gi_mir.specs.Registers.{kind_of}
-use Rattle.gi_mir_read.proofs.SizeLemmas.{counted_more, instrs_more}
+use Rattle.gi_mir_read.specs.Sizes.{count_after, counted, instr_faults, instrs_faults, lowest_after}
+use Rattle.gi_mir_read.proofs.SizeLemmas.{lowest_of_two}
 use Rattle.gi_mir_read.proofs.sizes.with_instrs.Goals as goal
 
 pub loop-instr-preserved : goal.loop-instr-preserved
 loop-instr-preserved c = record {
   within = c.with_numbered.ensures.within;
-  counted = rw c.with_numbered.ensures.counted
-      (c.loop-instr.invariant.counted ∙ counted_more c.loop-instr.count c.loop-instr.instr-index c.args.instrs.now c.instr-item.result c.loop-instr-test.true c.instr-item.is);
+  counted = rw c.with_numbered.ensures.counted (c.loop-instr.invariant.counted ∙ ap (counted c.loop-instr.count) c.in-Some.ensures.steps);
   lowest = rw (c.with_numbered.ensures.counted, c.with_numbered.ensures.lowest)
-      (c.loop-instr.invariant.lowest ∙ instrs_more c.args.target.xlen (kind_of c.args.f.now) c.loop-instr.lowest c.loop-instr.count c.loop-instr.instr-index c.args.instrs.now c.instr-item.result
-      c.loop-instr-test.true c.instr-item.is);
+      (c.loop-instr.invariant.lowest
+      ∙ ap (λ is. lowest_after c.loop-instr.lowest (instrs_faults c.args.target.xlen (kind_of c.args.f.now) c.loop-instr.count is)) c.in-Some.ensures.steps
+      ∙ lowest_of_two c.loop-instr.lowest (instr_faults c.args.target.xlen (kind_of c.args.f.now) c.loop-instr.count c.in-Some.instr.now.1)
+      (instrs_faults c.args.target.xlen (kind_of c.args.f.now) (count_after c.loop-instr.count (length c.in-Some.instr.now.1.operands)) (left c.next.new.self)));
 }

@@ -1,10 +1,18 @@
-use Rattle.std.proofs.Common.{◌<◌, length, get_or, ◌≡◌, subst}
+use Rattle.std.proofs.Common.{◌≡◌, ◌+◌, ℕ, [], length, drop, sym, ◌∙◌, arith}
+use Rattle.std.specs.Prelude.{List, ◌∷◌}
+use Rattle.gi_mir.specs.Data.{InstrData}
 use Rattle.gi_mir.specs.Edit.{block_at}
-use Rattle.gi_verify.proofs.Masking.{effects_with}
+use Rattle.gi_mir.specs.Instrs.{left}
+use Rattle.gi_verify.proofs.Masking.{effects_all, effects_with}
+use Rattle.gi_verify.proofs.Splitting.{IsSplit, split_at, all_split}
 use Rattle.gi_verify.proofs.effects.effects_of.Goals as goal
+
+pub loop-numbered-init : goal.loop-numbered-init
+loop-numbered-init c = (0, c.into_iter-numbered-iterator.ensures.into_iter_gives ∙ c.instrs-instrs.ensures, ?)
 
 pub loop-numbered-preserved : goal.loop-numbered-preserved
 loop-numbered-preserved c =
-    effects_with (block_at c.args.function.now c.args.b).instrs c.loop-numbered.numbered-index c.numbered-item.result (subst (λ l. c.loop-numbered.numbered-index < length l) c.instrs-instrs.ensures c.loop-numbered-test.true)
-    (subst (λ l. c.numbered-item.result ≡ get_or l c.loop-numbered.numbered-index c.numbered-item.result) c.instrs-instrs.ensures c.numbered-item.is)
-    c.loop-numbered.effects.items c.push.new.effects.items c.effect_of.result c.loop-numbered.invariant c.effect_of.ensures c.in_ok-push.ensures
+    let all : List (ℕ × InstrData) = (block_at c.args.function.now c.args.b).instrs in
+    let k : ℕ = c.loop-numbered.invariant.0 in
+    let split : IsSplit all k _ _ = split_at all k _ _ (sym c.in-Some.ensures.steps ∙ c.loop-numbered.invariant.1) in
+    (k + 1, sym split.behind, effects_with all k _ _ split c.loop-numbered.effects.items c.push.new.effects.items c.effect_of.result c.loop-numbered.invariant.2 c.effect_of.ensures c.in_ok-push.ensures)

@@ -1,5 +1,6 @@
-use Rattle.std.proofs.Common.{take}
+use Rattle.std.proofs.Common.{◌≡◌, drop, length, take}
 use Rattle.gi_mir.specs.Edit.{block_at}
+use Rattle.gi_mir.specs.Instrs.{left}
 use Rattle.gi_valid.specs.Available.{is_physical_there}
 use Rattle.gi_valid.specs.Typing.{phase_of}
 use Rattle.gi_verify.specs.Masks.{IsMaskOf}
@@ -7,8 +8,12 @@ use Rattle.gi_verify.specs.Passed.{IsPassed}
 use Rattle.gi_verify.proofs.Told.{AreToldTo}
 use Rattle.gi_verify.proofs.site.push_block.Given as goal
 
-abbrev pub invariant-loop-k : goal.invariant-loop-k
-invariant-loop-k l =
-    AreToldTo l.target.xlen (phase_of l.stage) l.function l.b (block_at l.function l.b).instrs l.k l.fn.out.items l.out.items
+abbrev pub invariant-loop-rest : goal.invariant-loop-rest
+invariant-loop-rest l =
+    (left l.rest ≡ drop l.k (block_at l.function l.b).instrs)
+    × AreToldTo l.target.xlen (phase_of l.stage) l.function l.b (block_at l.function l.b).instrs (take l.k (block_at l.function l.b).instrs) (left l.rest) l.fn.out.items l.out.items
     × IsPassed (take l.k (block_at l.function l.b).instrs) l.passed
     × IsMaskOf (is_physical_there l.function l.b (take l.k (block_at l.function l.b).instrs)) l.there
+
+abbrev pub decreases-loop-rest : goal.decreases-loop-rest
+decreases-loop-rest l = length (left l.rest)

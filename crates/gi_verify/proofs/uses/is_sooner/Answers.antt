@@ -1,3 +1,4 @@
+use Rattle.gi_mir.specs.Instrs.{left}
 use Rattle.std.proofs.Common.{sym, subst}
 use Rattle.gi_mir.specs.Edit.{IsLive}
 use Rattle.gi_verify.specs.Settled.{IsSooner}
@@ -6,9 +7,9 @@ use Rattle.gi_verify.proofs.Sooner.{answer_sooner}
 use Rattle.gi_verify.proofs.uses.is_sooner.Goals as goal
 
 pub comes_sooner-requires-clause-live : goal.comes_sooner-requires-clause-live
-comes_sooner-requires-clause-live c = subst (IsLive c.args.function.now) (sym c.id_of-id.ensures) (placed_live c.args.function.now c.args.b c.args.front.now c.args.numbered.now c.requires.placed)
+comes_sooner-requires-clause-live c = subst (IsLive c.args.function.now) (sym c.id_of-id.ensures) (placed_live c.args.function.now c.args.b (left c.args.front) c.args.numbered.now c.requires.placed)
 
 pub returns : goal.returns
 returns c = λ h.
-    answer_sooner c.args.function.now c.args.order.now.tree c.args.order.now.marks (c.comes_sooner.ensures.settled h) c.args.r (c.comes_sooner.ensures.sure h) c.args.b c.requires.within c.args.front.now c.args.numbered.now c.requires.placed
+    answer_sooner c.args.function.now c.args.order.now.tree c.args.order.now.marks (c.comes_sooner.ensures.settled h) c.args.r (c.comes_sooner.ensures.sure h) c.args.b c.requires.within (left c.args.front) c.args.numbered.now c.requires.placed
     (subst (IsSooner c.args.function.now c.args.order.now.tree c.args.r c.args.b) c.id_of-id.ensures (c.comes_sooner.ensures.sooner h))
