@@ -83,15 +83,18 @@ implied_some place count is =
     either true = with_place_some (with_branches [] is) (suc place)
     either false = branches_some [] is
 
-pub falls_last : (is : List (ℕ × InstrData)) (last : ℕ × InstrData) → 0 < length is → last ≡ get_or is (length is - 1) last
-    → not (is_unconditional_op (last.1).op) ≡ falls_through is
-falls_last [] last some at = absurd (omega (arith, some))
-falls_last (i ∷ []) last some at = ap (λ (j : ℕ × InstrData). not (is_unconditional_op (j.1).op)) at
-falls_last (i ∷ next ∷ more) last some at =
-    let less : suc (suc (length more)) - 1 ≡ suc (length more) = omega arith in
-    let end : suc (length more) - 1 ≡ length more = omega arith in
-    let here : 0 < suc (length more) = omega arith in
-    falls_last (next ∷ more) last here (at ∙ ap (λ n. get_or (i ∷ next ∷ more) n last) less ∙ ap (λ n. get_or (next ∷ more) n last) (sym end))
+-- whether control goes past instructions, behind one of which it is known
+abbrev pub falls_behind : Bool → List (ℕ × InstrData) → Bool
+falls_behind goes [] = goes
+falls_behind goes (i ∷ is) = falls_behind (not (is_unconditional_op (i.1).op)) is
+
+pub falls_by_last : (is : List (ℕ × InstrData)) → falls_through is ≡ falls_behind true is
+falls_by_last [] = refl
+falls_by_last (i ∷ is) = one i is
+  where
+    one : (i : ℕ × InstrData) (is : List (ℕ × InstrData)) → falls_through (i ∷ is) ≡ falls_behind (not (is_unconditional_op (i.1).op)) is
+    one i [] = refl
+    one i (next ∷ more) = one next more
 
 -- ══ Other numbers for registers ══
 

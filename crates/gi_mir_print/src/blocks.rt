@@ -163,8 +163,12 @@ fn has_target(numbered: &Numbered) -> bool
 fn any_branch(instrs: Instrs<'_>) -> bool
     ensures { result ≡ list_any has_target (left instrs.entry) }
 {
-    let mut rest = instrs;
-    rest.any(|numbered| has_target(numbered))
+    for numbered in instrs {
+        if has_target(numbered) {
+            return true;
+        }
+    }
+    false
 }
 
 /// Whether what follows an instruction may run after it.
@@ -178,10 +182,11 @@ fn goes_on(numbered: &Numbered) -> bool
 fn falls_through(instrs: Instrs<'_>) -> bool
     ensures { result ≡ falls_through (left instrs.entry) }
 {
-    match instrs.last() {
-        None => true,
-        Some(last) => goes_on(last),
+    let mut goes = true;
+    for numbered in instrs {
+        goes = goes_on(numbered);
     }
+    goes
 }
 
 /// Whether control may go on to the next block.

@@ -65,7 +65,7 @@ fn is_astray(
 
 /// Whether an instruction is the first one that stands behind the terminators.
 fn is_first_late(passed: Passed, front: Instrs<'_>, instr: &Instr) -> bool
-    requires passed { IsPassed (left front.entry) passed }
+    requires passed { IsPassed (left front) passed }
     ensures { result ≡ (faults.is_late (left front.entry) instr.now && not (faults.has_late [] (left front.entry))) }
 {
     is_late(passed, front, instr) && !passed.late
@@ -84,7 +84,7 @@ pub(crate) fn terminator(
 ) -> Result<Option<Invalid>, Memory>
     requires within { b < length function.now.blocks }
     requires all { ArePredecessors function.now all.now }
-    requires passed { IsPassed (left front.entry) passed }
+    requires passed { IsPassed (left front) passed }
     ensures { IfOk result (λ found. found ≡ faults.terminator function.now (record { block = b; before = left front.entry; instr = instr.now; after = left after.entry })) }
 {
     let _ = after;
@@ -124,7 +124,7 @@ pub(crate) fn phi_entries(
 ) -> Result<Option<Invalid>, Memory>
     requires within { b < length function.now.blocks }
     requires all { ArePredecessors function.now all.now }
-    requires passed { IsPassed (left front.entry) passed }
+    requires passed { IsPassed (left front) passed }
     ensures { IfOk result (λ found. found ≡ faults.phi_entries function.now (record { block = b; before = left front.entry; instr = instr.now; after = left after.entry })) }
 {
     let _ = front;

@@ -50,8 +50,12 @@ pub(crate) fn defines(r: u32, numbered: &Numbered) -> bool
 pub(crate) fn any_defines(r: u32, instrs: Instrs<'_>) -> bool
     ensures { result ≡ list_any (defines r) (left instrs.entry) }
 {
-    let mut rest = instrs;
-    rest.any(|n| defines(r, n))
+    for numbered in instrs {
+        if defines(r, numbered) {
+            return true;
+        }
+    }
+    false
 }
 
 /// Whether an operand uses a register.

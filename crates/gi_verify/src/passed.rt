@@ -39,7 +39,7 @@ pub(crate) fn nothing() -> Passed
 
 /// Whether an instruction stands behind the terminators.
 pub(crate) fn is_late(passed: Passed, front: Instrs<'_>, instr: &Instr) -> bool
-    requires passed { IsPassed (left front.entry) passed }
+    requires passed { IsPassed (left front) passed }
     ensures { result ≡ faults.is_late (left front.entry) instr.now }
 {
     let _ = front;
@@ -62,7 +62,7 @@ fn any_unconditional(before: bool, numbered: &Numbered) -> bool
 
 /// Whether one stands behind the terminators, with one more instruction.
 fn any_late(passed: Passed, front: Instrs<'_>, numbered: &Numbered) -> bool
-    requires passed { IsPassed (left front.entry) passed }
+    requires passed { IsPassed (left front) passed }
     ensures { result ≡ (passed.late || faults.is_late (left front.entry) (numbered.now).1) }
 {
     passed.late || is_late(passed, front, &numbered.instr)
@@ -77,7 +77,7 @@ fn all_phis(before: bool, numbered: &Numbered) -> bool
 
 /// Of one more instruction.
 pub(crate) fn passed_with(passed: Passed, front: Instrs<'_>, numbered: &Numbered) -> Passed
-    requires passed { IsPassed (left front.entry) passed }
+    requires passed { IsPassed (left front) passed }
     ensures { IsPassed ((left front.entry) ++ numbered.now ∷ []) result }
 {
     let terminator = any_terminator(passed.terminator, numbered);

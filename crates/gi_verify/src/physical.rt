@@ -82,7 +82,7 @@ pub(crate) fn is_physical_there(
     n: u8,
 ) -> bool
     requires within { n < 32 }
-    requires there { IsMaskOf (available.is_physical_there function.now b (left front.entry)) there }
+    requires there { IsMaskOf (available.is_physical_there function.now b (left front)) there }
     ensures { result ≡ available.is_physical_there function.now b (left front.entry) n }
 {
     let _ = function;
@@ -102,8 +102,8 @@ fn goes_across(
     n: u8,
 ) -> bool
     requires within { n < 32 }
-    requires there { IsMaskOf (available.is_physical_there function.now b (left front.entry)) there }
-    requires used { IsMaskOf (λ n. faults.is_used_first n (left after.entry)) used }
+    requires there { IsMaskOf (available.is_physical_there function.now b (left front)) there }
+    requires used { IsMaskOf (λ n. faults.is_used_first n (left after)) used }
     ensures { result ≡ faults.goes_across function.now (record { block = b; before = left front.entry; instr = (numbered.now).1; after = left after.entry }) n }
 {
     let _ = after;
@@ -126,8 +126,8 @@ fn first_across(
     end: u8,
 ) -> Option<u8>
     requires within { end ≤ 32 }
-    requires there { IsMaskOf (available.is_physical_there function.now b (left front.entry)) there }
-    requires used { IsMaskOf (λ n. faults.is_used_first n (left after.entry)) used }
+    requires there { IsMaskOf (available.is_physical_there function.now b (left front)) there }
+    requires used { IsMaskOf (λ n. faults.is_used_first n (left after)) used }
     ensures { result ≡ find (faults.goes_across function.now (record { block = b; before = left front.entry; instr = (numbered.now).1; after = left after.entry })) (range_with_len 0 end) }
 {
     for n in 0..end {
@@ -162,8 +162,8 @@ pub(crate) fn physical_across(
     after: Instrs<'_>,
 ) -> Result<Option<Invalid>, Memory>
     requires xlen { (target.xlen ≡ 32) ⊎ (target.xlen ≡ 64) }
-    requires there { IsMaskOf (available.is_physical_there function.now b (left front.entry)) there }
-    requires used { IsMaskOf (λ n. faults.is_used_first n (left after.entry)) used }
+    requires there { IsMaskOf (available.is_physical_there function.now b (left front)) there }
+    requires used { IsMaskOf (λ n. faults.is_used_first n (left after)) used }
     ensures { IfOk result (λ found. found ≡ faults.physical_across target.xlen (typings.phase_of stage) function.now (record { block = b; before = left front.entry; instr = (numbered.now).1; after = left after.entry })) }
 {
     if may_call(alloc, target, stage, function, &numbered.instr)? {

@@ -72,9 +72,9 @@ fn late_in(
     requires xlen { (target.xlen ≡ 32) ⊎ (target.xlen ≡ 64) }
     requires within { b < length function.now.blocks }
     requires all { ArePredecessors function.now all.now }
-    requires there { IsMaskOf (available.is_physical_there function.now b (left front.entry)) there }
-    requires used { IsMaskOf (λ n. faults.is_used_first n (left after.entry)) used }
-    requires passed { IsPassed (left front.entry) passed }
+    requires there { IsMaskOf (available.is_physical_there function.now b (left front)) there }
+    requires used { IsMaskOf (λ n. faults.is_used_first n (left after)) used }
+    requires passed { IsPassed (left front) passed }
     ensures { IfOk result (λ found. found ≡ option_or (faults.physical_across target.xlen (typings.phase_of stage) function.now (record { block = b; before = left front.entry; instr = (numbered.now).1; after = left after.entry })) (faults.terminator function.now (record { block = b; before = left front.entry; instr = (numbered.now).1; after = left after.entry }))) }
 {
     let across = physical_across(
@@ -113,9 +113,9 @@ fn others_in(
     requires xlen { (target.xlen ≡ 32) ⊎ (target.xlen ≡ 64) }
     requires within { b < length function.now.blocks }
     requires all { ArePredecessors function.now all.now }
-    requires there { IsMaskOf (available.is_physical_there function.now b (left front.entry)) there }
-    requires used { IsMaskOf (λ n. faults.is_used_first n (left after.entry)) used }
-    requires passed { IsPassed (left front.entry) passed }
+    requires there { IsMaskOf (available.is_physical_there function.now b (left front)) there }
+    requires used { IsMaskOf (λ n. faults.is_used_first n (left after)) used }
+    requires passed { IsPassed (left front) passed }
     ensures { IfOk result (λ found. found ≡ faults.others_in target.xlen (typings.phase_of stage) function.now (record { block = b; before = left front.entry; instr = (numbered.now).1; after = left after.entry })) }
 {
     let types = type_mismatch(alloc, target, stage, function, &numbered.instr)?;
@@ -157,11 +157,11 @@ pub(crate) fn fault_in(
     requires reached { AreReachedBlocks function.now reached.now }
     requires order { IsOrderOf function.now order.now }
     requires within { b < length function.now.blocks }
-    requires placed { IsPlaced function.now b (left front.entry) numbered.now }
+    requires placed { IsPlaced function.now b (left front) numbered.now }
     requires all { ArePredecessors function.now all.now }
-    requires there { IsMaskOf (available.is_physical_there function.now b (left front.entry)) there }
-    requires used { IsMaskOf (λ n. faults.is_used_first n (left after.entry)) used }
-    requires passed { IsPassed (left front.entry) passed }
+    requires there { IsMaskOf (available.is_physical_there function.now b (left front)) there }
+    requires used { IsMaskOf (λ n. faults.is_used_first n (left after)) used }
+    requires passed { IsPassed (left front) passed }
     ensures { (extents : ℕ → Extent) → ((r : ℕ) → IsGreatest function.now r (extents r)) → IfOk result (λ found. found ≡ faults.fault_in target.xlen (typings.phase_of stage) function.now extents (record { block = b; before = left front.entry; instr = (numbered.now).1; after = left after.entry })) }
 {
     let missing = not_available(
@@ -217,10 +217,10 @@ fn push_site(
     requires order { IsOrderOf function.now order.now }
     requires within { b < length function.now.blocks }
     requires all { ArePredecessors function.now all.now }
-    requires placed { IsPlaced function.now b (left front.entry) numbered.now }
-    requires there { IsMaskOf (available.is_physical_there function.now b (left front.entry)) there }
-    requires used { IsMaskOf (λ n. faults.is_used_first n (left after.entry)) used }
-    requires passed { IsPassed (left front.entry) passed }
+    requires placed { IsPlaced function.now b (left front) numbered.now }
+    requires there { IsMaskOf (available.is_physical_there function.now b (left front)) there }
+    requires used { IsMaskOf (λ n. faults.is_used_first n (left after)) used }
+    requires passed { IsPassed (left front) passed }
     ensures { OnOk result (IsTold target.xlen (typings.phase_of stage) function.now b (left front.entry) numbered.now (left after.entry) out.old.items out.new.items) }
 {
     let what = fault_in(

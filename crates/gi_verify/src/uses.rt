@@ -48,7 +48,7 @@ fn is_sooner(
 ) -> bool
     requires order { IsOrderOf function.now order.now }
     requires within { b < length function.now.blocks }
-    requires placed { IsPlaced function.now b (left front.entry) numbered.now }
+    requires placed { IsPlaced function.now b (left front) numbered.now }
     ensures { result ≡ true → IsAnswer function.now r b (left front.entry) true }
 {
     let _ = front;
@@ -80,8 +80,8 @@ fn is_there(
     requires reached { AreReachedBlocks function.now reached.now }
     requires order { IsOrderOf function.now order.now }
     requires within { b < length function.now.blocks }
-    requires placed { IsPlaced function.now b (left front.entry) numbered.now }
-    requires there { IsMaskOf (available.is_physical_there function.now b (left front.entry)) there }
+    requires placed { IsPlaced function.now b (left front) numbered.now }
+    requires there { IsMaskOf (available.is_physical_there function.now b (left front)) there }
     requires range { is_in_range operand ≡ true }
     ensures { IfOk result (λ t. IsThere function.now b (left front.entry) operand t) }
 {
@@ -110,7 +110,7 @@ fn is_use_there(
     requires reached { AreReachedBlocks function.now reached.now }
     requires order { IsOrderOf function.now order.now }
     requires within { b < length function.now.blocks }
-    requires placed { IsPlaced function.now b (left front.entry) numbered.now }
+    requires placed { IsPlaced function.now b (left front) numbered.now }
     ensures { IfOk result (λ t. IsThere function.now b (left front.entry) (Operand.Use (reg_of r)) t) }
 {
     if is_sooner(function, order, r, b, front, numbered) {
@@ -135,8 +135,8 @@ fn missing_among(
     requires reached { AreReachedBlocks function.now reached.now }
     requires order { IsOrderOf function.now order.now }
     requires within { b < length function.now.blocks }
-    requires placed { IsPlaced function.now b (left front.entry) numbered.now }
-    requires there { IsMaskOf (available.is_physical_there function.now b (left front.entry)) there }
+    requires placed { IsPlaced function.now b (left front) numbered.now }
+    requires there { IsMaskOf (available.is_physical_there function.now b (left front)) there }
     requires range { list_all is_in_range operands.now ≡ true }
     ensures { IfOk result (λ found. IsMissing function.now b (left front.entry) operands.now found) }
 {
@@ -165,8 +165,8 @@ fn missing_use(
     requires reached { AreReachedBlocks function.now reached.now }
     requires order { IsOrderOf function.now order.now }
     requires within { b < length function.now.blocks }
-    requires placed { IsPlaced function.now b (left front.entry) numbered.now }
-    requires there { IsMaskOf (available.is_physical_there function.now b (left front.entry)) there }
+    requires placed { IsPlaced function.now b (left front) numbered.now }
+    requires there { IsMaskOf (available.is_physical_there function.now b (left front)) there }
     ensures { IfOk result (λ found. IsMissing function.now b (left front.entry) ((numbered.now).1).operands found) }
 {
     let found = missing_among(
@@ -314,8 +314,8 @@ pub(crate) fn not_available(
     requires reached { AreReachedBlocks function.now reached.now }
     requires order { IsOrderOf function.now order.now }
     requires within { b < length function.now.blocks }
-    requires placed { IsPlaced function.now b (left front.entry) numbered.now }
-    requires there { IsMaskOf (available.is_physical_there function.now b (left front.entry)) there }
+    requires placed { IsPlaced function.now b (left front) numbered.now }
+    requires there { IsMaskOf (available.is_physical_there function.now b (left front)) there }
     ensures { (extents : ℕ → Extent) → ((r : ℕ) → IsGreatest function.now r (extents r)) → IfOk result (λ found. found ≡ faults.not_available function.now extents (record { block = b; before = left front.entry; instr = (numbered.now).1; after = left after.entry })) }
 {
     let _ = after;

@@ -1,4 +1,4 @@
-use Rattle.std.proofs.Common.{◌≡◌, ◌++◌, ◌∷◌, [], ℕ, List, ap, sym, subst, ◌∙◌, append_assoc, append-nil}
+use Rattle.std.proofs.Common.{◌≡◌, ◌++◌, ◌∷◌, [], ℕ, List, refl, ap, sym, subst, ◌∙◌, append_assoc, append-nil}
 use Rattle.gi_mir.specs.Data.{InstrData}
 use Rattle.gi_mir.specs.Edit.{block_at}
 use Rattle.gi_mir.specs.Instrs.{left}
@@ -7,7 +7,7 @@ use Rattle.gi_rules.proofs.IllegalLines.{one_instr_more}
 use Rattle.gi_rules.proofs.fitting.first_in_block.Goals as goal
 
 pub loop-numbered-init : goal.loop-numbered-init
-loop-numbered-init c = ([], c.into_iter-numbered-iterator.ensures.into_iter_gives ∙ c.instrs.ensures, ?)
+loop-numbered-init c = ([], ap left c.into_iter-numbered-iterator.ensures.into_iter_gives ∙ c.instrs-numbered-items.ensures, refl)
 
 pub loop-numbered-preserved : goal.loop-numbered-preserved
 loop-numbered-preserved c =
