@@ -1,5 +1,5 @@
 -- How far the program's loops have come.
-use Rattle.std.proofs.Common.{◌≡◌, ℕ, zero, suc, ℤ, ◌+◌, ◌<◌, Bool, true, false, cond, ◌||◌, ◌&&◌, ◌==◌, List, [], ◌∷◌, ◌++◌, length, take, drop, map, reverse, get_or, inl, inr, Option, Some, None, option_map, append_assoc, refl, sym, ap, ap₂, ◌∙◌, subst, arith, if◌then◌else◌}
+use Rattle.std.proofs.Common.{◌≡◌, ℕ, zero, suc, ℤ, ◌+◌, ◌<◌, Bool, true, false, cond, ◌||◌, ◌&&◌, ◌==◌, List, [], ◌∷◌, ◌++◌, length, take, map, reverse, get_or, inl, inr, Option, Some, None, option_map, append_assoc, refl, sym, ap, ap₂, ◌∙◌, subst, arith, if◌then◌else◌}
 use Rattle.std.specs.List.{AllZip, list_any, list_all}
 use Rattle.std.proofs.Math.Seq.{take-suc}
 use Rattle.std.proofs.lemmas.List.{append-nil, reverse-append, reverse-reverse}
@@ -33,23 +33,23 @@ pub record StandsBehind (front : List (ℕ × InstrData)) (i : ℕ × InstrData)
   pub same : i.1 ≡ shaped_instr s i.1.line
   pub front_is : IsFront defined front
 
-stands_from : (ss : List ShapedInstr) (is front : List (ℕ × InstrData)) (defined : List ℕ) (k : ℕ) (d : ℕ × InstrData) → AllZip IsShapedInstr ss is → InOrder defined ss → IsFront defined front
-    → k < length is → StandsBehind (front ++ take k is) (get_or is k d)
-stands_from [] [] front defined k d same order front_is within = absurd (omega (arith, within))
-stands_from [] (i ∷ is) front defined k d same order front_is within = absurd same
-stands_from (s ∷ ss) [] front defined k d same order front_is within = absurd same
-stands_from (s ∷ ss) (i ∷ is) front defined zero d same order front_is within =
+stands_from : (ss : List ShapedInstr) (passed front rest : List (ℕ × InstrData)) (i : ℕ × InstrData) (defined : List ℕ) → AllZip IsShapedInstr ss (passed ++ i ∷ rest) → InOrder defined ss → IsFront defined front
+    → StandsBehind (front ++ passed) i
+stands_from [] [] front rest i defined same order front_is = absurd same
+stands_from [] (j ∷ passed) front rest i defined same order front_is = absurd same
+stands_from (s ∷ ss) [] front rest i defined same order front_is =
     record { s = s; defined = defined; stands = order.0; same = same.0; front_is = subst (IsFront defined) (sym (append-nil front)) front_is }
-stands_from (s ∷ ss) (i ∷ is) front defined (suc k) d same order front_is within =
-    let line : ℕ = i.1.line in
-    let j : ℕ × InstrData = (i.0, shaped_instr s line) in
-    let here : i ≡ j = ap (λ (e : InstrData). (i.0, e)) same.0 in
-    let next : IsFront (defined_after defined s) (front ++ (i ∷ [])) = subst (λ (e : ℕ × InstrData). IsFront (defined_after defined s) (front ++ (e ∷ []))) (sym here) (front_next defined front s i.0 line front_is order.0) in
-    subst (λ xs. StandsBehind xs (get_or is k d)) (append_assoc front (i ∷ []) (take k is))
-    (stands_from ss is (front ++ (i ∷ [])) (defined_after defined s) k d same.1 order.1 next (omega (arith, within)))
+stands_from (s ∷ ss) (j ∷ passed) front rest i defined same order front_is =
+    let line : ℕ = j.1.line in
+    let shape : ℕ × InstrData = (j.0, shaped_instr s line) in
+    let here : j ≡ shape = ap (λ (e : InstrData). (j.0, e)) same.0 in
+    let next : IsFront (defined_after defined s) (front ++ (j ∷ [])) = subst (λ (e : ℕ × InstrData). IsFront (defined_after defined s) (front ++ (e ∷ []))) (sym here) (front_next defined front s j.0 line front_is order.0) in
+    subst (λ xs. StandsBehind xs i) (append_assoc front (j ∷ []) passed)
+    (stands_from ss passed (front ++ (j ∷ [])) rest i (defined_after defined s) same.1 order.1 next)
 
-pub stands_at : (is : List (ℕ × InstrData)) (k : ℕ) (i : ℕ × InstrData) → AreShaped is → k < length is → i ≡ get_or is k i → StandsBehind (take k is) i
-stands_at is k i h within at = subst (StandsBehind (take k is)) (sym at) (stands_from h.shapes is [] [] k i h.same (in_order [] h.shapes h.ordered) nothing_before within)
+stands_at : (all front rest : List (ℕ × InstrData)) (i : ℕ × InstrData) → AreShaped all → all ≡ front ++ i ∷ rest → StandsBehind front i
+stands_at all front rest i h whole =
+    stands_from h.shapes front [] rest i [] (subst (AllZip IsShapedInstr h.shapes) whole h.same) (in_order [] h.shapes h.ordered) nothing_before
 
 -- ══ The short constants so far ══
 
@@ -94,22 +94,31 @@ constant_next defined front Return id line r true front_is stands here = sym (sh
 constant_next defined front Return id line r false front_is stands here =
     none_before front r (front_is.defines_all r ∙ here) ∙ sym (short_behind front ((id, shaped_instr Return line) ∷ []) r (front_is.defines_all r ∙ here))
 
-pub constant_more : (is : List (ℕ × InstrData)) (k : ℕ) (i : ℕ × InstrData) (d : InstrData) (r : ℕ) → AreShaped is → k < length is → i ≡ get_or is k i → d ≡ i.1
-    → with_constant (root_of d) r (short_among (take k is) r) ≡ short_among (take (suc k) is) r
-constant_more is k i d r in_shape within at same =
-    let h : StandsBehind (take k is) i = stands_at is k i in_shape within at in
-    let line : ℕ = i.1.line in
-    let here : i ≡ (i.0, shaped_instr h.s line) = ap (λ (e : InstrData). (i.0, e)) h.same in
-    ap (λ e. with_constant (root_of e) r (short_among (take k is) r)) (same ∙ h.same)
-    ∙ constant_next h.defined (take k is) h.s i.0 line r (is_among r h.defined) h.front_is h.stands refl
-    ∙ ap (λ (j : ℕ × InstrData). short_among (take k is ++ (j ∷ [])) r) (sym here ∙ at) ∙ ap (λ xs. short_among xs r) (sym (take-suc is k i within))
+-- the constants of those instructions that aren't left
+pub record ConstantsSoFar (all rest : List (ℕ × InstrData)) (constant : ℕ → Option ℤ) : Type 0 where
+  pub front : List (ℕ × InstrData)
+  pub whole : all ≡ front ++ rest
+  pub kept : (r : ℕ) → constant r ≡ short_among front r
+
+pub constants_next : (all rest rest' : List (ℕ × InstrData)) (constant constant' : ℕ → Option ℤ) (i : ℕ × InstrData) → AreShaped all → ConstantsSoFar all rest constant → rest ≡ i ∷ rest'
+    → ((r : ℕ) → constant' r ≡ with_constant (root_of i.1) r (constant r)) → ConstantsSoFar all rest' constant'
+constants_next all rest rest' constant constant' i in_shape so_far first more =
+    let whole : all ≡ so_far.front ++ i ∷ rest' = so_far.whole ∙ ap (λ xs. so_far.front ++ xs) first in
+    let h : StandsBehind so_far.front i = stands_at all so_far.front rest' i in_shape whole in
+    let here : i ≡ (i.0, shaped_instr h.s i.1.line) = ap (λ (e : InstrData). (i.0, e)) h.same in
+    record {
+      front = so_far.front ++ i ∷ [];
+      whole = whole ∙ sym (append_assoc so_far.front (i ∷ []) rest');
+      kept = λ r. more r ∙ ap₂ (λ e before. with_constant (root_of e) r before) h.same (so_far.kept r)
+          ∙ constant_next h.defined so_far.front h.s i.0 i.1.line r (is_among r h.defined) h.front_is h.stands refl
+          ∙ ap (λ (j : ℕ × InstrData). short_among (so_far.front ++ (j ∷ [])) r) (sym here);
+    }
+
+pub constants_end : (all rest : List (ℕ × InstrData)) (constant : ℕ → Option ℤ) → ConstantsSoFar all rest constant → rest ≡ [] → (r : ℕ) → constant r ≡ short_among all r
+constants_end all rest constant so_far none r =
+    so_far.kept r ∙ ap (λ xs. short_among xs r) (sym (so_far.whole ∙ ap (λ xs. so_far.front ++ xs) none ∙ append-nil so_far.front))
 
 -- ══ Selected so far ══
-
-pub dropped : (is : List (ℕ × InstrData)) (k : ℕ) (i : ℕ × InstrData) → k < length is → i ≡ get_or is k i → drop k is ≡ i ∷ drop (suc k) is
-dropped [] k i within at = absurd (omega (arith, within))
-dropped (j ∷ is) zero i within at = ap (λ (x : ℕ × InstrData). x ∷ is) (sym at)
-dropped (j ∷ is) (suc k) i within at = dropped is k i (omega (arith, within)) at
 
 -- how far the program's selection has come from the end
 pub record SelectedFrom (constant : ℕ → Option ℤ) (is : List (ℕ × InstrData)) (used : ℕ → Bool) (selected : List InstrData) : Type 0 where
@@ -154,36 +163,56 @@ selected_formed used constant defined (CopyOut p q) line x stands h made = subst
 selected_formed used constant defined Return line x stands h made = subst (λ i. is_formed i ≡ true) (some_made true _ x made) (classed_formed Return line h)
 
 -- what the instruction becomes, by the uses behind it
-selected_here : (constant : ℕ → Option ℤ) (is : List (ℕ × InstrData)) (used : ℕ → Bool) (selected : List InstrData) (i : ℕ × InstrData) (d : InstrData) (found : Option InstrData)
-    → SelectedFrom constant is used selected → d ≡ i.1 → found ≡ selected_where used constant d
-    → selected_list constant (i ∷ is) ≡ before found (selected_list constant is)
-selected_here constant is used selected i d found so_far same made =
-    ap₂ (λ u e. before (selected_where u constant e) (selected_list constant is)) (sym (fun_ext so_far.uses)) (sym same) ∙ ap (λ o. before o (selected_list constant is)) (sym made)
+selected_here : (constant : ℕ → Option ℤ) (back : List (ℕ × InstrData)) (used : ℕ → Bool) (selected : List InstrData) (i : ℕ × InstrData) (found : Option InstrData)
+    → SelectedFrom constant back used selected → found ≡ selected_where used constant i.1 → selected_list constant (i ∷ back) ≡ before found (selected_list constant back)
+selected_here constant back used selected i found so_far made =
+    ap (λ u. before (selected_where u constant i.1) (selected_list constant back)) (sym (fun_ext so_far.uses)) ∙ ap (λ o. before o (selected_list constant back)) (sym made)
 
-pub selected_none : (constant : ℕ → Option ℤ) (is : List (ℕ × InstrData)) (used : ℕ → Bool) (selected : List InstrData) (i : ℕ × InstrData) (d : InstrData)
-    → SelectedFrom constant is used selected → d ≡ i.1 → None ≡ selected_where used constant d → SelectedFrom constant (i ∷ is) used selected
-selected_none constant is used selected i d so_far same made =
-    let here : selected_list constant (i ∷ is) ≡ selected_list constant is = selected_here constant is used selected i d None so_far same made in record {
+selected_none : (constant : ℕ → Option ℤ) (back : List (ℕ × InstrData)) (used : ℕ → Bool) (selected : List InstrData) (i : ℕ × InstrData)
+    → SelectedFrom constant back used selected → None ≡ selected_where used constant i.1 → SelectedFrom constant (i ∷ back) used selected
+selected_none constant back used selected i so_far made =
+    let here : selected_list constant (i ∷ back) ≡ selected_list constant back = selected_here constant back used selected i None so_far made in record {
       items = so_far.items ∙ ap reverse (sym here);
       uses = λ r. so_far.uses r ∙ ap (λ xs. used_in xs r) (sym here);
       formed = so_far.formed;
     }
 
-pub selected_some : (constant : ℕ → Option ℤ) (is : List (ℕ × InstrData)) (used used' : ℕ → Bool) (selected : List InstrData) (i : ℕ × InstrData) (d x : InstrData)
-    → SelectedFrom constant is used selected → d ≡ i.1 → Some x ≡ selected_where used constant d → is_formed x ≡ true
-    → ((r : ℕ) → used' r ≡ (list_any (is_use_of r) x.operands || used r)) → SelectedFrom constant (i ∷ is) used' (selected ++ (x ∷ []))
-selected_some constant is used used' selected i d x so_far same made formed marked =
-    let here : selected_list constant (i ∷ is) ≡ x ∷ selected_list constant is = selected_here constant is used selected i d (Some x) so_far same made in record {
-      items = ap (λ xs. xs ++ (x ∷ [])) so_far.items ∙ sym (reverse-append (x ∷ []) (selected_list constant is)) ∙ ap reverse (sym here);
+selected_some : (constant : ℕ → Option ℤ) (back : List (ℕ × InstrData)) (used used' : ℕ → Bool) (selected : List InstrData) (i : ℕ × InstrData) (x : InstrData)
+    → SelectedFrom constant back used selected → Some x ≡ selected_where used constant i.1 → is_formed x ≡ true
+    → ((r : ℕ) → used' r ≡ (list_any (is_use_of r) x.operands || used r)) → SelectedFrom constant (i ∷ back) used' (selected ++ (x ∷ []))
+selected_some constant back used used' selected i x so_far made formed marked =
+    let here : selected_list constant (i ∷ back) ≡ x ∷ selected_list constant back = selected_here constant back used selected i (Some x) so_far made in record {
+      items = ap (λ xs. xs ++ (x ∷ [])) so_far.items ∙ sym (reverse-append (x ∷ []) (selected_list constant back)) ∙ ap reverse (sym here);
       uses = λ r. marked r ∙ ap (λ b. list_any (is_use_of r) x.operands || b) (so_far.uses r) ∙ ap (λ xs. used_in xs r) (sym here);
       formed = list_all-append is_formed selected (x ∷ []) ∙ ap₂ (λ a b. a && (b && true)) so_far.formed formed;
     }
 
-pub formed_at : (is : List (ℕ × InstrData)) (k : ℕ) (i : ℕ × InstrData) (d x : InstrData) (used : ℕ → Bool) (constant : ℕ → Option ℤ) → AreShaped is → k < length is → i ≡ get_or is k i → d ≡ i.1
-    → is_formed d ≡ true → Some x ≡ selected_where used constant d → is_formed x ≡ true
-formed_at is k i d x used constant in_shape within at same formed made =
-    let h : StandsBehind (take k is) i = stands_at is k i in_shape within at in
-    selected_formed used constant h.defined h.s i.1.line x h.stands (subst (λ e. is_formed e ≡ true) (same ∙ h.same) formed) (ap (selected_where used constant) (sym (same ∙ h.same)) ∙ sym made)
+-- what is selected of the instructions behind these
+pub record SelectedBehind (constant : ℕ → Option ℤ) (all front : List (ℕ × InstrData)) (used : ℕ → Bool) (selected : List InstrData) : Type 0 where
+  pub back : List (ℕ × InstrData)
+  pub whole : all ≡ front ++ back
+  pub so_far : SelectedFrom constant back used selected
+
+moved : (all before front back : List (ℕ × InstrData)) (i : ℕ × InstrData) → all ≡ before ++ back → before ≡ front ++ i ∷ [] → all ≡ front ++ i ∷ back
+moved all before front back i whole last = whole ∙ ap (λ xs. xs ++ back) last ∙ append_assoc front (i ∷ []) back
+
+pub behind_none : (constant : ℕ → Option ℤ) (all before front : List (ℕ × InstrData)) (used : ℕ → Bool) (selected : List InstrData) (i : ℕ × InstrData)
+    → SelectedBehind constant all before used selected → before ≡ front ++ i ∷ [] → None ≡ selected_where used constant i.1 → SelectedBehind constant all front used selected
+behind_none constant all before front used selected i h last made = record {
+  back = i ∷ h.back;
+  whole = moved all before front h.back i h.whole last;
+  so_far = selected_none constant h.back used selected i h.so_far made;
+}
+
+pub behind_some : (constant : ℕ → Option ℤ) (all before front : List (ℕ × InstrData)) (used used' : ℕ → Bool) (selected : List InstrData) (i : ℕ × InstrData) (x : InstrData) → AreShaped all
+    → SelectedBehind constant all before used selected → before ≡ front ++ i ∷ [] → Some x ≡ selected_where used constant i.1 → is_formed i.1 ≡ true
+    → ((r : ℕ) → used' r ≡ (list_any (is_use_of r) x.operands || used r)) → SelectedBehind constant all front used' (selected ++ (x ∷ []))
+behind_some constant all before front used used' selected i x in_shape h last made formed marked =
+    let whole : all ≡ front ++ i ∷ h.back = moved all before front h.back i h.whole last in
+    let at : StandsBehind front i = stands_at all front h.back i in_shape whole in
+    let formed' : is_formed x ≡ true =
+    selected_formed used constant at.defined at.s i.1.line x at.stands (subst (λ e. is_formed e ≡ true) at.same formed) (ap (selected_where used constant) (sym at.same) ∙ sym made) in
+    record { back = i ∷ h.back; whole = whole; so_far = selected_some constant h.back used used' selected i x h.so_far made formed' marked }
 
 -- ══ The new function ══
 

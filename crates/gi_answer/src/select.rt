@@ -7,6 +7,7 @@ ghost use Rattle.std.specs.HashSet.{contains};
 ghost use Rattle.std.specs.List.{AllZip, list_all, list_any};
 ghost use Rattle.gi_mir.specs.Edit.{with_stack, is_use_of};
 ghost use Rattle.gi_mir.specs.Formed.{is_formed};
+ghost use Rattle.gi_mir.specs.Instrs.{left};
 ghost use Rattle.gi_refine.specs.Kept.{without_kind};
 ghost use Rattle.gi_refine.specs.Worded.{classed_instr};
 ghost use Rattle.gi_answer.specs.Selectable.{IsOneBlock, IsSelectable, AllSelectable};
@@ -18,6 +19,7 @@ use gi_llt::Memory;
 use gi_mir::block::{Block, Numbered};
 use gi_mir::function::Function;
 use gi_mir::instr::Instr;
+use gi_mir::instrs::Instrs;
 use gi_mir::module::Module;
 use gi_mir::opcode::Opcode;
 use gi_mir::operand::{Flags, Kind, Operand, Reg, StackObject};
@@ -119,9 +121,9 @@ fn keep_constant(constants: &mut HashMap<u32, i128>, root: Option<Root>) -> Resu
 }
 
 /// The short constants by their registers.
-fn short_constants(alloc: Global, instrs: &[Numbered]) -> Result<HashMap<u32, i128>, Memory>
-    requires { AreShaped instrs.now }
-    ensures { IfOk result (λ constants. (r : ℕ) → get nat_eq constants r ≡ short_among instrs.now r) }
+fn short_constants(alloc: Global, instrs: Instrs<'_>) -> Result<HashMap<u32, i128>, Memory>
+    requires { AreShaped (left instrs) }
+    ensures { IfOk result (λ constants. (r : ℕ) → get nat_eq constants r ≡ short_among (left instrs.entry) r) }
 {
     let mut constants = HashMap::new(alloc);
     for numbered in instrs {
@@ -300,22 +302,27 @@ fn append(instrs: &mut Vec<Instr>, instr: Instr) -> Result<(), Memory>
     instrs.push(instr).map_err(|_| Memory)
 }
 
+/// These instructions in a list.
+fn listed(alloc: Global, instrs: Instrs<'_>) -> Result<Vec<&Numbered>, Memory>
+    ensures { IfOk result (λ listed. map (λ numbered. numbered.now) listed.items ≡ left instrs.entry) }
+{
+    instrs.collect(alloc).map_err(|_| Memory)
+}
+
 /// What instructions become, the last one first.
 fn selected_backwards(
     alloc: Global,
-    instrs: &[Numbered],
+    instrs: Instrs<'_>,
     constants: &HashMap<u32, i128>,
 ) -> Result<Vec<Instr>, Memory>
-    requires { AreShaped instrs.now }
-    ensures selected { IfOk result (λ selected. selected.items ≡ reverse (selected_list (get nat_eq constants.now) instrs.now)) }
+    requires { AreShaped (left instrs) }
+    ensures selected { IfOk result (λ selected. selected.items ≡ reverse (selected_list (get nat_eq constants.now) (left instrs.entry))) }
     ensures formed { IfOk result (λ selected. list_all is_formed selected.items ≡ true) }
 {
     let mut used = HashSet::new(alloc);
     let mut selected = Vec::new(alloc);
-    let mut place = instrs.len();
-    while place > 0 {
-        place -= 1;
-        let numbered = &instrs[place];
+    let mut front = listed(alloc, instrs)?;
+    while let Some(numbered) = front.pop() {
         if let Some(instr) = selected_instr(alloc, &numbered.instr, &used, constants)? {
             mark_uses(&mut used, instr.operands.as_slice())?;
             append(&mut selected, instr)?;

@@ -2,12 +2,13 @@
 
 ghost use Rattle.std.specs.Prelude.{◌≡◌, None, Some};
 ghost use Rattle.std.specs.List.{list_any};
+ghost use Rattle.gi_mir.specs.Instrs.{left};
 ghost use Rattle.gi_answer.specs.Unselected.{is_blank, last_in_blocks, last_in_instrs, last_of, other_in_blocks, other_in_instrs, other_line, unselected_in, unselected_in_function};
 
 use crate::shapes::is_shaped;
-use gi_mir::block::Numbered;
 use gi_mir::function::Function;
 use gi_mir::instr::Instr;
+use gi_mir::instrs::Instrs;
 use gi_mir::opcode::Opcode;
 
 /// The line and the opcode of an instruction of another shape.
@@ -22,8 +23,8 @@ fn other_line(instr: &Instr) -> Option<(u32, Opcode)>
 }
 
 /// The first of these instructions that is of another shape.
-fn other_in_instrs(instrs: &[Numbered]) -> Option<(u32, Opcode)>
-    ensures { result ≡ other_in_instrs instrs.now }
+fn other_in_instrs(instrs: Instrs<'_>) -> Option<(u32, Opcode)>
+    ensures { result ≡ other_in_instrs (left instrs.entry) }
 {
     for numbered in instrs {
         if let Some(found) = other_line(&numbered.instr) {
@@ -46,8 +47,8 @@ fn other_in_blocks(function: &Function) -> Option<(u32, Opcode)>
 }
 
 /// The last of these instructions, and this one where there is none.
-fn last_in_instrs(before: Option<(u32, Opcode)>, instrs: &[Numbered]) -> Option<(u32, Opcode)>
-    ensures { result ≡ last_in_instrs before instrs.now }
+fn last_in_instrs(before: Option<(u32, Opcode)>, instrs: Instrs<'_>) -> Option<(u32, Opcode)>
+    ensures { result ≡ last_in_instrs before (left instrs.entry) }
 {
     let mut last = before;
     for numbered in instrs {

@@ -70,7 +70,7 @@ body: |
 /// Prints the first instruction of a module. Answers whether there was one, and memory for it.
 fn print_first(module: &Module, out: &mut Vec<u8>) -> bool {
     match module.functions.as_slice() {
-        [function] if function.block_count() != 0 => match function.instrs(0).first() {
+        [function] if function.block_count() != 0 => match function.instrs(0).next() {
             Some(numbered) => print_instr(&numbered.instr, &module.names, out).is_ok(),
             None => false,
         },

@@ -1,8 +1,8 @@
 //! Texts and what is read of them, by tables.
 
-use gi_mir::block::Numbered;
 use gi_mir::function::Function;
 use gi_mir::instr::Instr;
+use gi_mir::instrs::Instrs;
 use gi_mir::module::Module;
 use gi_mir_read::read_mir;
 use gi_text::TextError;
@@ -21,7 +21,7 @@ fn shown_instr(alloc: Global, instr: &Instr) -> Result<String, AllocError> {
     }
 }
 
-fn show_instrs(alloc: Global, all: &mut String, instrs: &[Numbered]) -> Result<(), AllocError> {
+fn show_instrs(alloc: Global, all: &mut String, instrs: Instrs<'_>) -> Result<(), AllocError> {
     for numbered in instrs {
         let one = shown_instr(alloc, &numbered.instr)?;
         all.push_str(one.as_str())?;

@@ -76,8 +76,8 @@ pub fn has_rows(function: &Function, rows: &[Row<'_>]) -> bool {
         return false;
     }
     let instrs = function.instrs(0);
-    instrs.len() == rows.len()
-        && instrs.iter().zip(rows).all(|(n, (op, operands))| n.instr.op == *op
+    instrs.count() == rows.len()
+        && instrs.zip(rows).all(|(n, (op, operands))| n.instr.op == *op
             && n.instr.operands.as_slice() == *operands)
 }
 

@@ -1,7 +1,8 @@
-use Rattle.std.proofs.Common.{◌≡◌, ℕ, nat_eq, take}
+use Rattle.std.proofs.Common.{nat_eq}
 use Rattle.std.specs.HashMap.{get}
-use Rattle.gi_answer.specs.Selecting.{short_among}
+use Rattle.gi_mir.specs.Instrs.{left}
+use Rattle.gi_answer.proofs.SelectLoops.{ConstantsSoFar}
 use Rattle.gi_answer.proofs.select.short_constants.Given as goal
 
 abbrev pub invariant-loop-numbered : goal.invariant-loop-numbered
-invariant-loop-numbered l = (r : ℕ) → get nat_eq l.constants r ≡ short_among (take l.numbered-index l.instrs) r
+invariant-loop-numbered l = ConstantsSoFar (left l.instrs) (left l.numbered-iterator) (get nat_eq l.constants)
