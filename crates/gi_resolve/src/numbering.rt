@@ -1,7 +1,8 @@
 //! Numbers in the order in which they come, and what stands under each where it comes first.
 
 ghost use Rattle.std.specs.Prelude.{◌≡◌, ℕ, [], ◌∷◌, ◌++◌, length, nat_eq, position, IfOk, OnOk};
-ghost use Rattle.std.specs.HashMap.{get};
+ghost use Rattle.std.specs.BTreeMap.{get};
+ghost use Rattle.std.specs.Ordering.{nat_cmp};
 ghost use Rattle.std.specs.Option.{option_or};
 ghost use Rattle.gi_mir.specs.Data.{reg_of};
 ghost use Rattle.gi_spelling.specs.Resolved.{class_in};
@@ -10,7 +11,7 @@ ghost use Rattle.gi_resolve.specs.Numbered.{last_of};
 use gi_llt::Memory;
 use gi_spelling::token::RegisterClass;
 use std::alloc::Global;
-use std::collections::HashMap;
+use std::collections::BTreeMap;
 use std::marker::Model;
 
 /// Adds one more.
@@ -24,8 +25,8 @@ fn push<T: Copy>(list: &mut Vec<T>, x: T) -> Result<(), Memory>
 }
 
 /// Notes a value under a number, unless one stands there.
-fn note_first<V: Copy>(firsts: &mut HashMap<u32, V>, number: u32, value: V) -> Result<(), Memory>
-    ensures { OnOk result ((key : ℕ) → get nat_eq firsts.new key ≡ option_or (get nat_eq firsts.old key) (last_of number value key)) }
+fn note_first<V: Copy>(firsts: &mut BTreeMap<u32, V>, number: u32, value: V) -> Result<(), Memory>
+    ensures { OnOk result ((key : ℕ) → get nat_cmp firsts.new key ≡ option_or (get nat_cmp firsts.old key) (last_of number value key)) }
 {
     if firsts.contains_key(&number) {
         return Ok(());
@@ -50,7 +51,7 @@ fn count(numbers: &[u32]) -> Result<u32, Memory>
 #[derive(Drop)]
 pub struct Numbering {
     numbers: Vec<u32>,
-    places: HashMap<u32, u32>,
+    places: BTreeMap<u32, u32>,
 }
 
 impl Model for Numbering {
@@ -71,7 +72,7 @@ impl Numbering {
     {
         Numbering {
             numbers: Vec::new(alloc),
-            places: HashMap::new(alloc),
+            places: BTreeMap::new(alloc),
         }
     }
 
@@ -104,7 +105,7 @@ impl Numbering {
 #[derive(Drop)]
 pub struct Classes {
     classes: Vec<(u32, RegisterClass)>,
-    firsts: HashMap<u32, RegisterClass>,
+    firsts: BTreeMap<u32, RegisterClass>,
 }
 
 impl Model for Classes {
@@ -126,7 +127,7 @@ impl Classes {
     {
         Classes {
             classes: Vec::new(alloc),
-            firsts: HashMap::new(alloc),
+            firsts: BTreeMap::new(alloc),
         }
     }
 
