@@ -137,7 +137,7 @@ fn constants(alloc: Global) -> Result<Function, Fail> {
 fn has_instructions_in_order(rt: HostRuntime) -> Result<(), Fail> {
     let function = constants(rt.alloc())?;
     assert!(rt; function.block_count() == 1);
-    assert!(rt; function.instrs(0).count() == 3);
+    assert!(rt; function.instrs(0).len() == 3);
     assert!(rt; function.first_in(0) == Some(InstrId(0)));
     assert!(rt; function.last_in(0) == Some(InstrId(2)));
     Ok(())

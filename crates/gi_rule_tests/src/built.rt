@@ -76,7 +76,7 @@ pub fn has_rows(function: &Function, rows: &[Row<'_>]) -> bool {
         return false;
     }
     let instrs = function.instrs(0);
-    instrs.count() == rows.len()
+    instrs.len() == rows.len()
         && instrs.zip(rows).all(|(n, (op, operands))| n.instr.op == *op
             && n.instr.operands.as_slice() == *operands)
 }

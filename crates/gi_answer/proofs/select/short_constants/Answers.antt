@@ -1,6 +1,5 @@
-use Rattle.std.proofs.Common.{[], refl, sym, ap, ◌∙◌, nat_eq, rules}
+use Rattle.std.proofs.Common.{[], sym, ap, ◌∙◌, nat_eq, rules}
 use Rattle.std.specs.HashMap.{get}
-use Rattle.gi_mir.specs.Data.{InstrData}
 use Rattle.gi_mir.specs.Instrs.{left}
 use Rattle.gi_answer.specs.Selecting.{root_of, with_constant}
 use Rattle.gi_answer.proofs.SelectLoops.{constants_next, constants_end}
