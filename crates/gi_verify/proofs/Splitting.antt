@@ -1,5 +1,5 @@
 -- A list that is split at a place: those in front, the one there and those behind.
-use Rattle.std.proofs.Common.{◌≡◌, ℕ, zero, suc, ◌+◌, ◌<◌, ◌≤◌, List, [], ◌∷◌, ◌++◌, Some, length, get_or, slice_get, drop, take, ⊥, sym, refl, ap, ◌∙◌, arith}
+use Rattle.std.proofs.Common.{◌≡◌, ℕ, zero, suc, ◌+◌, ◌<◌, ◌≤◌, List, [], ◌∷◌, ◌++◌, Some, length, get_or, slice_get, drop, take, add-one, sym, refl, ap, ◌∙◌, arith}
 
 pub record IsSplit {X : Type 0} (xs : List X) (k : ℕ) (x : X) (after : List X) : Type 0 where
   pub within : k < length xs
@@ -26,7 +26,13 @@ split_at (y ∷ ys) zero x after h = record {
 }
 split_at (y ∷ ys) (suc k) x after h =
     let rest : IsSplit ys k x after = split_at ys k x after h in
-    record { within = omega (arith, rest.within); here = rest.here; same = rest.same; front = ap (λ l. y ∷ l) rest.front; behind = rest.behind }
+    record {
+      within = omega (arith, rest.within);
+      here = rest.here;
+      same = rest.same;
+      front = ap (λ j. take j (y ∷ ys)) (add-one (suc k)) ∙ ap (λ j. y ∷ take j ys) (sym (add-one k)) ∙ ap (λ l. y ∷ l) rest.front;
+      behind = ap (λ j. drop j (y ∷ ys)) (add-one (suc k)) ∙ ap (λ j. drop j ys) (sym (add-one k)) ∙ rest.behind;
+    }
 
 pub all_split : {X : Type 0} (xs : List X) (k : ℕ) → drop k xs ≡ [] → length xs ≤ k
 all_split [] k h = omega arith
