@@ -1,4 +1,4 @@
-use Rattle.std.proofs.Common.{◌≡◌, ◌+◌, sym, ap, ◌∙◌, arith}
+use Rattle.std.proofs.Common.{◌≡◌, ◌+◌, ap, ◌∙◌, arith}
 use Rattle.gi_verify.specs.Met.{is_met_with}
 use Rattle.gi_verify.proofs.Fewer.{none_met, some_unmet}
 use Rattle.gi_verify.proofs.registers.last_met.Goals as goal
