@@ -1,75 +1,67 @@
 -- What is written on pages, and where a register stands that is added to an order.
-use Rattle.std.proofs.Common.{◌≡◌, ℕ, suc, ◌+◌, ◌-◌, ◌/◌, ◌%◌, ◌<◌, ◌≤◌, ◌≢◌, Bool, true, false, not, ◌||◌, cond, List, [], ◌∷◌, ◌++◌, Option, Some, None, length, take, replicate, set, get_or, nat_eq, nat_lt, if◌then◌else◌, position, refl, sym, ap, ◌∙◌, arith, eqb-true, subst, zero}
+use Rattle.std.proofs.Common.{◌≡◌, ℕ, suc, ◌+◌, ◌-◌, ◌/◌, ◌%◌, ◌<◌, ◌≤◌, Bool, true, false, not, ◌||◌, cond, List, [], ◌∷◌, ◌++◌, Option, Some, None, length, replicate, set, get_or, unwrap_or, nat_eq, nat_lt, if◌then◌else◌, position, refl, sym, ap, ◌∙◌, arith, eqb-true, subst, zero}
+use Rattle.std.specs.BTreeMap.{BTreeMap, get, is_at, IsEmpty, IsUnchanged, Updates}
 use Rattle.std.specs.List.{list_any, position_or_len}
+use Rattle.std.specs.Map.{lookup}
+use Rattle.std.specs.Ordering.{is_eq, nat_cmp}
 use Rattle.std.proofs.lemmas.Bool.{eqb-false, ne_eqb}
 use Rattle.std.proofs.lemmas.Bool.Decides.{nat_tests}
 use Rattle.std.proofs.lemmas.List.{get_or-set_same, get_or-set_other, length-append}
 use Rattle.std.proofs.lemmas.List.Folds.{position_or_len_push}
 use Rattle.gi_mir.proofs.Places.{position_or_len-bound}
 use Rattle.gi_mir.specs.Numbering.{with_register}
-use Rattle.gi_registers.specs.Pages.{number_at, one_above, IsPaged, IsPageAlike, AreAlike, IsWritten}
+use Rattle.gi_registers.specs.Pages.{number_at, one_above, IsBlank, IsPaged, IsPageWritten, AreAlike, IsWritten}
 
 zeros : (m k : ℕ) → get_or {A = ℕ} (replicate m 0) k 0 ≡ 0
 zeros zero k = refl
 zeros (suc m) zero = refl
 zeros (suc m) (suc k) = zeros m k
 
-padded : (xs : List ℕ) (m k : ℕ) → get_or (xs ++ replicate m 0) k 0 ≡ get_or xs k 0
-padded [] m k = zeros m k
-padded (x ∷ xs) m zero = refl
-padded (x ∷ xs) m (suc k) = padded xs m k
+pub blank : (page : List ℕ) → page ≡ replicate 256 0 → IsBlank page
+blank page e = record { nowhere = λ k. ap (λ xs. get_or xs k 0) e ∙ zeros 256 k }
 
-taken : (n : ℕ) (xs : List ℕ) → length xs ≤ n → take n xs ≡ xs
-taken zero [] h = refl
-taken (suc n) [] h = refl
-taken zero (x ∷ xs) h = absurd (omega (arith, h))
-taken (suc n) (x ∷ xs) h = ap (λ ys. x ∷ ys) (taken n xs (omega (arith, h)))
+pub page_written : (old : List ℕ) (at place : ℕ) → at < length old → IsPageWritten old (set old at place) at place
+page_written old at place h = record {
+  here = get_or-set_same old at place 0 h;
+  elsewhere = λ k apart. get_or-set_other old at k place 0 (λ e. apart (sym e));
+}
 
-pub refilled : (old new : List ℕ) (ok : Bool) → length old < 256 → new ≡ (if ok then take 256 old ++ replicate (256 - length old) 0 else old) → IsPageAlike old new
-refilled old new true h e = record { alike = λ k. ap (λ xs. get_or xs k 0) (e ∙ ap (λ xs. xs ++ replicate (256 - length old) 0) (taken 256 old (omega (arith, h)))) ∙ padded old (256 - length old) k }
-refilled old new false h e = record { alike = λ k. ap (λ xs. get_or xs k 0) e }
+pub unwritten : (old new : BTreeMap ℕ (List ℕ)) → IsUnchanged old new → AreAlike old new
+unwritten old new e = record { alike = λ k. ap (λ es. get_or (unwrap_or (lookup (is_at (nat_cmp (k / 256))) es) []) (k % 256) 0) e }
 
-with_empty_page : (pages : List (List ℕ)) (k : ℕ) → get_or (pages ++ [] ∷ []) k [] ≡ get_or pages k []
-with_empty_page [] zero = refl
-with_empty_page [] (suc k) = refl
-with_empty_page (x ∷ xs) zero = refl
-with_empty_page (x ∷ xs) (suc k) = with_empty_page xs k
+abbrev page_of : BTreeMap ℕ (List ℕ) → ℕ → List ℕ
+page_of pages at = unwrap_or (get nat_cmp pages at) []
 
-pub grown : (old pages : List (List ℕ)) → AreAlike old pages → AreAlike old (pages ++ [] ∷ [])
-grown old pages h = record { alike = λ k. ap (λ page. get_or page (k % 256) 0) (with_empty_page pages (k / 256)) ∙ h.alike k }
+same_key : (a b : ℕ) → is_eq (nat_cmp a b) ≡ true → a ≡ b
+same_key a b h = grind (arith, nat_tests)
 
-on_page : (pages : List (List ℕ)) (at : ℕ) (page : List ℕ) (k : ℕ) → at < length pages → k / 256 ≡ at → number_at (set pages at page) k ≡ get_or page (k % 256) 0
-on_page pages at page k h e = ap (λ p. get_or p (k % 256) 0) (ap (λ i. get_or (set pages at page) i []) e ∙ get_or-set_same pages at page [] h)
-
-off_page : (pages : List (List ℕ)) (at : ℕ) (page : List ℕ) (k : ℕ) → k / 256 ≢ at → number_at (set pages at page) k ≡ number_at pages k
-off_page pages at page k h = ap (λ p. get_or p (k % 256) 0) (get_or-set_other pages at (k / 256) page [] h)
-
-pub unwritten : (old pages : List (List ℕ)) (at : ℕ) (page : List ℕ) → AreAlike old pages → at < length pages → IsPageAlike (get_or pages at []) page → AreAlike old (set pages at page)
-unwritten old pages at page alike within same = record { alike = λ k. by k (nat_eq (k / 256) at) refl }
-  where
-    by : (k : ℕ) (b : Bool) → nat_eq (k / 256) at ≡ b → number_at (set pages at page) k ≡ number_at old k
-    by k true e = let here = eqb-true (k / 256) at e in on_page pages at page k within here ∙ same.alike (k % 256) ∙ sym (ap (λ i. get_or (get_or pages i []) (k % 256) 0) here) ∙ alike.alike k
-    by k false e = off_page pages at page k (eqb-false (k / 256) at e) ∙ alike.alike k
-
-pub written : (old pages : List (List ℕ)) (n place : ℕ) (page : List ℕ) → AreAlike old pages → n / 256 < length pages → IsPageAlike (get_or pages (n / 256) []) page → 256 ≤ length page → IsWritten old (set pages (n / 256) (set page (n % 256) place)) n place
-written old pages n place page alike within same long = record {
-  here = on_page pages (n / 256) (set page (n % 256) place) n within refl ∙ get_or-set_same page (n % 256) place 0 on;
-  elsewhere = λ k apart. by k (nat_eq (k / 256) (n / 256)) refl apart;
+pub written : (old new : BTreeMap ℕ (List ℕ)) (n place : ℕ) (before page : List ℕ) → page_of old (n / 256) ≡ before → IsPageWritten before page (n % 256) place → Updates nat_cmp old new (n / 256) (Some page) → IsWritten old new n place
+written old new n place before page was wrote updates = record {
+  here = ap (λ p. get_or (unwrap_or p []) (n % 256) 0) updates.1 ∙ wrote.here;
+  elsewhere = λ k apart. by k apart (is_at (nat_cmp (n / 256)) (k / 256)) refl;
 }
   where
-    on : n % 256 < length page
-    on = grind (arith)
-
-    by : (k : ℕ) (b : Bool) → nat_eq (k / 256) (n / 256) ≡ b → nat_eq n k ≡ false → number_at (set pages (n / 256) (set page (n % 256) place)) k ≡ number_at old k
-    by k true e apart =
-        let here = eqb-true (k / 256) (n / 256) e in
-        on_page pages (n / 256) (set page (n % 256) place) k within here
-        ∙ get_or-set_other page (n % 256) (k % 256) place 0 (λ same_rest. eqb-false n k apart (one here same_rest))
-        ∙ same.alike (k % 256) ∙ sym (ap (λ i. get_or (get_or pages i []) (k % 256) 0) here) ∙ alike.alike k
+    by : (k : ℕ) → nat_eq n k ≡ false → (b : Bool) → is_at (nat_cmp (n / 256)) (k / 256) ≡ b → number_at new k ≡ number_at old k
+    by k apart true e =
+        ap (λ at. get_or (page_of new at) (k % 256) 0) (sym here)
+        ∙ ap (λ p. get_or (unwrap_or p []) (k % 256) 0) updates.1
+        ∙ wrote.elsewhere (k % 256) (λ same_rest. eqb-false n k apart (one here same_rest))
+        ∙ ap (λ p. get_or p (k % 256) 0) (sym was)
+        ∙ ap (λ at. get_or (page_of old at) (k % 256) 0) here
       where
-        one : k / 256 ≡ n / 256 → k % 256 ≡ n % 256 → n ≡ k
+        here : n / 256 ≡ k / 256
+        here = same_key (n / 256) (k / 256) e
+
+        one : n / 256 ≡ k / 256 → n % 256 ≡ k % 256 → n ≡ k
         one q r = omega (arith, q, r)
-    by k false e apart = off_page pages (n / 256) (set page (n % 256) place) k (eqb-false (k / 256) (n / 256) e) ∙ alike.alike k
+    by k apart false e = ap (λ p. get_or (unwrap_or p []) (k % 256) 0) (updates.2 (k / 256) e)
+
+pub none_paged : (pages : BTreeMap ℕ (List ℕ)) → IsEmpty pages → IsPaged [] pages
+none_paged pages e = record { number_at = λ n. ap (λ es. get_or (unwrap_or (lookup (is_at (nat_cmp (n / 256))) es) []) (n % 256) 0) e }
+
+pub put : (old new : BTreeMap ℕ (List ℕ)) (n place : ℕ) (blank page : List ℕ) → get nat_cmp old (n / 256) ≡ None → IsBlank blank → IsPageWritten blank page (n % 256) place → Updates nat_cmp old new (n / 256) (Some page) → IsWritten old new n place
+put old new n place blank page none is wrote updates =
+    written old new n place [] page (ap (λ p. unwrap_or p []) none) (record { here = wrote.here; elsewhere = λ k apart. wrote.elsewhere k apart ∙ is.nowhere k }) updates
 
 pub no_place : (found : Option ℕ) → 0 ≡ one_above found → None ≡ found
 no_place None h = refl
@@ -119,7 +111,7 @@ same n = grind (arith, nat_tests)
 pub place_of_added : (keys : List ℕ) (n : ℕ) → None ≡ position (nat_eq n) keys → position (nat_eq n) (keys ++ n ∷ []) ≡ Some (length keys)
 place_of_added keys n h = first_of_more keys n n ∙ rw (is_missing keys n h, same n) refl
 
-pub paged_with : (keys : List ℕ) (old new : List (List ℕ)) (n place : ℕ) → IsPaged keys old → None ≡ position (nat_eq n) keys → place ≡ length keys + 1 → IsWritten old new n place → IsPaged (keys ++ n ∷ []) new
+pub paged_with : (keys : List ℕ) (old new : BTreeMap ℕ (List ℕ)) (n place : ℕ) → IsPaged keys old → None ≡ position (nat_eq n) keys → place ≡ length keys + 1 → IsWritten old new n place → IsPaged (keys ++ n ∷ []) new
 paged_with keys old new n place paged h count wrote = record { number_at = λ k. by k (nat_eq n k) refl }
   where
     by : (k : ℕ) (b : Bool) → nat_eq n k ≡ b → number_at new k ≡ one_above (position (nat_eq k) (keys ++ n ∷ []))

@@ -1,35 +1,50 @@
 //! Virtual registers in the order in which they were added, each once.
 //!
 //! A register is looked for by place: its number names a page and a place on it. So no choice of numbers makes it slow,
-//! as it can make a hash. A page is filled where a register of it is.
+//! as it can make a hash. A page is there where a register of it is, and is found in a tree, so that a high number costs
+//! no more than a low one.
 
-ghost use Rattle.std.specs.Prelude.{◌≡◌, ◌<◌, ◌≤◌, ◌^◌, ◌/◌, ◌%◌, ◌+◌, [], Some, OnOk, OnErr, IfOk, length, nat_eq, position, get_or, set};
-ghost use Rattle.gi_registers.specs.Pages.{number_at, AreAlike, IsPageAlike, IsWritten};
+ghost use Rattle.std.specs.Prelude.{◌≡◌, ◌≢◌, ◌<◌, ◌≤◌, ◌^◌, ◌/◌, ◌%◌, ◌+◌, ℕ, [], Some, None, OnOk, OnErr, IfOk, length, nat_eq, position, get_or};
+ghost use Rattle.gi_registers.specs.Pages.{number_at, AreAlike, IsBlank, IsPageWritten, IsWritten};
 ghost use Rattle.gi_mir.specs.Numbering.{with_register};
+ghost use Rattle.std.specs.BTreeMap.{get};
+ghost use Rattle.std.specs.Ordering.{nat_cmp};
 
 use gi_llt::Memory;
 use gi_mir::operand::Reg;
 use std::alloc::Global;
+use std::collections::BTreeMap;
 use std::marker::Model;
 
 /// How many places a page has.
 const PAGE: u32 = 256;
 
-/// A page of the numbers that stand at 256 places, or an empty one.
+/// A page of the numbers that stand at 256 places.
 #[derive(Drop)]
 struct Page {
     places: Vec<usize>,
 }
 
 impl Model for Page {
-    ghost use Rattle.std.specs.Prelude.{List, ℕ};
+    ghost use Rattle.std.specs.Prelude.{◌≡◌, List, ℕ, length};
 
     ghost Value = { List ℕ };
 
     ghost view = { λ a. a.places.items };
+
+    ghost invariant = { λ a. length a.places.items ≡ 256 };
 }
 
 impl Page {
+    /// A page where nothing is written.
+    #[tactic(auto, using(crate::proofs::Paging::blank))]
+    fn new(alloc: Global) -> Result<Page, Memory>
+        ensures { IfOk result (λ page. IsBlank page) }
+    {
+        let places = vec![in alloc; 0; 256].map_err(|_| Memory)?;
+        Ok(Page { places })
+    }
+
     /// The number at this place.
     fn number_at(&self, at: usize) -> usize
         ensures { result ≡ get_or self.now at 0 }
@@ -40,70 +55,59 @@ impl Page {
         }
     }
 
-    /// Fills an empty page.
-    #[tactic(auto, using(crate::proofs::Paging::refilled))]
-    fn fill(&mut self) -> Result<(), Memory>
-        ensures alike { IsPageAlike self.old self.new }
-        ensures ok { OnOk result (256 ≤ length self.new) }
-    {
-        if self.places.len() < 256 {
-            self.places.resize(256, 0).map_err(|_| Memory)?;
-        }
-        Ok(())
-    }
-
     /// Writes a number down.
+    #[tactic(auto, using(crate::proofs::Paging::page_written))]
     fn write(&mut self, at: usize, place: usize)
-        requires { at < length self.old }
-        ensures { self.new ≡ set self.old at place }
+        requires { at < 256 }
+        ensures { IsPageWritten self.old self.new at place }
     {
         self.places[at] = place;
     }
 }
 
 /// The number at a place.
-fn number_at(pages: &[Page], n: u32) -> usize
+fn number_at(pages: &BTreeMap<u32, Page>, n: u32) -> usize
     ensures { result ≡ number_at pages.now n }
 {
-    match pages.get((n / PAGE) as usize) {
+    match pages.get(&(n / PAGE)) {
         Some(page) => page.number_at((n % PAGE) as usize),
         None => 0,
     }
 }
 
-/// Adds empty pages up to this count.
-#[tactic(auto, using(crate::proofs::Paging::grown))]
-fn grow(pages: &mut Vec<Page>, count: usize) -> Result<(), Memory>
-    ensures alike { AreAlike pages.old.items pages.new.items }
-    ensures ok { OnOk result (count ≤ length pages.new.items) }
+/// Puts a page in on which a number is written down, where there was none.
+#[tactic(auto, using(crate::proofs::Paging::put, crate::proofs::Paging::unwritten))]
+fn put(alloc: Global, pages: &mut BTreeMap<u32, Page>, n: u32, place: usize) -> Result<(), Memory>
+    requires { get nat_cmp pages.old (n / 256) ≡ None }
+    ensures ok { OnOk result (IsWritten pages.old pages.new n place) }
+    ensures err { OnErr result (AreAlike pages.old pages.new) }
 {
-    while pages.len() < count {
-        let page = Page {
-            places: Vec::new(*pages.allocator()),
-        };
-        pages.push(page).map_err(|_| Memory)?;
+    let mut page = Page::new(alloc)?;
+    page.write((n % PAGE) as usize, place);
+    match pages.insert(n / PAGE, page) {
+        Ok(_) => Ok(()),
+        Err(_) => Err(Memory),
     }
-    Ok(())
 }
 
 /// Writes a number down at a place.
-#[tactic(auto, using(crate::proofs::Paging::written, crate::proofs::Paging::unwritten))]
-fn write(pages: &mut Vec<Page>, n: u32, place: usize) -> Result<(), Memory>
-    ensures ok { OnOk result (IsWritten pages.old.items pages.new.items n place) }
-    ensures err { OnErr result (AreAlike pages.old.items pages.new.items) }
+#[tactic(auto, using(crate::proofs::Paging::written))]
+fn write(alloc: Global, pages: &mut BTreeMap<u32, Page>, n: u32, place: usize) -> Result<(), Memory>
+    ensures ok { OnOk result (IsWritten pages.old pages.new n place) }
+    ensures err { OnErr result (AreAlike pages.old pages.new) }
 {
-    grow(pages, (n / PAGE) as usize + 1)?;
-    let page = &mut pages[(n / PAGE) as usize];
-    page.fill()?;
-    page.write((n % PAGE) as usize, place);
-    Ok(())
+    if let Some(page) = pages.get_mut(&(n / PAGE)) {
+        page.write((n % PAGE) as usize, place);
+        return Ok(());
+    }
+    put(alloc, pages, n, place)
 }
 
 /// Virtual registers in the order in which they were added, each once.
 #[derive(Drop)]
 pub struct RegisterSet {
     order: Vec<u32>,
-    pages: Vec<Page>,
+    pages: BTreeMap<u32, Page>,
 }
 
 impl Model for RegisterSet {
@@ -114,17 +118,18 @@ impl Model for RegisterSet {
 
     ghost view = { λ a. a.order.items };
 
-    ghost invariant = { λ a. IsPaged a.order.items a.pages.items };
+    ghost invariant = { λ a. IsPaged a.order.items a.pages };
 }
 
 impl RegisterSet {
     /// No register.
+    #[tactic(auto, using(crate::proofs::Paging::none_paged))]
     pub fn new(alloc: Global) -> RegisterSet
         ensures { result ≡ [] }
     {
         RegisterSet {
             order: Vec::new(alloc),
-            pages: Vec::new(alloc),
+            pages: BTreeMap::new(alloc),
         }
     }
 
@@ -141,7 +146,7 @@ impl RegisterSet {
     pub fn index_of(&self, reg: Reg) -> Option<usize>
         ensures { result ≡ position (nat_eq reg.0) self.now }
     {
-        match number_at(self.pages.as_slice(), reg.0) {
+        match number_at(&self.pages, reg.0) {
             0 => None,
             one_above => Some(one_above - 1),
         }
@@ -159,7 +164,7 @@ impl RegisterSet {
         }
         let place = self.order.len();
         self.order.reserve(1).map_err(|_| Memory)?;
-        write(&mut self.pages, reg.0, place + 1)?;
+        write(*self.order.allocator(), &mut self.pages, reg.0, place + 1)?;
         self.order.push(reg.0).map_err(|_| Memory)?;
         Ok(place)
     }

@@ -2,6 +2,7 @@ pub mod Adding
 pub mod Backwards
 pub mod Climbing
 pub mod Counting
+pub mod Fewer
 pub mod Finding
 pub mod Front
 pub mod Growing

@@ -15,7 +15,7 @@ use Rattle.gi_mir.specs.Row.{access_of, rows_of}
 use Rattle.gi_meaning.specs.Runs.{is_among}
 use Rattle.gi_valid.specs.Available.{is_physical_at_start, is_physical_there}
 use Rattle.gi_valid.specs.Definitions.{defines_physical}
-use Rattle.gi_valid.specs.Faults.{is_used_first}
+use Rattle.gi_valid.specs.Faults.{goes_across, is_used_first}
 use Rattle.gi_verify.specs.declared.effects.Effect.{Effect}
 use Rattle.gi_verify.specs.declared.mask.Mask.{Mask}
 use Rattle.gi_verify.proofs.Splitting.{IsSplit}
@@ -104,6 +104,23 @@ without_in a b turned is = record {
 }
 
 -- ══ One after the other ══
+
+both_is : (x y : ℕ) → x < 2 → y < 2 → (min x y == 1) ≡ ((x == 1) && (y == 1))
+both_is zero zero h g = refl
+both_is zero (suc zero) h g = refl
+both_is (suc zero) zero h g = refl
+both_is (suc zero) (suc zero) h g = refl
+both_is (suc (suc x)) y h g = absurd (past x h)
+  where
+    past : (n : ℕ) → suc (suc n) < 2 → ⊥
+    past n h = omega (arith, h)
+both_is x (suc (suc y)) h g = absurd (past y g)
+  where
+    past : (n : ℕ) → suc (suc n) < 2 → ⊥
+    past n h = omega (arith, h)
+
+pub both_in : (a b : Mask) → IsMaskOf (λ n. has a n && has b n) (record { bits = bit_and a.bits b.bits })
+both_in a b = record { by = λ n h. ap (λ k. k == 1) (bit_at_and a.bits b.bits n) ∙ both_is (bit_at a.bits n) (bit_at b.bits n) (bit_at-lt a.bits n) (bit_at-lt b.bits n) }
 
 pub same_in : (test : ℕ → Bool) (mask : Mask) → ((n : ℕ) → test n ≡ false) → IsMaskOf (λ n. has mask n || test n) mask
 same_in test mask none = record { by = λ n h. or_false (has mask n) ∙ ap (λ t. has mask n || t) (sym (none n)) }
@@ -313,3 +330,25 @@ last_of false b h = cc
 pub formed_in_range : (i : InstrData) → is_formed i ≡ true → list_all is_in_range i.operands ≡ true
 unfolding is_formed
 formed_in_range i formed = last_of (fits_one_of (rows_of i.op) i.operands && has_access (access_of i.op) i.mem) (list_all is_in_range i.operands) formed
+
+-- ══ Registers across an instruction ══
+
+across_is : (zeroth second own there used : Bool) → (not ((zeroth || second) || own) && (there && used)) ≡ (not zeroth && not second && there && not own && used)
+across_is true second own there used = refl
+across_is false true own there used = refl
+across_is false false true true used = refl
+across_is false false true false used = refl
+across_is false false false true used = refl
+across_is false false false false used = refl
+
+pub across_in : (f : FunctionData) (b : ℕ) (front after : List (ℕ × InstrData)) (i : ℕ × InstrData) (there used always kept over all : Mask) (own : Effect)
+    → IsMaskOf (is_physical_there f b front) there → IsMaskOf (λ n. is_used_first n after) used → IsEffect i own
+    → IsMaskOf (λ n. (n == 0) || (n == 2)) always → IsMaskOf (λ n. has always n || has own.definitions n) kept
+    → IsMaskOf (λ n. has there n && has used n) over → IsMaskOf (λ n. not (has kept n) && has over n) all
+    → IsMaskOf (goes_across f (record { block = b; before = front; instr = i.1; after = after })) all
+across_in f b front after i there used always kept over all own is_there is_used is_own is_always is_kept is_over is_all = record {
+  by = λ n h.
+      is_all.by n h
+      ∙ ap₂ (λ s t. not s && t) (is_kept.by n h ∙ ap₂ ◌||◌ (is_always.by n h) (is_own.definitions.by n h)) (is_over.by n h ∙ ap₂ ◌&&◌ (is_there.by n h) (is_used.by n h))
+      ∙ across_is (n == 0) (n == 2) (defines_physical n i) (is_physical_there f b front n) (is_used_first n after);
+}

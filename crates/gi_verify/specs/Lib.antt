@@ -1,5 +1,6 @@
 pub mod Counted
 pub mod Masks
+pub mod Met
 pub mod Named
 pub mod Passed
 pub mod Refusal

@@ -69,3 +69,12 @@ pub(crate) fn without(b: Mask, a: Mask) -> Mask
         bits: turned(a.bits) & b.bits,
     }
 }
+
+/// What is in both of two sets.
+pub(crate) fn both(a: Mask, b: Mask) -> Mask
+    ensures { IsMaskOf (λ n. has a n && has b n) result }
+{
+    Mask {
+        bits: a.bits & b.bits,
+    }
+}

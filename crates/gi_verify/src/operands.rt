@@ -17,28 +17,6 @@ use gi_mir::opcode::Opcode;
 use gi_mir::operand::{Operand, Reg};
 use gi_mir::row::Access;
 
-/// Whether an operand defines a physical register.
-fn is_physical_def_of(n: u8, operand: Operand) -> bool
-    ensures { result ≡ definitions.is_physical_def_of n operand }
-{
-    match operand {
-        Operand::PhysDef(m) | Operand::ImplicitDef(m) => m == n,
-        _ => false,
-    }
-}
-
-/// Whether an instruction defines a physical register, also beside what it shows.
-pub(crate) fn defines_physical(n: u8, numbered: &Numbered) -> bool
-    ensures { result ≡ definitions.defines_physical n numbered.now }
-{
-    numbered
-        .instr
-        .operands
-        .as_slice()
-        .iter()
-        .any(|x| is_physical_def_of(n, *x))
-}
-
 /// Whether an instruction defines a register.
 pub(crate) fn defines(r: u32, numbered: &Numbered) -> bool
     ensures { result ≡ defines r numbered.now }

@@ -11,10 +11,9 @@ ghost use Rattle.gi_valid.specs.declared.invalid.Invalid.TheVariants as Invalid;
 ghost use Rattle.gi_verify.specs.Masks.{AreEffects, IsMaskOf, has};
 ghost use Rattle.gi_mir.specs.Instrs.{left};
 
-use crate::effects::Effect;
-use crate::mask::{Mask, either, has, none, with};
+use crate::effects::{Effect, effect_of};
+use crate::mask::{Mask, both, either, has, none, with, without};
 use crate::mismatch::may_call;
-use crate::operands::defines_physical;
 use gi_llt::{Memory, Target};
 use gi_mir::block::Numbered;
 use gi_mir::function::Function;
@@ -90,8 +89,9 @@ pub(crate) fn is_physical_there(
     has(there, n)
 }
 
-/// Whether a physical register is used behind an instruction that may overwrite it.
-fn goes_across(
+/// The physical registers that are used behind an instruction that may overwrite them.
+#[tactic(auto, using(crate::proofs::Masking::across_in))]
+fn across(
     function: &Function,
     there: Mask,
     used: Mask,
@@ -99,19 +99,18 @@ fn goes_across(
     front: Instrs<'_>,
     numbered: &Numbered,
     after: Instrs<'_>,
-    n: u8,
-) -> bool
-    requires within { n < 32 }
+) -> Mask
     requires there { IsMaskOf (available.is_physical_there function.now b (left front)) there }
     requires used { IsMaskOf (λ n. faults.is_used_first n (left after)) used }
-    ensures { result ≡ faults.goes_across function.now (record { block = b; before = left front.entry; instr = (numbered.now).1; after = left after.entry }) n }
+    ensures { IsMaskOf (faults.goes_across function.now (record { block = b; before = left front.entry; instr = (numbered.now).1; after = left after.entry })) result }
 {
+    let _ = function;
+    let _ = b;
+    let _ = front;
     let _ = after;
-    n != 0
-        && n != 2
-        && is_physical_there(function, there, b, front, n)
-        && !defines_physical(n, numbered)
-        && has(used, n)
+    let own = effect_of(numbered).definitions;
+    let kept = either(always(), own);
+    without(both(there, used), kept)
 }
 
 /// The lowest register below a number that is.
@@ -130,8 +129,9 @@ fn first_across(
     requires used { IsMaskOf (λ n. faults.is_used_first n (left after)) used }
     ensures { result ≡ find (faults.goes_across function.now (record { block = b; before = left front.entry; instr = (numbered.now).1; after = left after.entry })) (range_with_len 0 end) }
 {
+    let mask = across(function, there, used, b, front, numbered, after);
     for n in 0..end {
-        if goes_across(function, there, used, b, front, numbered, after, n) {
+        if has(mask, n) {
             return Some(n);
         }
     }

@@ -1,10 +1,12 @@
 //! What an instruction's virtual registers are.
 
-ghost use Rattle.std.specs.Prelude.{◌≡◌, ◌++◌, ◌∷◌, [], ◌≤◌, ◌-◌, ℕ, Some, None, Option, OnOk, IfOk, length, map, take, drop, replicate};
+ghost use Rattle.std.specs.Prelude.{◌≡◌, ◌++◌, ◌∷◌, [], ◌<◌, ◌≤◌, ◌-◌, ℕ, Some, None, false, Option, OnOk, IfOk, length, map, take, drop, replicate};
 ghost use Rattle.gi_llt.specs.declared.Llt.{Llt};
 ghost use Rattle.gi_mir.specs.Registers.{type_of_kind};
 ghost use Rattle.gi_meaning.specs.InRow as in_row;
 ghost use Rattle.gi_valid.specs.Typing as typings;
+ghost use Rattle.gi_mir.specs.declared.typing.Relation.TheVariants as Relation;
+ghost use Rattle.gi_verify.specs.Met.{IsLastMet, is_met_with};
 
 use crate::typing::{meets, push};
 use gi_llt::{Llt, Memory};
@@ -12,7 +14,7 @@ use gi_mir::function::Function;
 use gi_mir::instr::Instr;
 use gi_mir::operand::{Kind, Operand, Reg};
 use gi_mir::stage::Stage;
-use gi_mir::typing::Typing;
+use gi_mir::typing::{Relation, Typing};
 use std::alloc::Global;
 
 /// The type of a register of this kind.
@@ -137,7 +139,7 @@ fn is_met(
     requires small { x ≤ 64 }
     requires within { count ≤ length types.now }
     requires results { results ≤ length types.now }
-    ensures { IfOk result (λ t. t ≡ typings.meets x typing.now (take results (take count types.now ++ replicate (length types.now - count) None)) (drop results (take count types.now ++ replicate (length types.now - count) None))) }
+    ensures { IfOk result (λ t. t ≡ is_met_with x typing.now results types.now count) }
 {
     let known = masked(alloc, types, count)?;
     let all = known.as_slice();
@@ -167,8 +169,62 @@ pub(crate) fn count_results(operands: &[Operand]) -> usize
     count
 }
 
-/// The first register with whose type none of the later ones would meet the row.
-pub(crate) fn first_unmet(
+/// With how many of the first types the row is met last, where it isn't with so many, found by halves.
+fn last_met(
+    alloc: Global,
+    x: u16,
+    typing: &Typing,
+    results: usize,
+    types: &[Option<Llt>],
+    count: usize,
+) -> Result<usize, Memory>
+    requires small { x ≤ 64 }
+    requires results { results ≤ length types.now }
+    requires within { count ≤ length types.now }
+    requires free { typing.now.relation ≡ Relation.Free }
+    requires unmet { is_met_with x typing.now results types.now count ≡ false }
+    ensures last { IfOk result (λ k. IsLastMet x typing.now results types.now k) }
+    ensures within { IfOk result (λ k. k < count) }
+{
+    let mut met = 0;
+    let mut unmet = count;
+    while met + 1 < unmet {
+        let middle = met + (unmet - met) / 2;
+        if is_met(alloc, x, typing, results, types, middle)? {
+            met = middle;
+        } else {
+            unmet = middle;
+        }
+    }
+    Ok(met)
+}
+
+/// The first register with whose type none of the later ones would meet the row, where no types are related: a row that
+/// is met with some types is then met with fewer.
+#[tactic(auto, using(crate::proofs::Unmet::all_met, crate::proofs::Unmet::last_met))]
+fn first_unmet_by_halves(
+    alloc: Global,
+    x: u16,
+    typing: &Typing,
+    results: usize,
+    registers: &[u32],
+    types: &[Option<Llt>],
+) -> Result<Option<u32>, Memory>
+    requires small { x ≤ 64 }
+    requires count { length types.now ≡ length registers.now }
+    requires results { results ≤ length types.now }
+    requires free { typing.now.relation ≡ Relation.Free }
+    ensures { (type_of : ℕ → Option Llt) → types.now ≡ map type_of registers.now → IfOk result (λ found. found ≡ typings.first_unmet x type_of typing.now results [] registers.now) }
+{
+    if is_met(alloc, x, typing, results, types, registers.len())? {
+        return Ok(None);
+    }
+    let met = last_met(alloc, x, typing, results, types, registers.len())?;
+    Ok(Some(registers[met]))
+}
+
+/// The same, one register after the other.
+fn first_unmet_in_turn(
     alloc: Global,
     x: u16,
     typing: &Typing,
@@ -187,4 +243,24 @@ pub(crate) fn first_unmet(
         }
     }
     Ok(None)
+}
+
+/// The first register with whose type none of the later ones would meet the row.
+pub(crate) fn first_unmet(
+    alloc: Global,
+    x: u16,
+    typing: &Typing,
+    results: usize,
+    registers: &[u32],
+    types: &[Option<Llt>],
+) -> Result<Option<u32>, Memory>
+    requires small { x ≤ 64 }
+    requires count { length types.now ≡ length registers.now }
+    requires results { results ≤ length types.now }
+    ensures { (type_of : ℕ → Option Llt) → types.now ≡ map type_of registers.now → IfOk result (λ found. found ≡ typings.first_unmet x type_of typing.now results [] registers.now) }
+{
+    match typing.relation {
+        Relation::Free => { first_unmet_by_halves(alloc, x, typing, results, registers, types) }
+        _ => first_unmet_in_turn(alloc, x, typing, results, registers, types),
+    }
 }

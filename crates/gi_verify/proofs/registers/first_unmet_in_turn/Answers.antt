@@ -1,6 +1,6 @@
 use Rattle.std.proofs.Common.{sym, ◌∙◌}
 use Rattle.gi_verify.proofs.Unmet.{unmet_on, unmet_here}
-use Rattle.gi_verify.proofs.registers.first_unmet.Goals as goal
+use Rattle.gi_verify.proofs.registers.first_unmet_in_turn.Goals as goal
 
 pub returns-then-not-branch : goal.returns-then-not-branch
 returns-then-not-branch c = λ type_of are.
