@@ -91,4 +91,3 @@ pub(crate) fn passed_with(passed: Passed, front: Instrs<'_>, numbered: &Numbered
         phis,
     }
 }
-

@@ -13,13 +13,12 @@ pub loop-numbered-preserved : goal.loop-numbered-preserved
 loop-numbered-preserved c =
     let x = c.args.target.xlen in
     let f = c.args.function.now in
-    let front : List (ℕ × InstrData) = c.loop-numbered.invariant.0 in
-    (
+    let front : List (ℕ × InstrData) = c.loop-numbered.invariant.0 in (
       front ++ c.in-Some.numbered.now ∷ [],
       append_assoc front (c.in-Some.numbered.now ∷ []) (left c.next.new.self) ∙ ap (λ is. front ++ is) (sym c.in-Some.ensures.steps) ∙ c.loop-numbered.invariant.1,
       subst (IsTold (illegal_in_instrs x c.args.stage f (front ++ c.in-Some.numbered.now ∷ [])))
-      (sym (c.of_lower_line-told.ensures ∙ ap (of_lower_line c.loop-numbered.told) (c.illegal_line.ensures ∙ ap (λ i. illegal_line x c.args.stage f i.1) c.numbered.view_is)))
-      (one_instr_more x c.args.stage f front c.in-Some.numbered.now c.loop-numbered.told c.loop-numbered.invariant.2),
+          (sym (c.of_lower_line-told.ensures ∙ ap (of_lower_line c.loop-numbered.told) (c.illegal_line.ensures ∙ ap (λ i. illegal_line x c.args.stage f i.1) c.numbered.view_is)))
+          (one_instr_more x c.args.stage f front c.in-Some.numbered.now c.loop-numbered.told c.loop-numbered.invariant.2),
     )
 
 pub returns : goal.returns

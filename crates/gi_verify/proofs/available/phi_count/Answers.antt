@@ -14,10 +14,9 @@ loop-numbered-preserved c =
     let k : ℕ = c.loop-numbered.count in
     let n : ℕ × InstrData = c.in-Some.numbered.now in
     let after : List (ℕ × InstrData) = left c.next.new.self in
-    let split : IsSplit all k n after = split_at all k n after (sym c.in-Some.ensures.steps ∙ c.loop-numbered.invariant.1) in
-    (
+    let split : IsSplit all k n after = split_at all k n after (sym c.in-Some.ensures.steps ∙ c.loop-numbered.invariant.1) in (
       c.loop-numbered.invariant.0 ∙ ap (λ l. take k all ++ phis_of l) c.in-Some.ensures.steps ∙ ap (λ l. take k all ++ l) (one_phi n after (ap (λ (j : ℕ × InstrData). is_phi j.1) (sym c.numbered.view_is) ∙ sym c.is_phi.ensures ∙ c.if-not-is_phi.false))
-      ∙ sym (append_assoc (take k all) (n ∷ []) (phis_of after)) ∙ ap (λ l. l ++ phis_of after) (sym split.front),
+          ∙ sym (append_assoc (take k all) (n ∷ []) (phis_of after)) ∙ ap (λ l. l ++ phis_of after) (sym split.front),
       sym split.behind,
     )
 

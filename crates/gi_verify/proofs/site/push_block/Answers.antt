@@ -16,11 +16,10 @@ use Rattle.gi_verify.proofs.site.push_block.Goals as goal
 
 pub loop-numbered-init : goal.loop-numbered-init
 loop-numbered-init c =
-    let all : List (ℕ × InstrData) = (block_at c.args.function.now c.args.b).instrs in
-    (
+    let all : List (ℕ × InstrData) = (block_at c.args.function.now c.args.b).instrs in (
       c.instrs-instrs.ensures,
       subst (λ l. AreToldTo c.args.target.xlen (phase_of c.args.stage) c.args.function.now c.args.b all [] l c.args.out.now.items c.args.out.now.items) (sym c.instrs-instrs.ensures)
-      (none_told c.args.target.xlen (phase_of c.args.stage) c.args.function.now c.args.b all c.args.out.now.items),
+          (none_told c.args.target.xlen (phase_of c.args.stage) c.args.function.now c.args.b all c.args.out.now.items),
       c.nothing-passed.ensures,
       there_first c.args.function.now c.args.b all c.there_at_start-there.result c.there_at_start-there.ensures,
     )
@@ -76,13 +75,12 @@ loop-numbered-preserved c =
     let n : ℕ × InstrData = c.in-Some.numbered.now in
     let after : List (ℕ × InstrData) = left c.next.new.self in
     let split : IsSplit all k n after = split_at all k n after (sym c.in-Some.ensures.steps ∙ c.loop-numbered.invariant.0) in
-    let front : left c.first-front.result ≡ take k all = c.first-front.ensures ∙ ap (take k) c.instrs-instrs.ensures in
-    (
+    let front : left c.first-front.result ≡ take k all = c.first-front.ensures ∙ ap (take k) c.instrs-instrs.ensures in (
       sym split.behind,
       subst (λ l. AreToldTo c.args.target.xlen (phase_of c.args.stage) c.args.function.now c.args.b all l after c.args.out.now.items c.push_site.new.out.items) (sym split.front)
-      (one_told c.args.target.xlen (phase_of c.args.stage) c.args.function.now c.args.b all (take k all) n after c.args.out.now.items c.loop-numbered.out.items c.push_site.new.out.items
-      (subst (λ l. AreToldTo c.args.target.xlen (phase_of c.args.stage) c.args.function.now c.args.b all (take k all) l c.args.out.now.items c.loop-numbered.out.items) c.in-Some.ensures.steps c.loop-numbered.invariant.1)
-      (subst (λ l. IsTold c.args.target.xlen (phase_of c.args.stage) c.args.function.now c.args.b l n after c.loop-numbered.out.items c.push_site.new.out.items) front c.in_ok-push_site.ensures)),
+          (one_told c.args.target.xlen (phase_of c.args.stage) c.args.function.now c.args.b all (take k all) n after c.args.out.now.items c.loop-numbered.out.items c.push_site.new.out.items
+          (subst (λ l. AreToldTo c.args.target.xlen (phase_of c.args.stage) c.args.function.now c.args.b all (take k all) l c.args.out.now.items c.loop-numbered.out.items) c.in-Some.ensures.steps c.loop-numbered.invariant.1)
+          (subst (λ l. IsTold c.args.target.xlen (phase_of c.args.stage) c.args.function.now c.args.b l n after c.loop-numbered.out.items c.push_site.new.out.items) front c.in_ok-push_site.ensures)),
       subst (λ l. IsPassed l c.passed_with-passed.result) (ap (λ l. l ++ n ∷ []) front ∙ sym split.front) c.passed_with-passed.ensures,
       c.there_with-there.ensures,
     )
