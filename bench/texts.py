@@ -136,7 +136,7 @@ def calls(count):
     return COPIED + filling(count) + call * count + RETURN
 
 
-@valid(OPERANDS // 3 - 1)
+@valid(OPERANDS // 3 - 2)
 def physical(count):
     """A physical register is defined behind fillers, and read twice as often at the end."""
     reads = ", implicit $x11" * (2 * count)
@@ -148,6 +148,13 @@ def liveins(count):
     """Copies of the last of seven times as many liveins."""
     head = HEAD + "    liveins: " + "$x9," * (7 * count) + "$x10\n"
     return head + each("    %%%d:_(s32) = COPY $x10\n", range(count)) + RETURN
+
+
+@valid(PROBE)
+def high_registers(count):
+    """Short functions, each of whose registers has a number far from those of the others."""
+    numbers = [(REGISTERS - 1 - 65_521 * k) % REGISTERS for k in range(count)]
+    return HEAD + each("    %%%d:_(s32) = G_IMPLICIT_DEF\n", numbers) + RETURN
 
 
 @refused(BYTES)
