@@ -10,6 +10,7 @@ pub mod Kept
 pub mod Letters
 pub mod Linked
 pub mod Marking
+pub mod Listing
 pub mod Masking
 pub mod Missing
 pub mod Naming

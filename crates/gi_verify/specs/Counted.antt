@@ -1,6 +1,7 @@
 -- How often registers were defined, as it is kept.
 use Rattle.std.specs.Prelude.{◌≡◌, ℕ, zero, suc, Bool, true, false, List, Option, Some, None, nat_eq}
-use Rattle.indexmap.specs.IndexMap.{get}
+use Rattle.std.specs.BTreeMap.{get}
+use Rattle.std.specs.Ordering.{nat_cmp}
 use Rattle.gi_valid.specs.Faults.{count_of, times}
 use Rattle.gi_verify.specs.declared.definitions.Counted.{Counted}
 use Rattle.gi_verify.specs.declared.definitions.Times.{Times}
@@ -8,7 +9,7 @@ use Rattle.gi_verify.specs.declared.definitions.Times.TheVariants.{Once, Often}
 
 -- what is kept of a register
 abbrev pub counted : Counted → ℕ → Option Times
-counted kept r = get nat_eq kept.times r
+counted kept r = get nat_cmp kept.times r
 
 -- what is kept of one that was defined so often
 abbrev pub kept_of : (times : ℕ) → Option Times

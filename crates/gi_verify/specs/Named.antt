@@ -1,7 +1,8 @@
 -- The blocks that name each block as a successor, as they are kept.
 use Rattle.std.specs.Prelude.{◌≡◌, ◌≢◌, ℕ, Bool, not, ◌&&◌, ◌||◌, ◌==◌, List, [], ◌∷◌, ◌++◌, take, nat_eq, if◌then◌else◌}
 use Rattle.std.specs.Option.{option_map_or}
-use Rattle.indexmap.specs.IndexMap.{get}
+use Rattle.std.specs.BTreeMap.{get}
+use Rattle.std.specs.Ordering.{nat_cmp}
 use Rattle.gi_mir.specs.Data.{FunctionData}
 use Rattle.gi_meaning.specs.Runs.{is_among}
 use Rattle.gi_valid.specs.Available.{naming, predecessors}
@@ -9,7 +10,7 @@ use Rattle.gi_verify.specs.declared.predecessors.Predecessors.{Predecessors}
 
 -- the blocks that are kept as naming one
 abbrev pub names : Predecessors → ℕ → List ℕ
-names all b = option_map_or (λ v. v.items) (get nat_eq all.lists b) []
+names all b = option_map_or (λ v. v.items) (get nat_cmp all.lists b) []
 
 -- one block, in a list of its own, where that is so
 abbrev pub only_if : Bool → ℕ → List ℕ

@@ -16,8 +16,8 @@ use gi_mir::function::Function;
 use gi_mir::instrs::Instrs;
 use gi_mir::operand::{Operand, Reg};
 use gi_valid::{Fault, Invalid};
-use indexmap::IndexMap;
 use std::alloc::Global;
+use std::collections::BTreeMap;
 
 /// Puts the register that an operand defines, with a line, at the end of a list.
 fn push_definition(out: &mut Vec<(u32, u32)>, line: u32, operand: Operand) -> Result<(), Memory>
@@ -84,7 +84,7 @@ pub(crate) enum Times {
 /// How often each register was defined before.
 #[derive(Drop)]
 pub(crate) struct Counted {
-    times: IndexMap<u32, Times>,
+    times: BTreeMap<u32, Times>,
 }
 
 /// With one more definition.
@@ -110,7 +110,7 @@ impl Counted {
         ensures { AreCounted [] result }
     {
         Counted {
-            times: IndexMap::new(alloc),
+            times: BTreeMap::new(alloc),
         }
     }
 

@@ -1,25 +1,42 @@
 //! Lists of numbers in which a number is found at once.
 
-ghost use Rattle.std.specs.Prelude.{◌≡◌, ◌∷◌, ◌++◌, ◌<◌, [], false, length, get_or, OnOk};
+ghost use Rattle.std.specs.Prelude.{◌≡◌, ◌∷◌, ◌++◌, ◌<◌, ◌==◌, ℕ, Some, [], false, length, get_or, OnErr, OnOk, if◌then◌else◌};
+ghost use Rattle.std.specs.BTreeMap.{get};
+ghost use Rattle.std.specs.Ordering.{nat_cmp};
 ghost use Rattle.gi_meaning.specs.Runs.{is_among};
 
 use gi_llt::Memory;
-use indexmap::IndexSet;
 use std::alloc::Global;
+use std::collections::BTreeMap;
 use std::marker::Model;
 
-/// Numbers in the order in which they came, none of them twice.
+/// Numbers in the order in which they came, none of them twice, and the place of each.
 #[derive(Drop)]
 pub(crate) struct Listed {
-    set: IndexSet<u32>,
+    order: Vec<u32>,
+    places: BTreeMap<u32, usize>,
 }
 
 impl Model for Listed {
     ghost use Rattle.std.specs.Prelude.{ℕ, List};
+    ghost use Rattle.gi_verify.specs.Sets.{HasPlaces};
 
     ghost Value = { List ℕ };
 
-    ghost view = { λ a. a.set.keys };
+    ghost view = { λ a. a.order.items };
+
+    ghost invariant = { λ a. HasPlaces a.places a.order.items };
+}
+
+/// Notes the place of a number.
+fn note(places: &mut BTreeMap<u32, usize>, k: u32, place: usize) -> Result<(), Memory>
+    ensures ok { OnOk result ((q : ℕ) → get nat_cmp places.new q ≡ (if k == q then Some place else get nat_cmp places.old q)) }
+    ensures err { OnErr result ((q : ℕ) → get nat_cmp places.new q ≡ get nat_cmp places.old q) }
+{
+    match places.insert(k, place) {
+        Ok(_) => Ok(()),
+        Err(_) => Err(Memory),
+    }
 }
 
 impl Listed {
@@ -28,27 +45,32 @@ impl Listed {
         ensures { result ≡ [] }
     {
         Listed {
-            set: IndexSet::new(alloc),
+            order: Vec::new(alloc),
+            places: BTreeMap::new(alloc),
         }
     }
 
     /// Whether a number is in the list.
-    #[tactic(auto, using(crate::proofs::Adding::contains_among))]
     pub(crate) fn has(&self, k: u32) -> bool
         ensures { result ≡ is_among k self.now }
     {
-        self.set.contains(&k)
+        self.places.get(&k).is_some()
     }
 
     /// Puts a number that isn't in the list at its end.
-    #[tactic(auto, using(crate::proofs::Adding::added_last))]
+    #[tactic(auto, using(crate::proofs::Listing::noted_last, crate::proofs::Listing::noted_same))]
     pub(crate) fn add(&mut self, k: u32) -> Result<(), Memory>
         requires { is_among k self.old ≡ false }
         ensures { OnOk result (self.new ≡ self.old ++ k ∷ []) }
     {
-        match self.set.insert_full(k) {
-            Ok(_) => Ok(()),
-            Err(_) => Err(Memory),
+        let place = self.order.len();
+        note(&mut self.places, k, place)?;
+        match self.order.push(k) {
+            Ok(()) => Ok(()),
+            Err(_) => {
+                let _ = self.places.remove(&k);
+                Err(Memory)
+            }
         }
     }
 
@@ -56,18 +78,14 @@ impl Listed {
     pub(crate) fn len(&self) -> usize
         ensures { result ≡ length self.now }
     {
-        self.set.len()
+        self.order.len()
     }
 
     /// The number at a place.
-    #[tactic(auto, using(crate::proofs::Adding::at_place, crate::proofs::Adding::nothing_there))]
     pub(crate) fn at(&self, i: usize) -> u32
         requires { i < length self.now }
         ensures { result ≡ get_or self.now i 0 }
     {
-        match self.set.get_index(i) {
-            Some(k) => *k,
-            None => 0,
-        }
+        self.order[i]
     }
 }

@@ -8,13 +8,14 @@ ghost use Rattle.gi_verify.specs.Named.{AreNamed, ArePredecessors, IsGrown, IsNa
 use crate::listed::Listed;
 use gi_llt::Memory;
 use gi_mir::function::Function;
-use indexmap::IndexMap;
 use std::alloc::Global;
+use std::collections::BTreeMap;
 
 /// Of each block that is named as a successor, the blocks that name it, in layout order.
 #[derive(Drop)]
 pub(crate) struct Predecessors {
-    lists: IndexMap<u32, Vec<u32>>,
+    alloc: Global,
+    lists: BTreeMap<u32, Vec<u32>>,
 }
 
 /// Puts a block at the end of a list.
@@ -33,7 +34,8 @@ impl Predecessors {
         ensures { (b : ℕ) → names result b ≡ [] }
     {
         Predecessors {
-            lists: IndexMap::new(alloc),
+            alloc,
+            lists: BTreeMap::new(alloc),
         }
     }
 
@@ -62,7 +64,7 @@ impl Predecessors {
         requires { names self.old b ≡ [] }
         ensures { OnOk result (IsGrown self.old self.new b a) }
     {
-        let mut blocks = Vec::new(*self.lists.allocator());
+        let mut blocks = Vec::new(self.alloc);
         push(&mut blocks, a)?;
         match self.lists.insert(b, blocks) {
             Ok(_) => Ok(()),
@@ -97,7 +99,7 @@ impl Predecessors {
     fn name_all(&mut self, a: u32, successors: &[u32]) -> Result<(), Memory>
         ensures { OnOk result (AreNamed self.old self.new a successors.now) }
     {
-        let mut front = Listed::new(*self.lists.allocator());
+        let mut front = Listed::new(self.alloc);
         for b in successors {
             self.name_one(a, &mut front, *b)?;
         }
