@@ -3,6 +3,7 @@ pub mod DefinedKinds
 pub mod FormedLemmas
 pub mod IdsLemmas
 pub mod Keys
+pub mod InstrsLemmas
 pub mod KindLemmas
 pub mod LettersLemmas
 pub mod Lists

@@ -11,7 +11,6 @@ use Rattle.gi_mir.specs.Tables.{IsFirstMention}
 use Rattle.gi_mir.specs.declared.block.Body.{Body}
 use Rattle.gi_mir.specs.declared.block.InstrId.{InstrId}
 use Rattle.gi_mir.specs.declared.block.Slot.{Slot}
-use Rattle.gi_mir.specs.declared.instrs.Instrs.{Instrs}
 use Rattle.gi_mir.specs.declared.layout.Layout.{Layout}
 use Rattle.gi_mir.specs.declared.place.Place.{Place}
 use Rattle.gi_mir.specs.declared.room.Gap.{Gap}
@@ -114,7 +113,3 @@ pub record FitsGap (places : List Place) (gap : Gap) (label : ℕ) : Type 0 wher
 abbrev pub IsFirstOf : List BlockData → ℕ → Option InstrId → Type 0
 IsFirstOf blocks key None = mentioning key (all_instrs blocks) ≡ []
 IsFirstOf blocks key (Some id) = IsFirstMention blocks key id (spot_of blocks id.0)
-
--- the instructions that an iterator still gives
-abbrev pub left : Instrs → List (ℕ × InstrData)
-left it = chain it.slots.now it.count it.next
