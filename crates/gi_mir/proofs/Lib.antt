@@ -1,11 +1,13 @@
 pub mod ArenaLemmas
 pub mod DefinedKinds
+pub mod Edits
 pub mod FormedLemmas
 pub mod IdsLemmas
-pub mod Keys
 pub mod InstrsLemmas
+pub mod Keys
 pub mod KindLemmas
 pub mod LettersLemmas
+pub mod Linked
 pub mod Lists
 pub mod Located
 pub mod Mentioned
