@@ -8,6 +8,7 @@ pub mod Keys
 pub mod KindLemmas
 pub mod LettersLemmas
 pub mod Linked
+pub mod Linking
 pub mod Lists
 pub mod Located
 pub mod Mentioned
@@ -15,6 +16,7 @@ pub mod NamesLemmas
 pub mod Noted
 pub mod NumberingLaws
 pub mod OrLemmas
+pub mod Ordered
 pub mod Places
 pub mod Replaced
 pub mod Replacing

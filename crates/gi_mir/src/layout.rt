@@ -12,7 +12,7 @@
 //! has there, that labels rise along it, and that the lists of mentions are those of its instructions.
 
 ghost use Rattle.std.specs.List.{list_any};
-ghost use Rattle.std.specs.Prelude.{◌≡◌, ◌↔◌, IsTrue, ◌≢◌, map, ◌<◌, ◌≤◌, ◌+◌, ◌-◌, Contains, true, ◌++◌, ◌∷◌, [], length, OnOk, OnErr, IfOk, IfSome, Some, option_map, slice_get};
+ghost use Rattle.std.specs.Prelude.{◌≡◌, ◌↔◌, IsTrue, ◌≢◌, map, ◌<◌, ◌≤◌, ◌+◌, ◌-◌, Contains, true, false, ◌++◌, ◌∷◌, [], length, OnOk, OnErr, IfOk, IfSome, Some, option_map, slice_get};
 ghost use Rattle.gi_mir.specs.Arena.{blocks_of, spot_of, is_in, IsStored, IsFirstOf, gap_at, id_named, operands_in, slot_between, next_set, previous_set};
 ghost use Rattle.gi_mir.specs.Edit.{head_of, block_with, with_operand, with_kind, ids_of, id_at, HasDefAt, is_use_of, spot_in};
 ghost use Rattle.gi_mir.specs.Formed.{is_formed};
