@@ -20,6 +20,6 @@ pub mod Ordered
 pub mod Places
 pub mod Replaced
 pub mod Replacing
-pub mod Tabled
+pub mod Stored
 pub mod TypingLaws
 pub mod Words
