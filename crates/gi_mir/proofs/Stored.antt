@@ -423,9 +423,9 @@ pub entry-is : (o : Option (ℕ × InstrData)) (id : ℕ) (i : InstrData) → op
 entry-is None id i h g = cc
 entry-is (Some (n, j)) id i h g = let x : n ≡ id = cc in let y : j ≡ i = cc in rw (x, y) refl
 
-pub some-instr : {P : InstrData → Type 0} (o : Option (ℕ × InstrData)) → IfSome o (λ p. P p.1) → IfSome (option_map (λ p. p.1) o) P
-some-instr None h = h
-some-instr (Some p) h = h
+pub some-instr : (P : InstrData → Type 0) (o : Option (ℕ × InstrData)) → IfSome o (λ p. P p.1) → IfSome (option_map (λ p. p.1) o) P
+some-instr P None h = h
+some-instr P (Some p) h = h
 
 -- the operands of an instruction before one is set and after
 pub operands-around : (s t : Slot) (id k : ℕ) (i : InstrData) (x new : Operand) (answer : Bool) → s.entry ≡ Some (id, i) → t ≡ slot_changed (λ j. with_operand j k new) s → slice_get (operands_of s.entry) k ≡ Some x → is_mentioned x (operands_of t.entry) ≡ answer

@@ -28,7 +28,7 @@ index_mut-slot-requires c =
 pub replace_reg-requires : goal.replace_reg-requires
 replace_reg-requires c = live-some c.args.self.now c.args.id.0 c.index_mut-slot.result.now c.requires.stored c.requires.stands c.index_mut-slot.ensures.value
 
-replaced : (c : goal.After-self-2-1) → IsSpelled c.args.self.now.bodies.items (with_item c.args.self.now.slots c.args.id.0 c.replace_reg.new.self).items c.args.self.now.places.items c.forget_operand.new.self (with_changed_at (instr_replaced c.args.old.0 c.args.new.0) (blocks_of c.args.self.now) (spot_of (blocks_of c.args.self.now) c.args.id.0))
+replaced : (c : goal.After-forget_operand) → IsSpelled c.args.self.now.bodies.items (with_item c.args.self.now.slots c.args.id.0 c.replace_reg.new.self).items c.args.self.now.places.items c.forget_operand.new.self (with_changed_at (instr_replaced c.args.old.0 c.args.new.0) (blocks_of c.args.self.now) (spot_of (blocks_of c.args.self.now) c.args.id.0))
 replaced c =
     let l = c.args.self.now in
     let blocks = blocks_of l in

@@ -6,6 +6,7 @@ use Rattle.gi_mir.specs.declared.block.Slot.{Slot}
 use Rattle.gi_mir.specs.Data.{InstrData}
 use Rattle.gi_mir.specs.Arena.{blocks_of, spot_of}
 use Rattle.gi_mir.specs.Edit.{with_operand}
+use Rattle.gi_mir.specs.Formed.{is_formed}
 use Rattle.gi_mir.specs.Places.{body_at, with_changed_at}
 use Rattle.gi_mir.proofs.Linked.{id_in-spot}
 use Rattle.gi_mir.proofs.Stored.{IsSpelled, IsSorted-at, entry_of, live-edited, live-place, live-place-within, live-slot, live-some, live-within, operands-around, some-instr, spelled-blocks, spelled-operand-last, spelled-operand-more, spelled-stored, stored-spelled}
@@ -32,9 +33,12 @@ set_operand-old-requires-clause-there c = live-some c.args.self.now c.args.id.0 
 
 pub set_operand-old-requires-clause-can : goal.set_operand-old-requires-clause-can
 set_operand-old-requires-clause-can c =
-    rw (live-slot c.args.self.now c.args.id.0 c.index_mut-slot.result.now c.requires.stored c.requires.stands c.index_mut-slot.ensures.value) (some-instr _ c.requires.can)
+    let blocks = blocks_of c.args.self.now in
+    let spot = spot_of blocks c.args.id.0 in
+    rw (live-slot c.args.self.now c.args.id.0 c.index_mut-slot.result.now c.requires.stored c.requires.stands c.index_mut-slot.ensures.value)
+    (some-instr (λ i. (c.args.k < length i.operands) × (is_formed (with_operand i c.args.k c.args.new) ≡ true)) (slice_get (body_at blocks spot.block).instrs spot.at) c.requires.can)
 
-last : (c : goal.After-self-2-1-then-not-mentions) → IsSpelled c.args.self.now.bodies.items (with_item c.args.self.now.slots c.args.id.0 c.set_operand-old.new.self).items c.args.self.now.places.items c.forget_operand.new.self (with_changed_at (λ i. with_operand i c.args.k c.args.new) (blocks_of c.args.self.now) (spot_of (blocks_of c.args.self.now) c.args.id.0))
+last : (c : goal.After-forget_operand) → IsSpelled c.args.self.now.bodies.items (with_item c.args.self.now.slots c.args.id.0 c.set_operand-old.new.self).items c.args.self.now.places.items c.forget_operand.new.self (with_changed_at (λ i. with_operand i c.args.k c.args.new) (blocks_of c.args.self.now) (spot_of (blocks_of c.args.self.now) c.args.id.0))
 last c =
     let l = c.args.self.now in
     let blocks = blocks_of l in
