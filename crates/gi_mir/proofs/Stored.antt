@@ -1,6 +1,6 @@
 -- An arena that spells blocks, with all that is written down beside it, stays so under each edit.
 use Rattle.std.proofs.Common.{◌≡◌, ◌≢◌, ℕ, zero, suc, ◌+◌, ◌^◌, ◌<◌, ◌≤◌, Bool, true, false, not, ◌&&◌, ◌||◌, List, [], ◌∷◌, ◌++◌, Option, Some, None, ◌⊎◌, inl, inr, ⊎_elim, length, get_or, set, refl, sym, subst, ap, ◌∙◌, arith, eqb-true}
-use Rattle.std.specs.Prelude.{IfSome, insert, remove, slice_get, option_map, is_some}
+use Rattle.std.specs.Prelude.{Contains, IfSome, insert, remove, slice_get, option_map, is_some}
 use Rattle.std.specs.List.{list_any}
 use Rattle.std.specs.Option.{option_map_or}
 use Rattle.std.proofs.lemmas.Bool.Decides.{nat_tests}
@@ -19,7 +19,7 @@ use Rattle.gi_mir.specs.declared.operand.Operand.TheVariants as operand
 use Rattle.gi_mir.specs.declared.place.Place.{Place}
 use Rattle.gi_mir.specs.Arena.{FitsGap, HasOrder, IsLinked, IsStored, blocks_in, blocks_of, body_gained, body_lost, body_of, body_with, gap_at, id_ahead, id_named, next_set, is_in, nth_instr_id, previous_set, slot_at, slot_between, slot_changed, spot_of}
 use Rattle.gi_mir.specs.Data.{InstrData, BlockData}
-use Rattle.gi_mir.specs.Edit.{HeadData, empty_block, all_instrs, block_changed_at, block_with, changed_at, has_instr, of_kind, with_kind, with_operand}
+use Rattle.gi_mir.specs.Edit.{HeadData, empty_block, ids_of, spot_in, all_instrs, block_changed_at, block_with, changed_at, has_instr, of_kind, with_kind, with_operand}
 use Rattle.gi_mir.specs.Ids.{AreOwnIds, uses_in, uses_of}
 use Rattle.gi_mir.specs.Mentions.{is_mention, is_mentioned, mention_of, operands_of, mentions, mentioning, precedes, listed, HasSameLists, IsNoted, IsForgotten, IsSorted, Lacks}
 use Rattle.gi_mir.specs.Places.{place, comes_before, body_at, id_in, nth_id, with_changed_at, with_inserted, with_removed}
@@ -27,9 +27,9 @@ use Rattle.gi_mir.proofs.ArenaLemmas.{blocks_in-linked}
 use Rattle.gi_mir.proofs.Edits.{length-changed_at, set-as_changed, slice_get-push, slice_get-pushed_before}
 use Rattle.gi_mir.proofs.FormedLemmas.{changed_at-suc}
 use Rattle.gi_mir.proofs.IdsLemmas.{AreOwnIds-set, AreOwnIds-inserted, AreOwnIds-removed, uses_among-changed_at}
-use Rattle.gi_mir.proofs.Linked.{id_in-spot, linked-body, linked-slot, linked-tells, order-read, order-within}
+use Rattle.gi_mir.proofs.Linked.{id_in-named, id_in-spot, linked-body, linked-slot, linked-tells, order-read, order-within}
 use Rattle.gi_mir.proofs.Linking.{IsLinked-set, IsRelinked-changed, IsRelinked-inserted, IsRelinked-removed, bodies-kept, body_of-changed, body_of-inserted, body_of-removed, links-in}
-use Rattle.gi_mir.proofs.Located.{HasDistinctIds-in, get_or-within, id_in-within, nth_id-place_of, uses_of-id_in}
+use Rattle.gi_mir.proofs.Located.{HasDistinctIds-in, get_or-within, id_in-within, nth_id-place_of, nth_id-within, uses_of-id_in}
 use Rattle.gi_mir.proofs.Mentioned.{IsSplit, IsListedAs, IsSplit-new, IsSplit-at, IsListedAs-with, IsListedAs-without, IsListedAs-noted, IsListedAs-forgotten, IsSorted-as, Lacks-as, mentions-with, mentions-without, ahead, behind, all-split, all-split-at, all-inserted, all-removed, all-changed}
 use Rattle.gi_mir.proofs.OrLemmas.{or_right}
 use Rattle.gi_mir.proofs.Ordered.{HasOrder-changed, HasOrder-inserted, HasOrder-push, HasOrder-removed, IsBetween, IsBetween-fits}
@@ -464,3 +464,19 @@ pub ends-inserted : (bodies : List Body) (slots : List Slot) (blocks : List Bloc
 ends-inserted bodies slots blocks b k id new x y p n linked within bound is same before behind done =
     let body = linked-body bodies slots blocks b x linked within is in
     ap (set bodies b) (done ∙ rw (same, before, behind, body) (body_of-inserted (body_at blocks b) k new bound))
+
+-- ---- an instruction that is put in, in the words of the calls
+
+pub spot-bound : (blocks : List BlockData) (b : ℕ) (before : Option InstrId) → IfSome before (λ id. Contains (ids_of (body_at blocks b)) id.0) → spot_in (body_at blocks b).instrs before ≤ length (body_at blocks b).instrs
+spot-bound blocks b None named = omega arith
+spot-bound blocks b (Some id) named = omega (arith, nth_id-within id.0 (body_at blocks b).instrs _ (id_in-named blocks b id.0 named))
+
+pub given-more : (o : Option InstrId) (n m : ℕ) → n ≤ m → IfSome o (λ there. there.0 < n) → IfSome o (λ there. there.0 < m)
+given-more None n m le h = tt
+given-more (Some x) n m le h = omega arith
+
+-- the same blocks with other labels
+pub relabelled : (l now : Layout) → now.bodies ≡ l.bodies → now.slots ≡ l.slots → IsStored now → IsSpelled now.bodies.items now.slots.items now.places.items now.mentions (blocks_of l)
+relabelled l now bodies slots stored =
+    let same : blocks_of now ≡ blocks_of l = rw (bodies, slots) refl in
+    subst (λ (bs : List BlockData). IsSpelled now.bodies.items now.slots.items now.places.items now.mentions bs) same (stored-spelled now stored)

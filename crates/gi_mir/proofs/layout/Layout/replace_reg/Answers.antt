@@ -4,8 +4,14 @@ use Rattle.gi_mir.specs.Data.{BlockData}
 use Rattle.gi_mir.specs.Arena.{IsStored, blocks_of, spot_of}
 use Rattle.gi_mir.specs.Edit.{all_instrs}
 use Rattle.gi_mir.specs.Mentions.{mentioning}
+use Rattle.gi_mir.proofs.Located.{is_live-id_in}
 use Rattle.gi_mir.proofs.Replacing.{IsReplacing-step, replaced-smaller, blocks_without}
 use Rattle.gi_mir.proofs.layout.Layout.replace_reg.Goals as goal
+
+pub replace_at-requires-clause-stands : goal.replace_at-requires-clause-stands
+replace_at-requires-clause-stands c =
+    let spot = spot_of (blocks_of c.loop-id.self) c.in-Some.id.0 in
+    is_live-id_in c.in-Some.id.0 (blocks_of c.loop-id.self) spot.block spot.at c.in-Some.ensures.stands
 
 pub loop-id-smaller : goal.loop-id-smaller
 loop-id-smaller c =
