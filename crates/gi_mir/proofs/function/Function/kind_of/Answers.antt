@@ -25,14 +25,14 @@ own_in f l here stored = subst (λ (bs : List BlockData). AreOwnIds bs (length l
 pub instr-requires : goal.instr-requires
 instr-requires c =
     let here = ap (λ (f : FunctionData). f.blocks) c.self.view_is in
-    its_live c.args.self.now _ c.args.reg.0 c.in-Some.id.0 (own_in c.args.self.now _ here c.self.invariant.1)
-    (found c.args.self.now _ c.args.reg.0 _ _ _ here c.self.invariant.1 c.definition_key.ensures c.of.ensures c.first.ensures ∙ ap (option_map (λ (id : InstrId). id.0)) c.in-Some.is)
+    its_live c.args.self.now _ c.args.reg.0 c.in-Some.id.0 (own_in c.args.self.now c.self.inside.layout here c.self.invariant.1)
+    (found c.args.self.now c.self.inside.layout c.args.reg.0 _ _ _ here c.self.invariant.1 c.definition_key.ensures c.of.ensures c.first.ensures ∙ ap (option_map (λ (id : InstrId). id.0)) c.in-Some.is)
 
 pub returns-in-Some : goal.returns-in-Some
 returns-in-Some c =
     let here = ap (λ (f : FunctionData). f.blocks) c.self.view_is in
-    let same = its_definition c.args.self.now _ c.args.reg.0 c.in-Some.id.0 c.instr.result.now (own_in c.args.self.now _ here c.self.invariant.1)
-    (found c.args.self.now _ c.args.reg.0 _ _ _ here c.self.invariant.1 c.definition_key.ensures c.of.ensures c.first.ensures ∙ ap (option_map (λ (id : InstrId). id.0)) c.in-Some.is) c.instr.ensures.value in
+    let same = its_definition c.args.self.now _ c.args.reg.0 c.in-Some.id.0 c.instr.result.now (own_in c.args.self.now c.self.inside.layout here c.self.invariant.1)
+    (found c.args.self.now c.self.inside.layout c.args.reg.0 _ _ _ here c.self.invariant.1 c.definition_key.ensures c.of.ensures c.first.ensures ∙ ap (option_map (λ (id : InstrId). id.0)) c.in-Some.is) c.instr.ensures.value in
     c.unwrap_or.ensures ∙ ap (λ (k : Option Kind). unwrap_or k Class)
     (c.kind_among.ensures ∙ ap (kind_in_operands c.args.reg.0) (c.as_slice.ensures ∙ ap (λ (i : InstrData). i.operands) c.behind-self.view_is) ∙ sym same)
 
@@ -40,4 +40,4 @@ pub returns-in-None : goal.returns-in-None
 returns-in-None c =
     let here = ap (λ (f : FunctionData). f.blocks) c.self.view_is in
     ap (λ (k : Option Kind). unwrap_or k Class) (sym (no_definition c.args.self.now c.args.reg.0
-    (found c.args.self.now _ c.args.reg.0 _ _ _ here c.self.invariant.1 c.definition_key.ensures c.of.ensures c.first.ensures ∙ ap (option_map (λ (id : InstrId). id.0)) c.in-None.is)))
+    (found c.args.self.now c.self.inside.layout c.args.reg.0 _ _ _ here c.self.invariant.1 c.definition_key.ensures c.of.ensures c.first.ensures ∙ ap (option_map (λ (id : InstrId). id.0)) c.in-None.is)))
