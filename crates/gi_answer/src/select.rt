@@ -1,9 +1,10 @@
 //! Instruction selection: the normal form of the table of rows, made in one way from the last instruction to
 //! the first.
 
-ghost use Rattle.std.specs.Prelude.{◌≡◌, ◌==◌, ◌||◌, ℕ, ◌∷◌, ◌++◌, [], true, map, length, nat_eq, reverse, None, IfOk, OnOk};
-ghost use Rattle.std.specs.HashMap.{get};
-ghost use Rattle.std.specs.HashSet.{contains};
+ghost use Rattle.std.specs.Prelude.{◌≡◌, ◌==◌, ◌||◌, ℕ, ◌∷◌, ◌++◌, [], true, map, length, reverse, None, IfOk, OnOk};
+ghost use Rattle.std.specs.BTreeMap.{get};
+ghost use Rattle.std.specs.Ordering.{nat_cmp};
+ghost use Rattle.std.specs.BTreeSet.{contains};
 ghost use Rattle.std.specs.List.{AllZip, list_all, list_any};
 ghost use Rattle.gi_mir.specs.Edit.{with_stack, is_use_of};
 ghost use Rattle.gi_mir.specs.Formed.{is_formed};
@@ -25,7 +26,7 @@ use gi_mir::opcode::Opcode;
 use gi_mir::operand::{Flags, Kind, Operand, Reg, StackObject};
 use smallvec::SmallVec;
 use std::alloc::Global;
-use std::collections::{HashMap, HashSet};
+use std::collections::{BTreeMap, BTreeSet};
 
 /// What the rows look at in a generic instruction.
 #[derive(Clone, Copy, Debug, PartialEq, Eq)]
@@ -111,8 +112,8 @@ impl Root {
 }
 
 /// Keeps the number of a register that is a short constant.
-fn keep_constant(constants: &mut HashMap<u32, i128>, root: Option<Root>) -> Result<(), Memory>
-    ensures { OnOk result ((r : ℕ) → get nat_eq constants.new r ≡ with_constant root r (get nat_eq constants.old r)) }
+fn keep_constant(constants: &mut BTreeMap<u32, i128>, root: Option<Root>) -> Result<(), Memory>
+    ensures { OnOk result ((r : ℕ) → get nat_cmp constants.new r ≡ with_constant root r (get nat_cmp constants.old r)) }
 {
     if let Some(Root::Constant { register, number }) = root {
         constants.insert(register.0, number).map_err(|_| Memory)?;
@@ -121,11 +122,11 @@ fn keep_constant(constants: &mut HashMap<u32, i128>, root: Option<Root>) -> Resu
 }
 
 /// The short constants by their registers.
-fn short_constants(alloc: Global, instrs: Instrs<'_>) -> Result<HashMap<u32, i128>, Memory>
+fn short_constants(alloc: Global, instrs: Instrs<'_>) -> Result<BTreeMap<u32, i128>, Memory>
     requires { AreShaped (left instrs) }
-    ensures { IfOk result (λ constants. (r : ℕ) → get nat_eq constants r ≡ short_among (left instrs.entry) r) }
+    ensures { IfOk result (λ constants. (r : ℕ) → get nat_cmp constants r ≡ short_among (left instrs.entry) r) }
 {
-    let mut constants = HashMap::new(alloc);
+    let mut constants = BTreeMap::new(alloc);
     for numbered in instrs {
         keep_constant(&mut constants, root_of(&numbered.instr))?;
     }
@@ -174,10 +175,10 @@ fn selected_sum(
     register: Reg,
     left: Reg,
     right: Reg,
-    constants: &HashMap<u32, i128>,
+    constants: &BTreeMap<u32, i128>,
     line: u32,
 ) -> Result<Instr, Memory>
-    ensures { IfOk result (λ instr. instr ≡ selected_sum register left right (get nat_eq constants.now left.0) (get nat_eq constants.now right.0) line) }
+    ensures { IfOk result (λ instr. instr ≡ selected_sum register left right (get nat_cmp constants.now left.0) (get nat_cmp constants.now right.0) line) }
 {
     if let Some(number) = constants.get(&right.0) {
         return add_immediate(alloc, register, Operand::Use(left), *number, line);
@@ -201,10 +202,10 @@ fn selected_sum(
 fn selected_root(
     alloc: Global,
     root: Root,
-    constants: &HashMap<u32, i128>,
+    constants: &BTreeMap<u32, i128>,
     line: u32,
 ) -> Result<Instr, Memory>
-    ensures { IfOk result (λ instr. instr ≡ selected_root (get nat_eq constants.now) root line) }
+    ensures { IfOk result (λ instr. instr ≡ selected_root (get nat_cmp constants.now) root line) }
 {
     match root {
         Root::Constant { register, number } => {
@@ -259,10 +260,10 @@ fn classed(alloc: Global, instr: &Instr) -> Result<Instr, Memory>
 fn selected_instr(
     alloc: Global,
     instr: &Instr,
-    used: &HashSet<u32>,
-    constants: &HashMap<u32, i128>,
+    used: &BTreeSet<u32>,
+    constants: &BTreeMap<u32, i128>,
 ) -> Result<Option<Instr>, Memory>
-    ensures { IfOk result (λ selected. selected ≡ selected_where (contains nat_eq used.now) (get nat_eq constants.now) instr.now) }
+    ensures { IfOk result (λ selected. selected ≡ selected_where (contains nat_cmp used.now) (get nat_cmp constants.now) instr.now) }
 {
     let Some(root) = root_of(instr) else {
         let kept = classed(alloc, instr)?;
@@ -276,8 +277,8 @@ fn selected_instr(
 }
 
 /// Marks a register as used.
-fn mark(used: &mut HashSet<u32>, operand: Operand) -> Result<(), Memory>
-    ensures { OnOk result ((r : ℕ) → contains nat_eq used.new r ≡ (is_use_of r operand || contains nat_eq used.old r)) }
+fn mark(used: &mut BTreeSet<u32>, operand: Operand) -> Result<(), Memory>
+    ensures { OnOk result ((r : ℕ) → contains nat_cmp used.new r ≡ (is_use_of r operand || contains nat_cmp used.old r)) }
 {
     if let Operand::Use(reg) = operand {
         used.insert(reg.0).map_err(|_| Memory)?;
@@ -286,8 +287,8 @@ fn mark(used: &mut HashSet<u32>, operand: Operand) -> Result<(), Memory>
 }
 
 /// Marks the registers that an instruction uses.
-fn mark_uses(used: &mut HashSet<u32>, operands: &[Operand]) -> Result<(), Memory>
-    ensures { OnOk result ((r : ℕ) → contains nat_eq used.new r ≡ (list_any (is_use_of r) operands.now || contains nat_eq used.old r)) }
+fn mark_uses(used: &mut BTreeSet<u32>, operands: &[Operand]) -> Result<(), Memory>
+    ensures { OnOk result ((r : ℕ) → contains nat_cmp used.new r ≡ (list_any (is_use_of r) operands.now || contains nat_cmp used.old r)) }
 {
     for operand in operands {
         mark(used, *operand)?;
@@ -313,13 +314,13 @@ fn listed(alloc: Global, instrs: Instrs<'_>) -> Result<Vec<&Numbered>, Memory>
 fn selected_backwards(
     alloc: Global,
     instrs: Instrs<'_>,
-    constants: &HashMap<u32, i128>,
+    constants: &BTreeMap<u32, i128>,
 ) -> Result<Vec<Instr>, Memory>
     requires { AreShaped (left instrs) }
-    ensures selected { IfOk result (λ selected. selected.items ≡ reverse (selected_list (get nat_eq constants.now) (left instrs.entry))) }
+    ensures selected { IfOk result (λ selected. selected.items ≡ reverse (selected_list (get nat_cmp constants.now) (left instrs.entry))) }
     ensures formed { IfOk result (λ selected. list_all is_formed selected.items ≡ true) }
 {
-    let mut used = HashSet::new(alloc);
+    let mut used = BTreeSet::new(alloc);
     let mut selected = Vec::new(alloc);
     let mut front = listed(alloc, instrs)?;
     while let Some(numbered) = front.pop() {

@@ -1,42 +1,36 @@
 //! The instructions of a block, one after the other.
 
-ghost use Rattle.std.specs.Prelude.{◌≡◌, length, take};
+ghost use Rattle.std.specs.Prelude.{◌≡◌, take};
 ghost use Rattle.std.specs.Iterator.{YieldsFirstRef, item_count};
+ghost use Rattle.gi_mir.specs.Arena.{chain};
 ghost use Rattle.gi_mir.specs.Instrs.{left};
 
-use crate::block::Numbered;
+use crate::block::{InstrId, Numbered, Slot};
 
 /// The instructions of a block that are still to come, in order.
 #[derive(Clone, Copy)]
 pub struct Instrs<'a> {
-    rest: &'a [Numbered],
+    slots: &'a [Slot],
+    next: Option<InstrId>,
+    count: usize,
 }
 
 impl<'a> Instrs<'a> {
-    /// All of these.
-    #[tactic(auto, unfolding(crate::specs::Instrs::left))]
-    pub(crate) fn new(rest: &'a [Numbered]) -> Instrs<'a>
-        ensures { left result ≡ rest.entry.now }
+    /// Those from an instruction on, at most so many.
+    pub(crate) fn new(slots: &'a [Slot], next: Option<InstrId>, count: usize) -> Instrs<'a>
+        ensures { left result ≡ chain slots.entry.now count next }
     {
-        Instrs { rest }
-    }
-
-    /// How many there are.
-    #[tactic(auto, unfolding(crate::specs::Instrs::left))]
-    pub fn len(self) -> usize
-        ensures { result ≡ length (left self.entry) }
-    {
-        self.rest.len()
+        Instrs { slots, next, count }
     }
 
     /// Those that come first, at most so many.
-    #[tactic(auto, unfolding(crate::specs::Instrs::left))]
     pub fn first(self, count: usize) -> Instrs<'a>
         ensures { left result ≡ take count (left self.entry) }
     {
-        let count = count.min(self.rest.len());
         Instrs {
-            rest: &self.rest[..count],
+            slots: self.slots,
+            next: self.next,
+            count: count.min(self.count),
         }
     }
 }
@@ -48,10 +42,15 @@ impl<'a> Iterator for Instrs<'a> {
 
     ghost remaining = { item_count left };
 
-    #[tactic(auto, unfolding(crate::specs::Instrs::left))]
     fn next(&mut self) -> Option<&'a Numbered> {
-        let (first, rest) = self.rest.split_first()?;
-        self.rest = rest;
-        Some(first)
+        if self.count == 0 {
+            return None;
+        }
+        let id = self.next?;
+        let slot = self.slots.get(id.0)?;
+        let entry = slot.entry.as_ref()?;
+        self.count -= 1;
+        self.next = slot.next;
+        Some(entry)
     }
 }
