@@ -1,3 +1,4 @@
+pub mod ArenaLemmas
 pub mod DefinedKinds
 pub mod FormedLemmas
 pub mod IdsLemmas

@@ -1,4 +1,5 @@
 pub mod Accepted
+pub mod Arena
 pub mod Data
 pub mod Edit
 pub mod Entries

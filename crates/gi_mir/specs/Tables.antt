@@ -22,7 +22,3 @@ pub record IsFirstMention (blocks : List BlockData) (key : ℕ) (id : InstrId) (
   pub stands : id_in blocks spot.block spot.at ≡ Some id.0
   pub there : list_any (is_mention key) (operands_at blocks spot) ≡ true
   pub first : slice_get (mentioning key (all_instrs blocks)) 0 ≡ Some id
-
-abbrev pub IsFirstOf : List BlockData → ℕ → Option (InstrId × Place) → Type 0
-IsFirstOf blocks key None = mentioning key (all_instrs blocks) ≡ []
-IsFirstOf blocks key (Some found) = IsFirstMention blocks key found.0 found.1

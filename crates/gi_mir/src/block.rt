@@ -1,16 +1,15 @@
 //! Blocks of numbered instructions.
 
-ghost use Rattle.std.specs.Prelude.{◌≡◌, ◌+◌, ◌==◌, ◌≤◌, ◌<◌, length, slice_get, insert, remove, option_map, OnOk, OnErr, IfSome, Some, true};
+ghost use Rattle.std.specs.Prelude.{◌≡◌, ◌<◌, IsTrue, is_some, length, slice_get, option_map, IfSome, None, Some, true};
+ghost use Rattle.gi_mir.specs.Arena.{body_with, slot_changed};
 ghost use Rattle.gi_mir.specs.Formed.{is_formed};
-ghost use Rattle.gi_mir.specs.Edit.{block_with, block_changed_at, with_operand, with_kind, HasDefAt, entry_at, has_at, id_at};
+ghost use Rattle.gi_mir.specs.Edit.{with_operand, with_kind, HasDefAt};
 ghost use Rattle.gi_mir.specs.Mentions.{is_mentioned, operands_of};
 ghost use Rattle.gi_mir.specs.Uses.{instr_replaced};
 
 use crate::instr::Instr;
 use crate::mentions::any_mentions;
 use crate::operand::{Kind, Operand, Reg};
-use gi_llt::Memory;
-use std::alloc::Global;
 use std::marker::Model;
 
 /// Names an instruction of a function. None is given twice.
@@ -52,140 +51,109 @@ impl Model for Numbered {
     ghost invariant = { λ a. is_formed a.instr ≡ true };
 }
 
-/// A block with its instructions.
+/// A block, the first and the last of its instructions, and how many they are. They stand in the function's arena.
 #[derive(Drop)]
 pub(crate) struct Body {
     pub(crate) head: Block,
-    pub(crate) instrs: Vec<Numbered>,
+    pub(crate) first: Option<InstrId>,
+    pub(crate) last: Option<InstrId>,
+    pub(crate) count: usize,
 }
 
-impl Model for Body {
-    ghost use Rattle.gi_mir.specs.Data.{BlockData};
-
-    ghost Value = { BlockData };
-
-    ghost view = { λ a. record { successors = a.head.successors; liveins = a.head.liveins; instrs = a.instrs.items } };
+/// The place of an id in the arena: its instruction, unless it was taken out, and its neighbours in its block.
+#[derive(Drop)]
+pub(crate) struct Slot {
+    pub(crate) entry: Option<Numbered>,
+    pub(crate) previous: Option<InstrId>,
+    pub(crate) next: Option<InstrId>,
 }
 
 impl Body {
     /// A block with no instruction.
-    pub(crate) fn new(alloc: Global, head: Block) -> Body
-        ensures { result ≡ block_with head }
+    pub(crate) fn new(head: Block) -> Body
+        ensures { result ≡ body_with head }
     {
         Body {
             head,
-            instrs: Vec::new(alloc),
+            first: None,
+            last: None,
+            count: 0,
+        }
+    }
+}
+
+impl Slot {
+    /// The operands of the instruction, if there is one.
+    pub(crate) fn operands(&self) -> &[Operand]
+        ensures { result.now ≡ operands_of self.now.entry }
+    {
+        match &self.entry {
+            Some(n) => n.instr.operands.as_slice(),
+            None => &[],
         }
     }
 
-    /// Whether the instruction at this place has this id.
-    pub(crate) fn has_at(&self, id: InstrId, at: usize) -> bool
-        ensures { result ≡ has_at self.now id.0 at }
-    {
-        match self.instrs.as_slice().get(at) {
-            Some(n) => n.has_id(id),
-            None => false,
-        }
-    }
-
-    /// The id of the instruction at this place.
-    pub(crate) fn id_at(&self, place: usize) -> Option<InstrId>
-        ensures { option_map (λ id. id.0) result ≡ id_at self.now place }
-    {
-        match self.instrs.as_slice().get(place) {
-            Some(n) => Some(n.id()),
-            None => None,
-        }
-    }
-
-    /// The id of the instruction after this place.
-    pub(crate) fn id_after(&self, at: usize) -> Option<InstrId>
-        requires { at < length self.now.instrs }
-        ensures { option_map (λ id. id.0) result ≡ id_at self.now (at + 1) }
-    {
-        let _count = self.instrs.len();
-        self.id_at(at + 1)
-    }
-
-    /// The instruction at this place.
-    pub(crate) fn instr(&self, at: usize) -> &Instr
-        requires { at < length self.now.instrs }
-        ensures value { option_map (λ p. p.1) (entry_at self.now at) ≡ Some result.now }
-        ensures formed { is_formed result.now ≡ true }
-    {
-        let found = &self.instrs[at];
-        &found.instr
-    }
-
-    /// The operands of the instruction at this place.
-    pub(crate) fn operands(&self, at: usize) -> &[Operand]
-        requires { at < length self.now.instrs }
-        ensures { result.now ≡ operands_of (entry_at self.now at) }
-    {
-        self.instr(at).operands.as_slice()
-    }
-
-    /// Whether the instruction at this place mentions what an operand does.
-    pub(crate) fn mentions(&self, at: usize, x: Operand) -> bool
-        requires { at < length self.now.instrs }
-        ensures { result ≡ is_mentioned x (operands_of (entry_at self.now at)) }
+    /// Whether the instruction mentions what an operand does.
+    pub(crate) fn mentions(&self, x: Operand) -> bool
+        ensures { result ≡ is_mentioned x (operands_of self.now.entry) }
     {
         match x.mention() {
-            Some(key) => any_mentions(self.operands(at), key),
+            Some(key) => any_mentions(self.operands(), key),
             None => false,
         }
     }
 
-    /// Puts another operand into the instruction at this place, and answers the old one.
-    pub(crate) fn set_operand(&mut self, at: usize, place: usize, new: Operand) -> Operand
-        requires within { at < length self.old.instrs }
-        requires can { IfSome (option_map (λ p. p.1) (entry_at self.old at)) (λ i. (place < length i.operands) × (is_formed (with_operand i place new) ≡ true)) }
-        ensures changed { self.new ≡ block_changed_at (λ i. with_operand i place new) at self.old }
-        ensures old { slice_get (operands_of (entry_at self.old at)) place ≡ Some result }
+    /// The instruction.
+    pub(crate) fn instr(&self) -> &Instr
+        requires { IsTrue (is_some self.now.entry) }
+        ensures value { option_map (λ p. p.1) self.now.entry ≡ Some result.now }
+        ensures formed { is_formed result.now ≡ true }
     {
-        let old = self.operands(at)[place];
-        let found = &mut self.instrs[at];
-        found.set_operand(place, new);
+        let entry = self.entry.as_ref().unwrap();
+        &entry.instr
+    }
+
+    /// Puts another operand into the instruction, and answers the old one.
+    pub(crate) fn set_operand(&mut self, place: usize, new: Operand) -> Operand
+        requires there { IsTrue (is_some self.old.entry) }
+        requires can { IfSome (option_map (λ p. p.1) self.old.entry) (λ i. (place < length i.operands) × (is_formed (with_operand i place new) ≡ true)) }
+        ensures changed { self.new ≡ slot_changed (λ i. with_operand i place new) self.old }
+        ensures old { slice_get (operands_of self.old.entry) place ≡ Some result }
+    {
+        let old = self.operands()[place];
+        let entry = self.entry.as_mut().unwrap();
+        entry.set_operand(place, new);
         old
     }
 
-    /// Makes each use of a register in the instruction at this place one of another.
-    pub(crate) fn replace_reg(&mut self, at: usize, old: Reg, new: Reg)
-        requires { at < length self.old.instrs }
-        ensures { self.new ≡ block_changed_at (instr_replaced old.0 new.0) at self.old }
+    /// Makes each use of a register in the instruction one of another.
+    pub(crate) fn replace_reg(&mut self, old: Reg, new: Reg)
+        requires { IsTrue (is_some self.old.entry) }
+        ensures { self.new ≡ slot_changed (instr_replaced old.0 new.0) self.old }
     {
-        let found = &mut self.instrs[at];
-        found.replace_reg(old, new);
+        let entry = self.entry.as_mut().unwrap();
+        entry.replace_reg(old, new);
     }
 
-    /// Gives a definition of the instruction at this place another kind.
-    pub(crate) fn set_kind(&mut self, at: usize, place: usize, kind: Kind)
-        requires within { at < length self.old.instrs }
-        requires can { HasDefAt (option_map (λ p. p.1) (entry_at self.old at)) place }
-        ensures { self.new ≡ block_changed_at (λ i. with_kind i place kind) at self.old }
+    /// Gives a definition of the instruction another kind.
+    pub(crate) fn set_kind(&mut self, place: usize, kind: Kind)
+        requires there { IsTrue (is_some self.old.entry) }
+        requires can { HasDefAt (option_map (λ p. p.1) self.old.entry) place }
+        ensures { self.new ≡ slot_changed (λ i. with_kind i place kind) self.old }
     {
-        let found = &mut self.instrs[at];
-        found.set_kind(place, kind);
+        let entry = self.entry.as_mut().unwrap();
+        entry.set_kind(place, kind);
     }
 
-    /// Takes the instruction at this place out.
-    pub(crate) fn take(&mut self, at: usize) -> Instr
-        requires { at < length self.old.instrs }
-        ensures taken { option_map (λ p. p.1) (entry_at self.old at) ≡ Some result }
-        ensures rest { self.new ≡ record self.old { instrs = remove self.old.instrs at } }
+    /// Takes the instruction out.
+    pub(crate) fn take(&mut self) -> Instr
+        requires { IsTrue (is_some self.old.entry) }
+        ensures taken { option_map (λ p. p.1) self.old.entry ≡ Some result }
+        ensures rest { self.new.entry ≡ None }
         ensures formed { is_formed result ≡ true }
     {
-        let Numbered { id: _, instr } = self.instrs.remove(at);
+        let Numbered { id: _, instr } = self.entry.take().unwrap();
         instr
-    }
-
-    /// Puts an instruction at this place.
-    pub(crate) fn insert(&mut self, at: usize, new: Numbered) -> Result<(), Memory>
-        requires { at ≤ length self.old.instrs }
-        ensures ok { OnOk result (self.new ≡ record self.old { instrs = insert self.old.instrs at new }) }
-        ensures err { OnErr result (self.new ≡ self.old) }
-    {
-        self.instrs.insert(at, new).map_err(|_| Memory)
     }
 }
 
@@ -212,17 +180,5 @@ impl Numbered {
     {
         let instr = &mut self.instr;
         instr.replace_reg(old, new);
-    }
-
-    fn id(&self) -> InstrId
-        ensures { result.0 ≡ self.now.0 }
-    {
-        self.id
-    }
-
-    fn has_id(&self, id: InstrId) -> bool
-        ensures { result ≡ (self.now.0 == id.0) }
-    {
-        self.id.0 == id.0
     }
 }

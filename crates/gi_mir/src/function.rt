@@ -5,16 +5,16 @@ ghost use Rattle.std.specs.Prelude.{◌≡◌, ◌↔◌, IsTrue, ◌-◌, ◌^�
 ghost use Rattle.gi_mir.specs.Edit.{block_at, head_of, ids_of, empty_function, register_above, above_registers, with_block, with_stack, with_keys, spot_in, with_instr, home_of, place_in_block, IsLive, StandsBefore, instr_of, id_at, id_after, id_before, without_instr, with_new_reg, CanSetOperand, with_operand_of, IsDefAt, with_changed, with_kind, definition_of, users_of, uses, all_instrs};
 ghost use Rattle.gi_mir.specs.Formed.{is_formed};
 ghost use Rattle.gi_mir.specs.Ids.{AreOwnIds};
-ghost use Rattle.gi_mir.specs.Places.{id_in};
+ghost use Rattle.gi_mir.specs.Arena.{left};
 ghost use Rattle.gi_mir.specs.Registers.{kind_in_operand, kind_in_operands, kind_of};
 ghost use Rattle.gi_mir.specs.Uses.{with_reg_replaced, IsPartlyReplaced};
 
-use crate::block::{Block, Body, InstrId, Numbered};
+use crate::block::{Block, InstrId};
+use crate::instrs::Instrs;
 use crate::instr::Instr;
-use crate::layout::{Layout, place_among, stands_at};
+use crate::layout::Layout;
 use crate::mentions::{definition_key, first, use_key};
 use crate::operand::{Kind, Operand, Reg, StackObject};
-use crate::place::Place;
 use gi_llt::Memory;
 use std::alloc::Global;
 use std::marker::Model;
@@ -78,13 +78,13 @@ pub struct Function {
 impl Model for Function {
     ghost use Rattle.std.specs.Prelude.{◌^◌, ◌<◌, length};
     ghost use Rattle.gi_mir.specs.Data.{FunctionData};
-    ghost use Rattle.gi_mir.specs.Tables.{IsTabled};
+    ghost use Rattle.gi_mir.specs.Arena.{blocks_of, IsStored};
 
     ghost Value = { FunctionData };
 
-    ghost view = { λ a. record { name = a.name; legalized = a.legalized; banked = a.banked; selected = a.selected; stack = a.stack.items; blocks = a.layout.blocks.items; next_reg = a.next_reg; next_id = length a.layout.places.items } };
+    ghost view = { λ a. record { name = a.name; legalized = a.legalized; banked = a.banked; selected = a.selected; stack = a.stack.items; blocks = blocks_of a.layout; next_reg = a.next_reg; next_id = length a.layout.slots.items } };
 
-    ghost invariant = { λ a. (length a.layout.blocks.items < 2 ^ 32) × IsTabled a.layout.blocks.items a.layout.places.items a.layout.mentions };
+    ghost invariant = { λ a. (length (blocks_of a.layout) < 2 ^ 32) × IsStored a.layout };
 }
 
 impl Function {
@@ -110,7 +110,7 @@ impl Function {
         ensures place { IfOk result (λ place. place ≡ length self.old.blocks) }
         ensures err { OnErr result (self.new ≡ self.old) }
     {
-        let place = self.layout.blocks.len() as u32;
+        let place = self.layout.bodies.len() as u32;
         self.layout.add_block(block)?;
         Ok(place)
     }
@@ -145,7 +145,7 @@ impl Function {
         ensures count { result ≡ length self.now.blocks }
         ensures small { length self.now.blocks < 2 ^ 32 }
     {
-        self.layout.blocks.len() as u32
+        self.layout.bodies.len() as u32
     }
 
     /// The block at this place, without its instructions.
@@ -153,21 +153,20 @@ impl Function {
         requires { block < length self.now.blocks }
         ensures { result.now ≡ head_of (block_at self.now block) }
     {
-        let body = &self.layout.blocks[block as usize];
+        let body = &self.layout.bodies[block as usize];
         &body.head
     }
 
     /// The instructions of a block, in order.
-    pub fn instrs(&self, block: u32) -> &[Numbered]
+    pub fn instrs(&self, block: u32) -> Instrs<'_>
         requires { block < length self.now.blocks }
-        ensures { result.now ≡ (block_at self.now block).instrs }
+        ensures { left result ≡ (block_at self.now block).instrs }
     {
-        let body = &self.layout.blocks[block as usize];
-        body.instrs.as_slice()
+        let body = &self.layout.bodies[block as usize];
+        Instrs::new(self.layout.slots.as_slice(), body.first, body.count)
     }
 
-    /// Puts an instruction before the one that is named in this block, or last, and answers its id. Those behind
-    /// it in the block are numbered anew, so that at the end of a block none is.
+    /// Puts an instruction before the one that is named in this block, or last, and answers its id.
     pub fn insert_before(
         &mut self,
         block: u32,
@@ -181,9 +180,8 @@ impl Function {
         ensures id { IfOk result (λ id. id.0 ≡ self.old.next_id) }
         ensures err { OnErr result (self.new ≡ self.old) }
     {
-        let at = self.spot(block, before);
         let above = above_registers(self.next_reg, instr.operands.as_slice());
-        let id = self.layout.insert(Place { block, at }, instr)?;
+        let id = self.layout.insert(block, before, instr)?;
         self.next_reg = above;
         Ok(id)
     }
@@ -225,8 +223,7 @@ impl Function {
         requires { block < length self.now.blocks }
         ensures { option_map (λ id. id.0) result ≡ id_at (block_at self.now block) 0 }
     {
-        let body = &self.layout.blocks[block as usize];
-        body.id_at(0)
+        self.layout.first_in(block)
     }
 
     /// The last instruction of a block.
@@ -234,37 +231,7 @@ impl Function {
         requires { block < length self.now.blocks }
         ensures { option_map (λ id. id.0) result ≡ id_at (block_at self.now block) (length (block_at self.now block).instrs - 1) }
     {
-        let body = &self.layout.blocks[block as usize];
-        let count = body.instrs.len();
-        body.id_at(count.saturating_sub(1))
-    }
-
-    /// Where an instruction goes in a block: before the one that is named, or last.
-    fn spot(&self, block: u32, before: Option<InstrId>) -> usize
-        requires within { block < length self.now.blocks }
-        requires stands { IfSome before (λ id. Contains (ids_of (block_at self.now block)) id.0) }
-        ensures spot { result ≡ spot_in (block_at self.now block).instrs before }
-        ensures bound { result ≤ length (block_at self.now block).instrs }
-    {
-        match before {
-            Some(id) => self.layout.places[id.0].at,
-            None => {
-                let body = &self.layout.blocks[block as usize];
-                body.instrs.len()
-            }
-        }
-    }
-
-    /// The place of an instruction.
-    fn place(&self, id: InstrId) -> Place
-        requires { IsLive self.now id.0 }
-        ensures block { result.block ≡ home_of self.now id.0 }
-        ensures at { result.at ≡ place_in_block self.now id.0 }
-        ensures block_within { result.block < length self.now.blocks }
-        ensures at_within { result.at < length (block_at self.now result.block).instrs }
-        ensures stands { id_in self.now.blocks result.block result.at ≡ Some id.0 }
-    {
-        self.layout.places[id.0]
+        self.layout.last_in(block)
     }
 
     /// Each id belongs to one instruction at most, and the next one to none.
@@ -278,10 +245,7 @@ impl Function {
     pub fn is_live(&self, id: InstrId) -> bool
         ensures { IsTrue result ↔ IsLive self.now id.0 }
     {
-        match place_among(self.layout.places.as_slice(), id) {
-            Some(place) => stands_at(self.layout.blocks.as_slice(), place, id),
-            None => false,
-        }
+        self.layout.has(id)
     }
 
     /// The number of the next virtual register.
@@ -297,7 +261,7 @@ impl Function {
         ensures home { result ≡ home_of self.now id.0 }
         ensures within { result < length self.now.blocks }
     {
-        self.place(id).block
+        self.layout.block_of(id)
     }
 
     /// The instruction with this id.
@@ -306,9 +270,7 @@ impl Function {
         ensures value { instr_of self.now id.0 ≡ Some result.now }
         ensures formed { is_formed result.now ≡ true }
     {
-        let place = self.place(id);
-        let body = &self.layout.blocks[place.block as usize];
-        body.instr(place.at)
+        self.layout.slots[id.0].instr()
     }
 
     /// The next instruction of the same block.
@@ -316,9 +278,7 @@ impl Function {
         requires { IsLive self.now id.0 }
         ensures { option_map (λ next. next.0) result ≡ id_after self.now id.0 }
     {
-        let place = self.place(id);
-        let body = &self.layout.blocks[place.block as usize];
-        body.id_after(place.at)
+        self.layout.slots[id.0].next
     }
 
     /// The previous instruction of the same block.
@@ -326,13 +286,7 @@ impl Function {
         requires { IsLive self.now id.0 }
         ensures { option_map (λ previous. previous.0) result ≡ id_before self.now id.0 }
     {
-        let place = self.place(id);
-        let body = &self.layout.blocks[place.block as usize];
-        if place.at == 0 {
-            None
-        } else {
-            body.id_at(place.at - 1)
-        }
+        self.layout.slots[id.0].previous
     }
 
     /// Whether one instruction stands before another in layout.
@@ -341,18 +295,17 @@ impl Function {
         requires second { IsLive self.now b.0 }
         ensures { IsTrue result ↔ StandsBefore self.now a.0 b.0 }
     {
-        self.place(a).is_before(self.place(b))
+        self.layout.before(a, b)
     }
 
-    /// Takes an instruction out. Those behind it in the block are numbered anew.
+    /// Takes an instruction out.
     pub fn erase(&mut self, id: InstrId) -> Instr
         requires { IsLive self.old id.0 }
         ensures taken { instr_of self.old id.0 ≡ Some result }
         ensures rest { self.new ≡ without_instr self.old id.0 }
         ensures formed { is_formed result ≡ true }
     {
-        let place = self.place(id);
-        self.layout.remove(place, id)
+        self.layout.remove(id)
     }
 
     /// Puts another operand into an instruction.
@@ -362,8 +315,7 @@ impl Function {
         ensures ok { OnOk result (self.new ≡ with_operand_of self.old id.0 k new) }
         ensures err { OnErr result (self.new ≡ self.old) }
     {
-        let place = self.place(id);
-        self.layout.set_operand(place, id, k, new)?;
+        self.layout.set_operand(id, k, new)?;
         self.next_reg = self.next_reg.max(new.register_above());
         Ok(())
     }
@@ -374,8 +326,7 @@ impl Function {
         requires definition { IsDefAt self.old id.0 k }
         ensures { self.new ≡ with_changed (λ i. with_kind i k kind) self.old id.0 }
     {
-        let place = self.place(id);
-        self.layout.set_kind(place, k, kind);
+        self.layout.set_kind(id, k, kind);
     }
 
     /// The first instruction in layout order that defines this register.

@@ -1,124 +1,141 @@
-//! The blocks of a function, and what is written down so that nothing in them has to be looked for.
+//! The instructions of a function in one arena by id, and what is written down so that nothing has to be looked for.
 //!
-//! The place of an instruction and those that mention a register are looked up, and no block is walked. An
-//! insertion and a removal number anew those behind them in their block alone. A use list is searched by halving,
-//! as its ids are in layout order.
+//! A block has its first and its last instruction, and each instruction its neighbours, so an insertion and a removal
+//! touch these alone. For the order of two instructions of one block each has a number, its label, which rises along the
+//! block: it stands in `Place::at`. A new label lies between those of its neighbours. Where none is free there, the
+//! labels around are spread over the smallest span of labels that few enough share, so that n insertions, wherever
+//! they are, write down some n * log n labels. A list of those that mention a register is searched by halving, as its
+//! ids are in layout order.
+//!
+//! What these say is one list of blocks, `blocks_in`: the instructions of a block are those met from its first one
+//! on. All that is proved is proved of that list: `IsStored` says that each id of the list has the neighbours that it
+//! has there, that labels rise along it, and that the lists of mentions are those of its instructions.
 
 ghost use Rattle.std.specs.List.{list_any};
-ghost use Rattle.std.specs.Prelude.{◌≡◌, ◌≢◌, map, ◌<◌, ◌≤◌, ◌+◌, ◌-◌, true, false, ◌++◌, ◌∷◌, [], length, insert, remove, slice_set, OnOk, OnErr, IfOk, IfSome, Some, option_map, slice_get, slice_index_or};
-ghost use Rattle.gi_mir.specs.Edit.{block_with, empty_block, has_at, entry_at, with_operand, with_kind, block_changed_at, HasDefAt, is_use_of};
+ghost use Rattle.std.specs.Prelude.{◌≡◌, ◌↔◌, IsTrue, ◌≢◌, map, ◌<◌, ◌≤◌, ◌+◌, ◌-◌, Contains, true, ◌++◌, ◌∷◌, [], length, OnOk, OnErr, IfOk, IfSome, Some, option_map, slice_get};
+ghost use Rattle.gi_mir.specs.Arena.{blocks_of, spot_of, is_in, IsStored, IsFirstOf};
+ghost use Rattle.gi_mir.specs.Edit.{head_of, block_with, with_operand, with_kind, ids_of, id_at, HasDefAt, is_use_of, spot_in};
 ghost use Rattle.gi_mir.specs.Formed.{is_formed};
-ghost use Rattle.gi_mir.specs.Mentions.{HasSameLists, IsNoted, IsSorted, Lacks, operands_at, precedes};
-ghost use Rattle.gi_mir.specs.Tables.{IsTabled, IsFirstOf};
+ghost use Rattle.gi_mir.specs.Mentions.{listed, operands_at};
+ghost use Rattle.gi_mir.specs.Places.{body_at, place, comes_before, with_inserted, with_removed, with_changed_at};
 ghost use Rattle.gi_mir.specs.Uses.{instr_replaced, block_replaced, ArePartlyReplaced};
-ghost use Rattle.gi_mir.specs.Places.{HasGivenIds, id_in, HasDistinctIds, IsRenumbered, body_at, with_inserted, with_removed, with_changed_at};
 
-use crate::block::{Block, Body, InstrId, Numbered};
+use crate::block::{Block, Body, InstrId, Numbered, Slot};
 use crate::instr::Instr;
 use crate::mentions::{Mentions, first, use_key};
 use crate::operand::{Kind, Operand, Reg};
 use crate::place::Place;
+use crate::room::Gap;
 use gi_llt::Memory;
 use std::alloc::Global;
 
-/// Blocks, the place of each of their instructions by its id, and those that mention each register.
+/// Blocks, the arena, the place of each id, and those that mention each register.
 #[derive(Drop)]
 pub(crate) struct Layout {
-    pub(crate) blocks: Vec<Body>,
+    pub(crate) bodies: Vec<Body>,
+    pub(crate) slots: Vec<Slot>,
     pub(crate) places: Vec<Place>,
     pub(crate) mentions: Mentions,
-}
-
-/// The place that is written down for an id.
-pub(crate) fn place_among(places: &[Place], id: InstrId) -> Option<Place>
-    ensures { result ≡ slice_get places.now id.0 }
-{
-    places.get(id.0).copied()
-}
-
-/// Whether the instruction at this place has this id.
-pub(crate) fn stands_at(blocks: &[Body], place: Place, id: InstrId) -> bool
-    ensures { result ≡ has_at (slice_index_or blocks.now place.block empty_block) id.0 place.at }
-{
-    match blocks.get(place.block as usize) {
-        Some(body) => body.has_at(id, place.at),
-        None => false,
-    }
-}
-
-/// Writes down where the instructions of a block stand, from this place on.
-fn renumber(places: &mut [Place], from: Place, instrs: &[Numbered])
-    requires within { from.at ≤ length instrs.now }
-    requires given { HasGivenIds instrs.now (length places.old) }
-    requires once { HasDistinctIds instrs.now }
-    ensures { IsRenumbered places.old places.new from.block from.at (length instrs.now) instrs.now }
-{
-    for at in from.at..instrs.len() {
-        let n = &instrs[at];
-        let block = from.block;
-        places[n.id.0] = Place { block, at };
-    }
 }
 
 impl Layout {
     /// No block.
     pub(crate) fn new(alloc: Global) -> Layout
-        ensures blocks { result.blocks.items ≡ [] }
-        ensures places { result.places.items ≡ [] }
-        ensures tabled { IsTabled result.blocks.items result.places.items result.mentions }
+        ensures blocks { blocks_of result ≡ [] }
+        ensures given { result.slots.items ≡ [] }
+        ensures stored { IsStored result }
     {
         Layout {
-            blocks: Vec::new(alloc),
+            bodies: Vec::new(alloc),
+            slots: Vec::new(alloc),
             places: Vec::new(alloc),
             mentions: Mentions::new(alloc),
         }
     }
 
-    /// Writes down where the instructions of a block stand, from this place on.
-    fn renumber(&mut self, from: Place)
-        requires within { from.block < length self.old.blocks.items }
-        requires bound { from.at ≤ length (body_at self.old.blocks.items from.block).instrs }
-        requires given { HasGivenIds (body_at self.old.blocks.items from.block).instrs (length self.old.places.items) }
-        requires once { HasDistinctIds (body_at self.old.blocks.items from.block).instrs }
-        ensures blocks { self.new.blocks ≡ self.old.blocks }
-        ensures places { IsRenumbered self.old.places.items self.new.places.items from.block from.at (length (body_at self.old.blocks.items from.block).instrs) (body_at self.old.blocks.items from.block).instrs }
-        ensures mentions { self.new.mentions ≡ self.old.mentions }
-    {
-        let body = &self.blocks[from.block as usize];
-        renumber(self.places.as_mut_slice(), from, body.instrs.as_slice());
-    }
-
     /// Adds a block with no instruction.
     pub(crate) fn add_block(&mut self, block: Block) -> Result<(), Memory>
-        requires { IsTabled self.old.blocks.items self.old.places.items self.old.mentions }
-        ensures ok { OnOk result (self.new.blocks.items ≡ self.old.blocks.items ++ block_with block ∷ []) }
-        ensures err { OnErr result (self.new.blocks.items ≡ self.old.blocks.items) }
-        ensures places { self.new.places ≡ self.old.places }
-        ensures tabled { IsTabled self.new.blocks.items self.new.places.items self.new.mentions }
+        requires { IsStored self.old }
+        ensures ok { OnOk result (blocks_of self.new ≡ blocks_of self.old ++ block_with block ∷ []) }
+        ensures err { OnErr result (blocks_of self.new ≡ blocks_of self.old) }
+        ensures given { self.new.slots ≡ self.old.slots }
+        ensures stored { IsStored self.new }
     {
-        let alloc = *self.blocks.allocator();
-        let body = Body::new(alloc, block);
-        self.blocks.push(body).map_err(|_| Memory)
+        self.bodies.push(Body::new(block)).map_err(|_| Memory)
     }
 
-    /// Writes down the place of a new instruction, which stands there, and what it mentions.
-    fn enter(&mut self, spot: Place, id: InstrId) -> Result<(), Memory>
-        requires within { spot.block < length self.old.blocks.items }
-        requires bound { spot.at < length (body_at self.old.blocks.items spot.block).instrs }
-        requires sorted { IsSorted (self.old.places.items ++ spot ∷ []) spot self.old.mentions }
-        requires fresh { Lacks self.old.mentions id }
-        requires own { precedes (self.old.places.items ++ spot ∷ []) spot id ≡ false }
-        ensures ok { OnOk result (self.new.places.items ≡ self.old.places.items ++ spot ∷ []) }
-        ensures noted { OnOk result (IsNoted self.old.mentions self.new.mentions (precedes (self.old.places.items ++ spot ∷ []) spot) (operands_at self.old.blocks.items spot) id) }
-        ensures err { OnErr result (self.new.places.items ≡ self.old.places.items) }
-        ensures same { OnErr result (HasSameLists self.old.mentions self.new.mentions) }
-        ensures blocks { self.new.blocks ≡ self.old.blocks }
+    /// The first instruction of a block.
+    pub(crate) fn first_in(&self, block: u32) -> Option<InstrId>
+        requires stored { IsStored self.now }
+        requires within { block < length (blocks_of self.now) }
+        ensures { option_map (λ id. id.0) result ≡ id_at (body_at (blocks_of self.now) block) 0 }
     {
+        self.bodies[block as usize].first
+    }
+
+    /// The last instruction of a block.
+    pub(crate) fn last_in(&self, block: u32) -> Option<InstrId>
+        requires stored { IsStored self.now }
+        requires within { block < length (blocks_of self.now) }
+        ensures { option_map (λ id. id.0) result ≡ id_at (body_at (blocks_of self.now) block) (length (body_at (blocks_of self.now) block).instrs - 1) }
+    {
+        self.bodies[block as usize].last
+    }
+
+    /// Whether the instruction with this id is in a block.
+    pub(crate) fn has(&self, id: InstrId) -> bool
+        requires { IsStored self.now }
+        ensures { result ≡ is_in (blocks_of self.now) id.0 }
+    {
+        match self.slots.as_slice().get(id.0) {
+            Some(slot) => slot.entry.is_some(),
+            None => false,
+        }
+    }
+
+    /// The place of the block that has this instruction.
+    pub(crate) fn block_of(&self, id: InstrId) -> u32
+        requires stored { IsStored self.now }
+        requires stands { is_in (blocks_of self.now) id.0 ≡ true }
+        ensures home { result ≡ (spot_of (blocks_of self.now) id.0).block }
+        ensures within { result < length (blocks_of self.now) }
+    {
+        self.places[id.0].block
+    }
+
+    /// Whether one instruction stands before another in layout.
+    pub(crate) fn before(&self, a: InstrId, b: InstrId) -> bool
+        requires stored { IsStored self.now }
+        requires first { is_in (blocks_of self.now) a.0 ≡ true }
+        requires second { is_in (blocks_of self.now) b.0 ≡ true }
+        ensures { result ≡ comes_before (spot_of (blocks_of self.now) a.0) (spot_of (blocks_of self.now) b.0) }
+    {
+        self.places[a.0].is_before(self.places[b.0])
+    }
+
+    /// The gap before the instruction that is named in this block, or at its end.
+    fn gap(&self, block: u32, before: Option<InstrId>) -> Gap {
+        match before {
+            Some(next) => Gap {
+                block,
+                previous: self.slots[next.0].previous,
+                next: before,
+            },
+            None => Gap {
+                block,
+                previous: self.bodies[block as usize].last,
+                next: None,
+            },
+        }
+    }
+
+    /// Writes down the place of an id, and what its instruction mentions.
+    fn note(&mut self, id: InstrId, spot: Place) -> Result<(), Memory> {
         self.places.push(spot).map_err(|_| Memory)?;
-        let body = &self.blocks[spot.block as usize];
+        let operands = self.slots[id.0].operands();
         match self
             .mentions
-            .note_all(self.places.as_slice(), body.operands(spot.at), id, spot)
+            .note_all(self.places.as_slice(), operands, id, spot)
         {
             Ok(()) => Ok(()),
             Err(_) => {
@@ -128,149 +145,164 @@ impl Layout {
         }
     }
 
-    /// Takes the last instruction that was put in out again.
-    fn undo(&mut self, spot: Place)
-        requires within { spot.block < length self.old.blocks.items }
-        requires bound { spot.at < length (body_at self.old.blocks.items spot.block).instrs }
-        ensures blocks { self.new.blocks.items ≡ with_removed self.old.blocks.items spot }
-        ensures places { self.new.places ≡ self.old.places }
-        ensures mentions { self.new.mentions ≡ self.old.mentions }
-    {
-        let body = &mut self.blocks[spot.block as usize];
-        let _ = body.take(spot.at);
-    }
-
-    /// Puts an instruction at a place, and answers its id. Those behind it in the block are numbered anew.
-    pub(crate) fn insert(&mut self, spot: Place, instr: Instr) -> Result<InstrId, Memory>
-        requires tabled { IsTabled self.old.blocks.items self.old.places.items self.old.mentions }
-        requires within { spot.block < length self.old.blocks.items }
-        requires bound { spot.at ≤ length (body_at self.old.blocks.items spot.block).instrs }
-        requires formed { is_formed instr ≡ true }
-        ensures ok { OnOk result (self.new.blocks.items ≡ with_inserted self.old.blocks.items spot (length self.old.places.items, instr)) }
-        ensures id { IfOk result (λ id. id.0 ≡ length self.old.places.items) }
-        ensures given { OnOk result (length self.new.places.items ≡ length self.old.places.items + 1) }
-        ensures err { OnErr result (self.new.blocks.items ≡ self.old.blocks.items) }
-        ensures same_given { OnErr result (length self.new.places.items ≡ length self.old.places.items) }
-        ensures tabled { IsTabled self.new.blocks.items self.new.places.items self.new.mentions }
-    {
-        let id = InstrId(self.places.len());
-        let body = &mut self.blocks[spot.block as usize];
-        body.insert(spot.at, Numbered { id, instr })?;
-        match self.enter(spot, id) {
-            Ok(()) => {
-                self.renumber(spot);
-                Ok(id)
-            }
+    /// Takes an instruction into the arena, which stands in no block as yet.
+    fn enter(&mut self, instr: Instr, spot: Place, gap: Gap) -> Result<InstrId, Memory> {
+        let id = InstrId(self.slots.len());
+        let slot = Slot {
+            entry: Some(Numbered { id, instr }),
+            previous: gap.previous,
+            next: gap.next,
+        };
+        self.slots.push(slot).map_err(|_| Memory)?;
+        match self.note(id, spot) {
+            Ok(()) => Ok(id),
             Err(_) => {
-                self.undo(spot);
+                let _ = self.slots.pop();
                 Err(Memory)
             }
         }
     }
 
-    /// Takes the instruction at a place out. Those behind it in the block are numbered anew.
-    pub(crate) fn remove(&mut self, spot: Place, id: InstrId) -> Instr
-        requires tabled { IsTabled self.old.blocks.items self.old.places.items self.old.mentions }
-        requires within { spot.block < length self.old.blocks.items }
-        requires stands { id_in self.old.blocks.items spot.block spot.at ≡ Some id.0 }
-        ensures taken { option_map (λ p. p.1) (entry_at (body_at self.old.blocks.items spot.block) spot.at) ≡ Some result }
-        ensures formed { is_formed result ≡ true }
-        ensures rest { self.new.blocks.items ≡ with_removed self.old.blocks.items spot }
-        ensures given { length self.new.places.items ≡ length self.old.places.items }
-        ensures tabled { IsTabled self.new.blocks.items self.new.places.items self.new.mentions }
+    /// Makes an instruction the one behind another, or the first of a block.
+    fn set_next(&mut self, block: u32, previous: Option<InstrId>, next: Option<InstrId>) {
+        match previous {
+            Some(there) => self.slots[there.0].next = next,
+            None => self.bodies[block as usize].first = next,
+        }
+    }
+
+    /// Makes an instruction the one before another, or the last of a block.
+    fn set_previous(&mut self, block: u32, next: Option<InstrId>, previous: Option<InstrId>) {
+        match next {
+            Some(there) => self.slots[there.0].previous = previous,
+            None => self.bodies[block as usize].last = previous,
+        }
+    }
+
+    /// Puts an instruction into a block, before the one that is named or last, and answers its id.
+    pub(crate) fn insert(
+        &mut self,
+        block: u32,
+        before: Option<InstrId>,
+        instr: Instr,
+    ) -> Result<InstrId, Memory>
+        requires stored { IsStored self.old }
+        requires within { block < length (blocks_of self.old) }
+        requires stands { IfSome before (λ id. Contains (ids_of (body_at (blocks_of self.old) block)) id.0) }
+        requires formed { is_formed instr ≡ true }
+        ensures ok { OnOk result (blocks_of self.new ≡ with_inserted (blocks_of self.old) (place block (spot_in (body_at (blocks_of self.old) block).instrs before)) (length self.old.slots.items, instr)) }
+        ensures id { IfOk result (λ id. id.0 ≡ length self.old.slots.items) }
+        ensures given { OnOk result (length self.new.slots.items ≡ length self.old.slots.items + 1) }
+        ensures err { OnErr result (blocks_of self.new ≡ blocks_of self.old) }
+        ensures same_given { OnErr result (length self.new.slots.items ≡ length self.old.slots.items) }
+        ensures stored { IsStored self.new }
     {
-        let body = &mut self.blocks[spot.block as usize];
-        let instr = body.take(spot.at);
+        let gap = self.gap(block, before);
+        let at = self.free_label(gap)?;
+        let id = self.enter(instr, Place { block, at }, gap)?;
+        self.set_next(block, gap.previous, Some(id));
+        self.set_previous(block, gap.next, Some(id));
+        self.bodies[block as usize].count += 1;
+        Ok(id)
+    }
+
+    /// Takes an instruction out.
+    pub(crate) fn remove(&mut self, id: InstrId) -> Instr
+        requires stored { IsStored self.old }
+        requires stands { is_in (blocks_of self.old) id.0 ≡ true }
+        ensures taken { slice_get (body_at (blocks_of self.old) (spot_of (blocks_of self.old) id.0).block).instrs (spot_of (blocks_of self.old) id.0).at ≡ Some (id.0, result) }
+        ensures formed { is_formed result ≡ true }
+        ensures rest { blocks_of self.new ≡ with_removed (blocks_of self.old) (spot_of (blocks_of self.old) id.0) }
+        ensures given { length self.new.slots.items ≡ length self.old.slots.items }
+        ensures stored { IsStored self.new }
+    {
+        let block = self.places[id.0].block;
+        let slot = &mut self.slots[id.0];
+        let previous = slot.previous;
+        let next = slot.next;
+        let instr = slot.take();
+        self.set_next(block, previous, next);
+        self.set_previous(block, next, previous);
+        self.bodies[block as usize].count -= 1;
         self.mentions.forget_all(instr.operands.as_slice(), id);
-        self.renumber(spot);
         instr
     }
 
-    /// Puts another operand into the instruction at a place.
-    pub(crate) fn set_operand(
-        &mut self,
-        spot: Place,
-        id: InstrId,
-        k: usize,
-        new: Operand,
-    ) -> Result<(), Memory>
-        requires tabled { IsTabled self.old.blocks.items self.old.places.items self.old.mentions }
-        requires within { spot.block < length self.old.blocks.items }
-        requires stands { id_in self.old.blocks.items spot.block spot.at ≡ Some id.0 }
-        requires can { IfSome (option_map (λ p. p.1) (entry_at (body_at self.old.blocks.items spot.block) spot.at)) (λ i. (k < length i.operands) × (is_formed (with_operand i k new) ≡ true)) }
-        ensures ok { OnOk result (self.new.blocks.items ≡ with_changed_at (λ i. with_operand i k new) self.old.blocks.items spot) }
-        ensures err { OnErr result (self.new.blocks.items ≡ self.old.blocks.items) }
-        ensures given { length self.new.places.items ≡ length self.old.places.items }
-        ensures tabled { IsTabled self.new.blocks.items self.new.places.items self.new.mentions }
+    /// Puts another operand into an instruction.
+    pub(crate) fn set_operand(&mut self, id: InstrId, k: usize, new: Operand) -> Result<(), Memory>
+        requires stored { IsStored self.old }
+        requires stands { is_in (blocks_of self.old) id.0 ≡ true }
+        requires can { IfSome (slice_get (body_at (blocks_of self.old) (spot_of (blocks_of self.old) id.0).block).instrs (spot_of (blocks_of self.old) id.0).at) (λ p. (k < length p.1.operands) × (is_formed (with_operand p.1 k new) ≡ true)) }
+        ensures ok { OnOk result (blocks_of self.new ≡ with_changed_at (λ i. with_operand i k new) (blocks_of self.old) (spot_of (blocks_of self.old) id.0)) }
+        ensures err { OnErr result (blocks_of self.new ≡ blocks_of self.old) }
+        ensures given { length self.new.slots.items ≡ length self.old.slots.items }
+        ensures stored { IsStored self.new }
     {
+        let spot = self.places[id.0];
         self.mentions
             .note_operand(self.places.as_slice(), new, id, spot)?;
-        let body = &mut self.blocks[spot.block as usize];
-        let old = body.set_operand(spot.at, k, new);
-        if !body.mentions(spot.at, old) {
+        let slot = &mut self.slots[id.0];
+        let old = slot.set_operand(k, new);
+        if !slot.mentions(old) {
             self.mentions.forget_operand(old, id);
         }
         Ok(())
     }
 
-    /// The first instruction that is listed under a key, and its place.
-    fn first_of(&self, key: u64) -> Option<(InstrId, Place)>
-        requires { IsTabled self.now.blocks.items self.now.places.items self.now.mentions }
-        ensures { IsFirstOf self.now.blocks.items key result }
-    {
-        match first(self.mentions.of(key)) {
-            Some(id) => Some((id, self.places[id.0])),
-            None => None,
-        }
-    }
-
-    /// Makes each use of a register in the instruction at a place one of another.
-    fn replace_at(&mut self, spot: Place, id: InstrId, old: Reg, new: Reg) -> Result<(), Memory>
-        requires tabled { IsTabled self.old.blocks.items self.old.places.items self.old.mentions }
-        requires within { spot.block < length self.old.blocks.items }
-        requires stands { id_in self.old.blocks.items spot.block spot.at ≡ Some id.0 }
-        requires there { list_any (is_use_of old.0) (operands_at self.old.blocks.items spot) ≡ true }
+    /// Makes each use of a register in an instruction one of another.
+    fn replace_at(&mut self, id: InstrId, old: Reg, new: Reg) -> Result<(), Memory>
+        requires stored { IsStored self.old }
+        requires stands { is_in (blocks_of self.old) id.0 ≡ true }
+        requires there { list_any (is_use_of old.0) (operands_at (blocks_of self.old) (spot_of (blocks_of self.old) id.0)) ≡ true }
         requires apart { old.0 ≢ new.0 }
-        ensures ok { OnOk result (self.new.blocks.items ≡ with_changed_at (instr_replaced old.0 new.0) self.old.blocks.items spot) }
-        ensures err { OnErr result (self.new.blocks.items ≡ self.old.blocks.items) }
-        ensures given { length self.new.places.items ≡ length self.old.places.items }
-        ensures tabled { IsTabled self.new.blocks.items self.new.places.items self.new.mentions }
+        ensures ok { OnOk result (blocks_of self.new ≡ with_changed_at (instr_replaced old.0 new.0) (blocks_of self.old) (spot_of (blocks_of self.old) id.0)) }
+        ensures err { OnErr result (blocks_of self.new ≡ blocks_of self.old) }
+        ensures given { length self.new.slots.items ≡ length self.old.slots.items }
+        ensures stored { IsStored self.new }
     {
+        let spot = self.places[id.0];
         self.mentions
             .note_operand(self.places.as_slice(), Operand::Use(new), id, spot)?;
-        let body = &mut self.blocks[spot.block as usize];
-        body.replace_reg(spot.at, old, new);
+        let slot = &mut self.slots[id.0];
+        slot.replace_reg(old, new);
         self.mentions.forget_operand(Operand::Use(old), id);
         Ok(())
+    }
+
+    /// The first instruction that is listed under a key.
+    fn first_of(&self, key: u64) -> Option<InstrId>
+        requires { IsStored self.now }
+        ensures { IsFirstOf (blocks_of self.now) key result }
+    {
+        first(self.mentions.of(key))
     }
 
     /// Makes each use of a register one of another. Where memory runs out, those up to some place in layout
     /// are replaced.
     pub(crate) fn replace_reg(&mut self, old: Reg, new: Reg) -> Result<(), Memory>
-        requires tabled { IsTabled self.old.blocks.items self.old.places.items self.old.mentions }
+        requires stored { IsStored self.old }
         requires apart { old.0 ≢ new.0 }
-        ensures ok { OnOk result (self.new.blocks.items ≡ map (block_replaced old.0 new.0) self.old.blocks.items) }
-        ensures err { OnErr result (ArePartlyReplaced old.0 new.0 self.old.blocks.items self.new.blocks.items) }
-        ensures given { length self.new.places.items ≡ length self.old.places.items }
-        ensures tabled { IsTabled self.new.blocks.items self.new.places.items self.new.mentions }
+        ensures ok { OnOk result (blocks_of self.new ≡ map (block_replaced old.0 new.0) (blocks_of self.old)) }
+        ensures err { OnErr result (ArePartlyReplaced old.0 new.0 (blocks_of self.old) (blocks_of self.new)) }
+        ensures given { length self.new.slots.items ≡ length self.old.slots.items }
+        ensures stored { IsStored self.new }
     {
-        while let Some((id, spot)) = self.first_of(use_key(old)) {
-            self.replace_at(spot, id, old, new)?;
+        while let Some(id) = self.first_of(use_key(old)) {
+            self.replace_at(id, old, new)?;
         }
         Ok(())
     }
 
-    /// Gives a definition of the instruction at a place another kind.
-    pub(crate) fn set_kind(&mut self, spot: Place, k: usize, kind: Kind)
-        requires tabled { IsTabled self.old.blocks.items self.old.places.items self.old.mentions }
-        requires within { spot.block < length self.old.blocks.items }
-        requires bound { spot.at < length (body_at self.old.blocks.items spot.block).instrs }
-        requires can { HasDefAt (option_map (λ p. p.1) (entry_at (body_at self.old.blocks.items spot.block) spot.at)) k }
-        ensures blocks { self.new.blocks.items ≡ with_changed_at (λ i. with_kind i k kind) self.old.blocks.items spot }
-        ensures given { length self.new.places.items ≡ length self.old.places.items }
-        ensures tabled { IsTabled self.new.blocks.items self.new.places.items self.new.mentions }
+    /// Gives a definition of an instruction another kind.
+    pub(crate) fn set_kind(&mut self, id: InstrId, k: usize, kind: Kind)
+        requires stored { IsStored self.old }
+        requires stands { is_in (blocks_of self.old) id.0 ≡ true }
+        requires can { HasDefAt (option_map (λ p. p.1) (slice_get (body_at (blocks_of self.old) (spot_of (blocks_of self.old) id.0).block).instrs (spot_of (blocks_of self.old) id.0).at)) k }
+        ensures blocks { blocks_of self.new ≡ with_changed_at (λ i. with_kind i k kind) (blocks_of self.old) (spot_of (blocks_of self.old) id.0) }
+        ensures given { length self.new.slots.items ≡ length self.old.slots.items }
+        ensures stored { IsStored self.new }
     {
-        let body = &mut self.blocks[spot.block as usize];
-        body.set_kind(spot.at, k, kind);
+        let slot = &mut self.slots[id.0];
+        slot.set_kind(k, kind);
     }
 }
