@@ -4,6 +4,7 @@ pub mod FormedLemmas
 pub mod IdsLemmas
 pub mod Keys
 pub mod KindLemmas
+pub mod LabelLemmas
 pub mod LettersLemmas
 pub mod Lists
 pub mod Located
