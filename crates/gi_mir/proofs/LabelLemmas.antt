@@ -1,25 +1,23 @@
--- Labels rise along a block, and rise still where those of a run are spread over the span that it fills.
+-- Labels rise along a block: what they say of gaps and of runs.
 use Rattle.std.proofs.Common.{◌≡◌, ℕ, zero, suc, ◌+◌, ◌-◌, ◌*◌, ◌^◌, ◌<◌, ◌≤◌, ◌≢◌, List, [], ◌∷◌, Option, Some, None, ◌⊎◌, inl, inr, length, get_or, set, refl, sym, ap, ◌∙◌, arith, length-set}
-use Rattle.std.specs.Prelude.{slice_get, option_map, unwrap_or, IfSome}
-use Rattle.std.specs.Option.{option_map_or}
-use Rattle.std.proofs.Math.Nat.{mul-lt-mul_of_pos_right}
+use Rattle.std.specs.Prelude.{slice_get, option_map, unwrap_or, true, IfSome}
+use Rattle.std.specs.Option.{option_map_or, option_or}
 use Rattle.std.proofs.lemmas.Bool.{cases_eq}
 use Rattle.std.proofs.lemmas.Option.{slice_get_within}
-use Rattle.gi_mir.specs.Arena.{blocks_of, id_named, nth_instr_id, id_ahead, slot_at, FitsGap, HasGap, HasOrder, IsLinked, IsStored}
+use Rattle.gi_mir.specs.Arena.{id_named, is_in, spot_of, nth_instr_id, id_ahead, slot_at, FitsGap, HasGap, HasOrder, IsLinked}
 use Rattle.gi_mir.specs.Data.{InstrData, BlockData}
-use Rattle.gi_mir.specs.Edit.{changed_at, empty_block}
-use Rattle.gi_mir.specs.Ids.{AreOwnIds}
-use Rattle.gi_mir.specs.Labels.{label_or, with_label, IsRun, BeginsAt, FillsSpan}
+use Rattle.gi_mir.specs.Edit.{empty_block, has_instr}
+use Rattle.gi_mir.specs.Labels.{label_or, IsRun, BeginsAt, FillsSpan}
 use Rattle.gi_mir.specs.Places.{nth_id, id_in}
 use Rattle.gi_mir.specs.declared.block.Body.{Body}
 use Rattle.gi_mir.specs.declared.block.InstrId.{InstrId}
 use Rattle.gi_mir.specs.declared.block.Slot.{Slot}
 use Rattle.gi_mir.specs.declared.labels.Run.{Run}
 use Rattle.gi_mir.specs.declared.labels.Span.{Span}
-use Rattle.gi_mir.specs.declared.layout.Layout.{Layout}
 use Rattle.gi_mir.specs.declared.place.Place.{Place}
 use Rattle.gi_mir.specs.declared.room.Gap.{Gap}
-use Rattle.gi_mir.proofs.Located.{nth_id-within, id_in-within, id_in-once, HasDistinctIds-in}
+use Rattle.gi_mir.proofs.Located.{is_live-id_in, nth_id-place_of, nth_id-within}
+use Rattle.gi_mir.proofs.Places.{position_or_len-passes}
 
 -- ---- neighbours in a list
 
@@ -59,7 +57,7 @@ none_behind instrs k m id none lt h =
     cc (ap (option_map id_named) there.1, none)
 
 -- the next one, where there is one
-next_named : (instrs : List (ℕ × InstrData)) (k : ℕ) (id : InstrId) (found : Option InstrId) → found ≡ nth_instr_id instrs k → k < length instrs → nth_id instrs k ≡ Some (unwrap_or found id).0
+pub next_named : (instrs : List (ℕ × InstrData)) (k : ℕ) (id : InstrId) (found : Option InstrId) → found ≡ nth_instr_id instrs k → k < length instrs → nth_id instrs k ≡ Some (unwrap_or found id).0
 next_named instrs k id found e lt =
     let there = nth_id-there instrs k lt in
     let named : found ≡ Some (id_named there.0) = e ∙ ap (option_map id_named) there.1 in
@@ -248,3 +246,42 @@ FillsSpan-stop places blocks span run begins id order stands higher = record {
     by k x p lt h g (inr ne) =
         let rises = order.rising begins.is_run.block (begins.is_run.to + 1) k id.0 x spot.0 p stands h spot.1 g (omega arith) in
         omega (arith, higher spot.0 spot.1)
+
+-- ---- an instruction of a function
+
+pub id_in-spot : (blocks : List BlockData) (id : ℕ) → is_in blocks id ≡ true → id_in blocks (spot_of blocks id).block (spot_of blocks id).at ≡ Some id
+id_in-spot blocks id stands =
+    nth_id-place_of id (get_or blocks (spot_of blocks id).block empty_block).instrs
+    (position_or_len-passes (has_instr id) blocks empty_block stands)
+
+pub IsRun-of : (blocks : List BlockData) (run : Run) (id : InstrId) → is_in blocks id.0 ≡ true → run.first ≡ id → run.last ≡ id → run.count ≡ 1 → IsRun blocks run
+IsRun-of blocks run id stands first last count = record {
+  block = (spot_of blocks id.0).block;
+  from = (spot_of blocks id.0).at;
+  to = (spot_of blocks id.0).at;
+  first = rw first (id_in-spot blocks id.0 stands);
+  last = rw last (id_in-spot blocks id.0 stands);
+  size = rw count refl;
+}
+
+pub stands_placed : (places : List Place) (blocks : List BlockData) (id : ℕ) → HasOrder places blocks → is_in blocks id ≡ true → id < length places
+stands_placed places blocks id order stands =
+    placed places blocks (spot_of blocks id).block (spot_of blocks id).at id order (id_in-spot blocks id stands)
+
+pub label_below : (places : List Place) (blocks : List BlockData) (id label : ℕ) → HasOrder places blocks → is_in blocks id ≡ true → ((p : Place) → slice_get places id ≡ Some p → label ≡ p.at) → label < 2 ^ 62
+label_below places blocks id label order stands is =
+    let here = id_in-spot blocks id stands in
+    let spot = place_there places blocks (spot_of blocks id).block (spot_of blocks id).at id order here in
+    omega (arith, is spot.0 spot.1, (order.inside id (spot_of blocks id).block (spot_of blocks id).at spot.0 here spot.1).1)
+
+-- an instruction beside a gap
+pub gap_neighbour : (blocks : List BlockData) (gap : Gap) (id : InstrId) → HasGap blocks gap → option_or gap.next gap.previous ≡ Some id → is_in blocks id.0 ≡ true
+gap_neighbour blocks gap id has named = by gap.next refl named
+  where
+    by : (next : Option InstrId) → gap.next ≡ next → option_or next gap.previous ≡ Some id → is_in blocks id.0 ≡ true
+    by None e f =
+        let before = ahead (get_or blocks gap.block empty_block).instrs has.at id (sym has.before ∙ f) in
+        is_live-id_in id.0 blocks gap.block before.at before.stands
+    by (Some y) e f =
+        let stands = nth_id-named (get_or blocks gap.block empty_block).instrs has.at id (sym has.behind ∙ e ∙ f) in
+        is_live-id_in id.0 blocks gap.block has.at stands

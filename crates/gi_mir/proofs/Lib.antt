@@ -16,6 +16,7 @@ pub mod OrLemmas
 pub mod Places
 pub mod Replaced
 pub mod Replacing
+pub mod SpreadLemmas
 pub mod Tabled
 pub mod TypingLaws
 pub mod Words

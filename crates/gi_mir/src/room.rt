@@ -148,9 +148,7 @@ impl Layout {
         let mut id = run.first;
         for k in 0..run.count {
             self.set_label(id, span.low + (k + 1) * step);
-            if let Some(next) = self.next_of(id) {
-                id = next;
-            }
+            id = self.next_of(id).unwrap_or(id);
         }
     }
 

@@ -16,8 +16,8 @@ label_of-requires c =
     let stands = behind_run l.bodies.items l.slots.items (blocks_of l) c.loop-next.wide is c.in-Some.next c.requires.stored.linked c.in-Some.ensures in
     placed l.places.items (blocks_of l) is.block (is.to + 1) c.in-Some.next.0 c.requires.stored.order stands
 
-pub returns-then-label_of-end : goal.returns-then-label_of-end
-returns-then-label_of-end c =
+pub returns-then-label_of-span : goal.returns-then-label_of-span
+returns-then-label_of-span c =
     let l = c.args.self.now in
     let begins = c.loop-next.invariant in
     let stands = behind_run l.bodies.items l.slots.items (blocks_of l) c.loop-next.wide begins.is_run c.in-Some.next c.requires.stored.linked c.in-Some.ensures in
