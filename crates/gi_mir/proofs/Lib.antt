@@ -1,11 +1,15 @@
 pub mod ArenaLemmas
 pub mod DefinedKinds
+pub mod Edits
 pub mod FormedLemmas
 pub mod IdsLemmas
+pub mod InstrsLemmas
 pub mod Keys
 pub mod KindLemmas
 pub mod LabelLemmas
 pub mod LettersLemmas
+pub mod Linked
+pub mod Linking
 pub mod Lists
 pub mod Located
 pub mod Mentioned
@@ -13,6 +17,7 @@ pub mod NamesLemmas
 pub mod Noted
 pub mod NumberingLaws
 pub mod OrLemmas
+pub mod Ordered
 pub mod Places
 pub mod Replaced
 pub mod Replacing

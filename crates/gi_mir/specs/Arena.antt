@@ -1,24 +1,49 @@
 -- How the instructions of a function are held: in an arena by id, each with its neighbours.
-use Rattle.std.specs.Prelude.{◌≡◌, ℕ, zero, suc, ◌+◌, ◌^◌, ◌<◌, ◌≤◌, Bool, false, List, [], ◌∷◌, Option, Some, None, map, length, option_map, slice_get}
+use Rattle.std.specs.Prelude.{◌≡◌, ℕ, zero, suc, ◌+◌, ◌-◌, ◌^◌, ◌<◌, ◌≤◌, Bool, false, List, [], ◌∷◌, Option, Some, None, map, length, option_map, slice_get}
 use Rattle.std.specs.List.{list_any, position_or_len}
 use Rattle.std.specs.Option.{option_map_or}
 use Rattle.gi_mir.specs.Data.{InstrData, BlockData}
-use Rattle.gi_mir.specs.Edit.{HeadData, all_instrs, has_instr, head_of, place_of}
+use Rattle.gi_mir.specs.Edit.{HeadData, all_instrs, changed_at, has_instr, head_of, place_of}
 use Rattle.gi_mir.specs.Ids.{AreOwnIds}
-use Rattle.gi_mir.specs.Mentions.{listed, mentioning}
+use Rattle.gi_mir.specs.Mentions.{listed, mentioning, operands_of}
 use Rattle.gi_mir.specs.Places.{body_at, id_in, nth_id, place}
 use Rattle.gi_mir.specs.Tables.{IsFirstMention}
 use Rattle.gi_mir.specs.declared.block.Body.{Body}
 use Rattle.gi_mir.specs.declared.block.InstrId.{InstrId}
 use Rattle.gi_mir.specs.declared.block.Slot.{Slot}
-use Rattle.gi_mir.specs.declared.instrs.Instrs.{Instrs}
 use Rattle.gi_mir.specs.declared.layout.Layout.{Layout}
+use Rattle.gi_mir.specs.declared.operand.Operand.{Operand}
 use Rattle.gi_mir.specs.declared.place.Place.{Place}
 use Rattle.gi_mir.specs.declared.room.Gap.{Gap}
 
 -- the block with this head and no instruction
 abbrev pub body_with : HeadData → Body
 body_with h = record { head = h; first = None; last = None; count = 0 }
+
+-- a block's end, where a neighbour that is missing makes room for a new one
+abbrev pub end_with : Option InstrId → Option InstrId → Option InstrId → Option InstrId
+end_with None new old = new
+end_with (Some id) new old = old
+
+-- the block with one more instruction between two, and with one less
+abbrev pub body_gained : Option InstrId → Option InstrId → InstrId → Body → Body
+body_gained previous next id b = record b { first = end_with previous (Some id) b.first; last = end_with next (Some id) b.last; count = b.count + 1 }
+
+abbrev pub body_lost : Option InstrId → Option InstrId → Body → Body
+body_lost previous next b = record b { first = end_with previous next b.first; last = end_with next previous b.last; count = b.count - 1 }
+
+-- the arena with another neighbour of the instruction that is named
+abbrev pub next_set : Option InstrId → Option InstrId → List Slot → List Slot
+next_set None next slots = slots
+next_set (Some id) next slots = changed_at (λ s. record s { next = next }) id.0 slots
+
+abbrev pub previous_set : Option InstrId → Option InstrId → List Slot → List Slot
+previous_set None previous slots = slots
+previous_set (Some id) previous slots = changed_at (λ s. record s { previous = previous }) id.0 slots
+
+-- the operands of the instruction with an id
+abbrev pub operands_in : List Slot → ℕ → List Operand
+operands_in slots id = option_map_or (λ s. operands_of s.entry) (slice_get slots id) []
 
 -- the same place of the arena with its instruction changed
 abbrev pub slot_changed : (InstrData → InstrData) → Slot → Slot
@@ -95,6 +120,18 @@ pub record IsStored (l : Layout) : Type 0 where
   pub order : HasOrder l.places.items (blocks_of l)
   pub has_mentions : (key : ℕ) → listed l.mentions key ≡ mentioning key (all_instrs (blocks_of l))
 
+-- the gap before a place
+abbrev pub gap_at : List BlockData → Place → Gap
+gap_at blocks spot = record {
+  block = spot.block;
+  previous = id_ahead (body_at blocks spot.block).instrs spot.at;
+  next = nth_instr_id (body_at blocks spot.block).instrs spot.at;
+}
+
+-- the place of the arena for an instruction in a gap
+abbrev pub slot_between : Gap → ℕ × InstrData → Slot
+slot_between gap new = record { entry = Some new; previous = gap.previous; next = gap.next }
+
 -- a gap of a block, between the instructions before and at a place
 pub record HasGap (blocks : List BlockData) (gap : Gap) : Type 0 where
   pub within : gap.block < length blocks
@@ -114,7 +151,3 @@ pub record FitsGap (places : List Place) (gap : Gap) (label : ℕ) : Type 0 wher
 abbrev pub IsFirstOf : List BlockData → ℕ → Option InstrId → Type 0
 IsFirstOf blocks key None = mentioning key (all_instrs blocks) ≡ []
 IsFirstOf blocks key (Some id) = IsFirstMention blocks key id (spot_of blocks id.0)
-
--- the instructions that an iterator still gives
-abbrev pub left : Instrs → List (ℕ × InstrData)
-left it = chain it.slots.now it.count it.next

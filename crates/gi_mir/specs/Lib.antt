@@ -5,6 +5,7 @@ pub mod Edit
 pub mod Entries
 pub mod Formed
 pub mod Ids
+pub mod Instrs
 pub mod Labels
 pub mod Mentions
 pub mod Names

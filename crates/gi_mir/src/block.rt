@@ -1,7 +1,7 @@
 //! Blocks of numbered instructions.
 
-ghost use Rattle.std.specs.Prelude.{◌≡◌, ◌<◌, IsTrue, is_some, length, slice_get, option_map, IfSome, None, Some, true};
-ghost use Rattle.gi_mir.specs.Arena.{body_with, slot_changed};
+ghost use Rattle.std.specs.Prelude.{◌≡◌, ◌<◌, ◌-◌, ◌^◌, IsTrue, is_some, length, slice_get, option_map, IfSome, None, Some, true};
+ghost use Rattle.gi_mir.specs.Arena.{body_with, body_gained, body_lost, slot_changed};
 ghost use Rattle.gi_mir.specs.Formed.{is_formed};
 ghost use Rattle.gi_mir.specs.Edit.{with_operand, with_kind, HasDefAt};
 ghost use Rattle.gi_mir.specs.Mentions.{is_mentioned, operands_of};
@@ -79,6 +79,34 @@ impl Body {
             last: None,
             count: 0,
         }
+    }
+
+    /// Counts an instruction that came in between two, and makes it the first or the last where there is none.
+    pub(crate) fn gain(&mut self, previous: Option<InstrId>, next: Option<InstrId>, id: InstrId)
+        requires { self.old.count < 2 ^ 64 - 1 }
+        ensures { self.new ≡ body_gained previous next id self.old }
+    {
+        if previous.is_none() {
+            self.first = Some(id);
+        }
+        if next.is_none() {
+            self.last = Some(id);
+        }
+        self.count += 1;
+    }
+
+    /// Counts one less, which stood between two, and makes these the first and the last where it was.
+    pub(crate) fn lose(&mut self, previous: Option<InstrId>, next: Option<InstrId>)
+        requires { 0 < self.old.count }
+        ensures { self.new ≡ body_lost previous next self.old }
+    {
+        if previous.is_none() {
+            self.first = next;
+        }
+        if next.is_none() {
+            self.last = previous;
+        }
+        self.count -= 1;
     }
 }
 

@@ -5,7 +5,7 @@ ghost use Rattle.std.specs.Prelude.{◌≡◌, ◌↔◌, IsTrue, ◌-◌, ◌^�
 ghost use Rattle.gi_mir.specs.Edit.{block_at, head_of, ids_of, empty_function, register_above, above_registers, with_block, with_stack, with_keys, spot_in, with_instr, home_of, place_in_block, IsLive, StandsBefore, instr_of, id_at, id_after, id_before, without_instr, with_new_reg, CanSetOperand, with_operand_of, IsDefAt, with_changed, with_kind, definition_of, users_of, uses, all_instrs};
 ghost use Rattle.gi_mir.specs.Formed.{is_formed};
 ghost use Rattle.gi_mir.specs.Ids.{AreOwnIds};
-ghost use Rattle.gi_mir.specs.Arena.{left};
+ghost use Rattle.gi_mir.specs.Instrs.{left};
 ghost use Rattle.gi_mir.specs.Registers.{kind_in_operand, kind_in_operands, kind_of};
 ghost use Rattle.gi_mir.specs.Uses.{with_reg_replaced, IsPartlyReplaced};
 

@@ -1,13 +1,14 @@
 //! The instructions of a block, one after the other.
 
-ghost use Rattle.std.specs.Prelude.{◌≡◌};
+ghost use Rattle.std.specs.Prelude.{◌≡◌, take};
 ghost use Rattle.std.specs.Iterator.{YieldsFirstRef, item_count};
-ghost use Rattle.gi_mir.specs.Arena.{chain, left};
+ghost use Rattle.gi_mir.specs.Arena.{chain};
+ghost use Rattle.gi_mir.specs.Instrs.{left};
 
 use crate::block::{InstrId, Numbered, Slot};
 
 /// The instructions of a block that are still to come, in order.
-#[derive(Drop)]
+#[derive(Clone, Copy)]
 pub struct Instrs<'a> {
     slots: &'a [Slot],
     next: Option<InstrId>,
@@ -17,9 +18,20 @@ pub struct Instrs<'a> {
 impl<'a> Instrs<'a> {
     /// Those from an instruction on, at most so many.
     pub(crate) fn new(slots: &'a [Slot], next: Option<InstrId>, count: usize) -> Instrs<'a>
-        ensures { left result ≡ chain slots.now count next }
+        ensures { left result ≡ chain slots.entry.now count next }
     {
         Instrs { slots, next, count }
+    }
+
+    /// Those that come first, at most so many.
+    pub fn first(self, count: usize) -> Instrs<'a>
+        ensures { left result ≡ take count (left self.entry) }
+    {
+        Instrs {
+            slots: self.slots,
+            next: self.next,
+            count: count.min(self.count),
+        }
     }
 }
 
@@ -36,8 +48,9 @@ impl<'a> Iterator for Instrs<'a> {
         }
         let id = self.next?;
         let slot = self.slots.get(id.0)?;
+        let entry = slot.entry.as_ref()?;
         self.count -= 1;
         self.next = slot.next;
-        slot.entry.as_ref()
+        Some(entry)
     }
 }

@@ -12,11 +12,11 @@
 //! has there, that labels rise along it, and that the lists of mentions are those of its instructions.
 
 ghost use Rattle.std.specs.List.{list_any};
-ghost use Rattle.std.specs.Prelude.{◌≡◌, ◌↔◌, IsTrue, ◌≢◌, map, ◌<◌, ◌≤◌, ◌+◌, ◌-◌, Contains, true, ◌++◌, ◌∷◌, [], length, OnOk, OnErr, IfOk, IfSome, Some, option_map, slice_get};
-ghost use Rattle.gi_mir.specs.Arena.{blocks_of, spot_of, is_in, IsStored, IsFirstOf};
+ghost use Rattle.std.specs.Prelude.{◌≡◌, ◌↔◌, IsTrue, ◌≢◌, map, ◌<◌, ◌≤◌, ◌+◌, ◌-◌, Contains, true, false, ◌++◌, ◌∷◌, [], length, OnOk, OnErr, IfOk, IfSome, Some, option_map, slice_get};
+ghost use Rattle.gi_mir.specs.Arena.{blocks_of, spot_of, is_in, IsStored, IsFirstOf, gap_at, id_named, operands_in, slot_between, next_set, previous_set};
 ghost use Rattle.gi_mir.specs.Edit.{head_of, block_with, with_operand, with_kind, ids_of, id_at, HasDefAt, is_use_of, spot_in};
 ghost use Rattle.gi_mir.specs.Formed.{is_formed};
-ghost use Rattle.gi_mir.specs.Mentions.{listed, operands_at};
+ghost use Rattle.gi_mir.specs.Mentions.{HasSameLists, IsNoted, IsSorted, Lacks, listed, operands_at, precedes};
 ghost use Rattle.gi_mir.specs.Places.{body_at, place, comes_before, with_inserted, with_removed, with_changed_at};
 ghost use Rattle.gi_mir.specs.Uses.{instr_replaced, block_replaced, ArePartlyReplaced};
 
@@ -114,7 +114,12 @@ impl Layout {
     }
 
     /// The gap before the instruction that is named in this block, or at its end.
-    fn gap(&self, block: u32, before: Option<InstrId>) -> Gap {
+    fn gap(&self, block: u32, before: Option<InstrId>) -> Gap
+        requires stored { IsStored self.now }
+        requires within { block < length (blocks_of self.now) }
+        requires stands { IfSome before (λ id. Contains (ids_of (body_at (blocks_of self.now) block)) id.0) }
+        ensures { result ≡ gap_at (blocks_of self.now) (place block (spot_in (body_at (blocks_of self.now) block).instrs before)) }
+    {
         match before {
             Some(next) => Gap {
                 block,
@@ -130,7 +135,18 @@ impl Layout {
     }
 
     /// Writes down the place of an id, and what its instruction mentions.
-    fn note(&mut self, id: InstrId, spot: Place) -> Result<(), Memory> {
+    fn note(&mut self, id: InstrId, spot: Place) -> Result<(), Memory>
+        requires within { id.0 < length self.old.slots.items }
+        requires sorted { IsSorted (self.old.places.items ++ spot ∷ []) spot self.old.mentions }
+        requires fresh { Lacks self.old.mentions id }
+        requires own { precedes (self.old.places.items ++ spot ∷ []) spot id ≡ false }
+        ensures ok { OnOk result (self.new.places.items ≡ self.old.places.items ++ spot ∷ []) }
+        ensures noted { OnOk result (IsNoted self.old.mentions self.new.mentions (precedes (self.old.places.items ++ spot ∷ []) spot) (operands_in self.old.slots.items id.0) id) }
+        ensures err { OnErr result (self.new.places.items ≡ self.old.places.items) }
+        ensures same { OnErr result (HasSameLists self.old.mentions self.new.mentions) }
+        ensures bodies { self.new.bodies ≡ self.old.bodies }
+        ensures slots { self.new.slots ≡ self.old.slots }
+    {
         self.places.push(spot).map_err(|_| Memory)?;
         let operands = self.slots[id.0].operands();
         match self
@@ -146,7 +162,20 @@ impl Layout {
     }
 
     /// Takes an instruction into the arena, which stands in no block as yet.
-    fn enter(&mut self, instr: Instr, spot: Place, gap: Gap) -> Result<InstrId, Memory> {
+    fn enter(&mut self, instr: Instr, spot: Place, gap: Gap) -> Result<InstrId, Memory>
+        requires formed { is_formed instr ≡ true }
+        requires sorted { IsSorted (self.old.places.items ++ spot ∷ []) spot self.old.mentions }
+        requires fresh { Lacks self.old.mentions (id_named (length self.old.slots.items)) }
+        requires own { precedes (self.old.places.items ++ spot ∷ []) spot (id_named (length self.old.slots.items)) ≡ false }
+        ensures id { IfOk result (λ id. id.0 ≡ length self.old.slots.items) }
+        ensures ok { OnOk result (self.new.slots.items ≡ self.old.slots.items ++ slot_between gap (length self.old.slots.items, instr) ∷ []) }
+        ensures places { OnOk result (self.new.places.items ≡ self.old.places.items ++ spot ∷ []) }
+        ensures noted { OnOk result (IsNoted self.old.mentions self.new.mentions (precedes (self.old.places.items ++ spot ∷ []) spot) instr.operands (id_named (length self.old.slots.items))) }
+        ensures err { OnErr result (self.new.slots.items ≡ self.old.slots.items) }
+        ensures same_places { OnErr result (self.new.places.items ≡ self.old.places.items) }
+        ensures same_lists { OnErr result (HasSameLists self.old.mentions self.new.mentions) }
+        ensures bodies { self.new.bodies ≡ self.old.bodies }
+    {
         let id = InstrId(self.slots.len());
         let slot = Slot {
             entry: Some(Numbered { id, instr }),
@@ -163,19 +192,31 @@ impl Layout {
         }
     }
 
-    /// Makes an instruction the one behind another, or the first of a block.
-    fn set_next(&mut self, block: u32, previous: Option<InstrId>, next: Option<InstrId>) {
-        match previous {
-            Some(there) => self.slots[there.0].next = next,
-            None => self.bodies[block as usize].first = next,
+    /// Makes an instruction the one behind another.
+    fn set_next(&mut self, id: Option<InstrId>, next: Option<InstrId>)
+        requires { IfSome id (λ there. there.0 < length self.old.slots.items) }
+        ensures slots { self.new.slots.items ≡ next_set id next self.old.slots.items }
+        ensures bodies { self.new.bodies ≡ self.old.bodies }
+        ensures places { self.new.places ≡ self.old.places }
+        ensures mentions { self.new.mentions ≡ self.old.mentions }
+    {
+        if let Some(there) = id {
+            let slot = &mut self.slots[there.0];
+            slot.next = next;
         }
     }
 
-    /// Makes an instruction the one before another, or the last of a block.
-    fn set_previous(&mut self, block: u32, next: Option<InstrId>, previous: Option<InstrId>) {
-        match next {
-            Some(there) => self.slots[there.0].previous = previous,
-            None => self.bodies[block as usize].last = previous,
+    /// Makes an instruction the one before another.
+    fn set_previous(&mut self, id: Option<InstrId>, previous: Option<InstrId>)
+        requires { IfSome id (λ there. there.0 < length self.old.slots.items) }
+        ensures slots { self.new.slots.items ≡ previous_set id previous self.old.slots.items }
+        ensures bodies { self.new.bodies ≡ self.old.bodies }
+        ensures places { self.new.places ≡ self.old.places }
+        ensures mentions { self.new.mentions ≡ self.old.mentions }
+    {
+        if let Some(there) = id {
+            let slot = &mut self.slots[there.0];
+            slot.previous = previous;
         }
     }
 
@@ -200,9 +241,10 @@ impl Layout {
         let gap = self.gap(block, before);
         let at = self.free_label(gap)?;
         let id = self.enter(instr, Place { block, at }, gap)?;
-        self.set_next(block, gap.previous, Some(id));
-        self.set_previous(block, gap.next, Some(id));
-        self.bodies[block as usize].count += 1;
+        self.set_next(gap.previous, Some(id));
+        self.set_previous(gap.next, Some(id));
+        let body = &mut self.bodies[block as usize];
+        body.gain(gap.previous, gap.next, id);
         Ok(id)
     }
 
@@ -221,9 +263,10 @@ impl Layout {
         let previous = slot.previous;
         let next = slot.next;
         let instr = slot.take();
-        self.set_next(block, previous, next);
-        self.set_previous(block, next, previous);
-        self.bodies[block as usize].count -= 1;
+        self.set_next(previous, next);
+        self.set_previous(next, previous);
+        let body = &mut self.bodies[block as usize];
+        body.lose(previous, next);
         self.mentions.forget_all(instr.operands.as_slice(), id);
         instr
     }
