@@ -22,6 +22,6 @@ pub mod Places
 pub mod Replaced
 pub mod Replacing
 pub mod SpreadLemmas
-pub mod Tabled
+pub mod Stored
 pub mod TypingLaws
 pub mod Words

@@ -14,9 +14,12 @@ use Rattle.gi_mir.specs.declared.operand.Operand.{Operand}
 use Rattle.gi_mir.specs.declared.place.Place.{Place}
 use Rattle.gi_mir.specs.Data.{InstrData, BlockData}
 use Rattle.gi_mir.specs.Edit.{empty_block, all_instrs, changed_at, block_changed_at}
-use Rattle.gi_mir.specs.Places.{place, comes_before, id_in, HasPlaces}
+use Rattle.gi_mir.specs.Arena.{HasOrder}
+use Rattle.gi_mir.specs.Places.{comes_before, id_in}
 use Rattle.gi_mir.specs.Mentions.{is_mention, mentions, instr_id, mentioning, precedes, noted, without, listed, IsSorted, Lacks, IsNoted, IsForgotten}
+use Rattle.gi_mir.proofs.Linked.{order-place}
 use Rattle.gi_mir.proofs.Lists.{without-fresh}
+use Rattle.gi_mir.proofs.Ordered.{IsBetween}
 
 -- ---- what holds of each element
 
@@ -259,59 +262,75 @@ Lacks-as p id front back m split as_so = record {
 
 -- ---- a function is split at a place
 
-comes_first : (c k b at : ℕ) → (c < b) ⊎ ((c ≡ b) × (k < at)) → comes_before (place c k) (place b at) ≡ true
-comes_first c k b at h = grind (arith, nat_tests)
+comes_first : (p spot : Place) → (p.block < spot.block) ⊎ ((p.block ≡ spot.block) × (p.at < spot.at)) → comes_before p spot ≡ true
+comes_first p spot h = grind (arith, nat_tests)
 
-comes_later : (c k b at : ℕ) → (b < c) ⊎ ((c ≡ b) × (at ≤ k)) → comes_before (place c k) (place b at) ≡ false
-comes_later c k b at h = grind (arith, nat_tests)
+comes_later : (p spot : Place) → (spot.block < p.block) ⊎ ((p.block ≡ spot.block) × (spot.at ≤ p.at)) → comes_before p spot ≡ false
+comes_later p spot h = grind (arith, nat_tests)
 
 apart_test : (a b : ℕ) → a ≢ b → (a == b) ≡ false
 apart_test a b ne = ⊎_elim (λ (h : ((a == b) ≡ true) × (a ≡ b)). absurd (ne h.1)) (λ (h : ((a == b) ≡ false) × (a ≢ b)). h.0) (eqb_tells a b)
 
+-- whether a place that is written down comes before another
+precedes_by : (places : List Place) (spot : Place) (i : ℕ) (p : Place) (t : Bool) → slice_get places i ≡ Some p → comes_before p spot ≡ t → precedes places spot (record { 0 = i }) ≡ t
+precedes_by places spot i p t found tells = ap (λ (o : Option Place). option_map_or (λ q. comes_before q spot) o false) found ∙ tells
+
 -- around a place where an instruction may be put in
-pub IsSplit-new : (places : List Place) (blocks : List BlockData) (b at : ℕ) (id : InstrId) → HasPlaces places blocks → precedes places (place b at) id ≡ false → ((c k i : ℕ) → id_in blocks c k ≡ Some i → i ≢ id.0)
-    → IsSplit (precedes places (place b at)) id (ahead blocks b at) (behind blocks b at)
-IsSplit-new places blocks b at id has own fresh = record {
-  first = Each-ahead _ blocks b at (λ c k e w h. (
-    ap (λ (o : Option Place). option_map_or (λ p. comes_before p (place b at)) o false) (has.located e.0 c k (ap (option_map (λ p. p.0)) h)) ∙ comes_first c k b at w,
-    apart_test e.0 id.0 (fresh c k e.0 (ap (option_map (λ p. p.0)) h)),
-  ));
-  last = Each-behind _ blocks b at (λ c k e w h. (
-    ap (λ (o : Option Place). option_map_or (λ p. comes_before p (place b at)) o false) (has.located e.0 c k (ap (option_map (λ p. p.0)) h)) ∙ comes_later c k b at w,
-    apart_test e.0 id.0 (fresh c k e.0 (ap (option_map (λ p. p.0)) h)),
-  ));
+pub IsSplit-new : (places : List Place) (blocks : List BlockData) (spot : Place) (at : ℕ) (id : InstrId) → HasOrder places blocks → IsBetween places blocks spot at → precedes places spot id ≡ false → ((c k i : ℕ) → id_in blocks c k ≡ Some i → i ≢ id.0)
+    → IsSplit (precedes places spot) id (ahead blocks spot.block at) (behind blocks spot.block at)
+IsSplit-new places blocks spot at id order between own fresh = record {
+  first = Each-ahead _ blocks spot.block at (λ c k e w h. (early c k e.0 (ap (option_map (λ p. p.0)) h) w, apart_test e.0 id.0 (fresh c k e.0 (ap (option_map (λ p. p.0)) h))));
+  last = Each-behind _ blocks spot.block at (λ c k e w h. (late c k e.0 (ap (option_map (λ p. p.0)) h) w, apart_test e.0 id.0 (fresh c k e.0 (ap (option_map (λ p. p.0)) h))));
   own = own;
 }
+  where
+    early : (c k i : ℕ) → id_in blocks c k ≡ Some i → (c < spot.block) ⊎ ((c ≡ spot.block) × (k < at)) → precedes places spot (record { 0 = i }) ≡ true
+    early c k i h w = order-place _ places blocks c k i order h (λ p found home. precedes_by places spot i p true found (comes_first p spot (⊎_elim
+        (λ (lt : c < spot.block). inl (omega arith))
+        (λ (g : (c ≡ spot.block) × (k < at)). inr (home ∙ g.0, between.low k i p g.1 (sym (ap (λ (x : ℕ). id_in blocks x k) g.0) ∙ h) found)) w)))
+
+    late : (c k i : ℕ) → id_in blocks c k ≡ Some i → (spot.block < c) ⊎ ((c ≡ spot.block) × (at ≤ k)) → precedes places spot (record { 0 = i }) ≡ false
+    late c k i h w = order-place _ places blocks c k i order h (λ p found home. precedes_by places spot i p false found (comes_later p spot (⊎_elim
+        (λ (lt : spot.block < c). inl (omega arith))
+        (λ (g : (c ≡ spot.block) × (at ≤ k)). let above = between.high k i p g.1 (sym (ap (λ (x : ℕ). id_in blocks x k) g.0) ∙ h) found in inr (home ∙ g.0, omega arith)) w)))
 
 -- around an instruction
-pub IsSplit-at : (places : List Place) (blocks : List BlockData) (b at : ℕ) (id : InstrId) → HasPlaces places blocks → id_in blocks b at ≡ Some id.0
-    → IsSplit (precedes places (place b at)) id (ahead blocks b at) (behind blocks b (suc at))
-IsSplit-at places blocks b at id has stands = record {
-  first = Each-ahead _ blocks b at (λ c k e w h. (
-    ap (λ (o : Option Place). option_map_or (λ p. comes_before p (place b at)) o false) (has.located e.0 c k (ap (option_map (λ p. p.0)) h)) ∙ comes_first c k b at w,
-    apart_test e.0 id.0 (λ same. early c k w (other c k e same h)),
-  ));
-  last = Each-behind _ blocks b (suc at) (λ c k e w h. (
-    ap (λ (o : Option Place). option_map_or (λ p. comes_before p (place b at)) o false) (has.located e.0 c k (ap (option_map (λ p. p.0)) h)) ∙ comes_later c k b at (weaker c k w),
-    apart_test e.0 id.0 (λ same. late c k w (other c k e same h)),
-  ));
-  own = ap (λ (o : Option Place). option_map_or (λ p. comes_before p (place b at)) o false) (has.located id.0 b at stands) ∙ comes_later b at b at (inr (refl, omega arith));
+pub IsSplit-at : (places : List Place) (blocks : List BlockData) (b at : ℕ) (id : InstrId) (spot : Place) → HasOrder places blocks → id_in blocks b at ≡ Some id.0 → slice_get places id.0 ≡ Some spot
+    → IsSplit (precedes places spot) id (ahead blocks b at) (behind blocks b (suc at))
+IsSplit-at places blocks b at id spot order stands there = record {
+  first = Each-ahead _ blocks b at (λ c k e w h. early c k e.0 (ap (option_map (λ p. p.0)) h) w);
+  last = Each-behind _ blocks b (suc at) (λ c k e w h. late c k e.0 (ap (option_map (λ p. p.0)) h) w);
+  own = precedes_by places spot id.0 spot false there (comes_later spot spot (inr (refl, omega arith)));
 }
   where
-    other : (c k : ℕ) (e : ℕ × InstrData) → e.0 ≡ id.0 → slice_get (get_or blocks c empty_block).instrs k ≡ Some e → place c k ≡ place b at
-    other c k e same h =
-        let there = has.located e.0 c k (ap (option_map (λ p. p.0)) h) in
-        let here = has.located id.0 b at stands in
-        cc (ap (slice_get places) same)
+    home_here : spot.block ≡ b
+    home_here = cc (ap (option_map (λ (p : Place). p.block)) there, order.home id.0 b at stands)
 
-    early : (c k : ℕ) → (c < b) ⊎ ((c ≡ b) × (k < at)) → place c k ≡ place b at → ⊥
-    early c k w e = let x = ap (λ (p : Place). p.block) e in let y = ap (λ (p : Place). p.at) e in grind arith
+    same_place : (i : ℕ) (p : Place) → slice_get places i ≡ Some p → i ≡ id.0 → p ≡ spot
+    same_place i p found e = cc (ap (slice_get places) e)
 
-    late : (c k : ℕ) → (b < c) ⊎ ((c ≡ b) × (suc at ≤ k)) → place c k ≡ place b at → ⊥
-    late c k w e = let x = ap (λ (p : Place). p.block) e in let y = ap (λ (p : Place). p.at) e in grind arith
+    early : (c k i : ℕ) → id_in blocks c k ≡ Some i → (c < b) ⊎ ((c ≡ b) × (k < at)) → (precedes places spot (record { 0 = i }) ≡ true) × ((i == id.0) ≡ false)
+    early c k i h w = order-place _ places blocks c k i order h (λ p found home.
+        let comes : (p.block < spot.block) ⊎ ((p.block ≡ spot.block) × (p.at < spot.at)) = ⊎_elim
+            (λ (lt : c < b). inl (omega (arith, home_here)))
+            (λ (g : (c ≡ b) × (k < at)). inr (home ∙ g.0 ∙ sym home_here, order.rising b k at i id.0 p spot (sym (ap (λ (x : ℕ). id_in blocks x k) g.0) ∙ h) stands found there g.1)) w in
+        (precedes_by places spot i p true found (comes_first p spot comes), apart_test i id.0 (λ e. apart p comes (same_place i p found e))))
+      where
+        apart : (p : Place) → (p.block < spot.block) ⊎ ((p.block ≡ spot.block) × (p.at < spot.at)) → p ≡ spot → ⊥
+        apart p comes e = let x = ap (λ (q : Place). q.block) e in let y = ap (λ (q : Place). q.at) e in grind arith
 
-    weaker : (c k : ℕ) → (b < c) ⊎ ((c ≡ b) × (suc at ≤ k)) → (b < c) ⊎ ((c ≡ b) × (at ≤ k))
-    weaker c k w = grind arith
+    late : (c k i : ℕ) → id_in blocks c k ≡ Some i → (b < c) ⊎ ((c ≡ b) × (suc at ≤ k)) → (precedes places spot (record { 0 = i }) ≡ false) × ((i == id.0) ≡ false)
+    late c k i h w = order-place _ places blocks c k i order h (λ p found home.
+        let comes : (spot.block < p.block) ⊎ ((p.block ≡ spot.block) × (spot.at < p.at)) = ⊎_elim
+            (λ (lt : b < c). inl (omega (arith, home_here)))
+            (λ (g : (c ≡ b) × (suc at ≤ k)). inr (home ∙ g.0 ∙ sym home_here, order.rising b at k id.0 i spot p stands (sym (ap (λ (x : ℕ). id_in blocks x k) g.0) ∙ h) there found (omega arith))) w in
+        (precedes_by places spot i p false found (comes_later p spot (weaker p comes)), apart_test i id.0 (λ e. apart p comes (same_place i p found e))))
+      where
+        weaker : (p : Place) → (spot.block < p.block) ⊎ ((p.block ≡ spot.block) × (spot.at < p.at)) → (spot.block < p.block) ⊎ ((p.block ≡ spot.block) × (spot.at ≤ p.at))
+        weaker p comes = grind arith
+
+        apart : (p : Place) → (spot.block < p.block) ⊎ ((p.block ≡ spot.block) × (spot.at < p.at)) → p ≡ spot → ⊥
+        apart p comes e = let x = ap (λ (q : Place). q.block) e in let y = ap (λ (q : Place). q.at) e in grind arith
 
 -- ---- the instructions of a function after an edit
 

@@ -102,7 +102,7 @@ IsBetween-fits places blocks b at label bound order fits = record {
         let near : q.at < label = fits.above (id_named i) q (ap (λ (x : ℕ). (gap_at blocks (place b x)).previous) e ∙ ap (option_map id_named) hi) qi in
         ⊎_elim
         (λ (e2 : k ≡ m).
-        let same : id ≡ i = cc (ap (λ (x : ℕ). id_in blocks b x) e2) in
+        let same : id ≡ i = cc in
         let one : p ≡ q = cc (ap (slice_get places) same) in
         let at_one = ap (λ (x : Place). x.at) one in
         omega arith)
