@@ -1,5 +1,5 @@
 -- Labels rise along a block still, where those of a run are spread over the span that it fills.
-use Rattle.std.proofs.Common.{◌≡◌, ℕ, zero, suc, ◌+◌, ◌-◌, ◌*◌, ◌/◌, ◌^◌, ◌<◌, ◌≤◌, ◌≢◌, List, [], ◌∷◌, Option, Some, None, ◌⊎◌, inl, inr, length, get_or, set, refl, sym, ap, ◌∙◌, arith}
+use Rattle.std.proofs.Common.{◌≡◌, ℕ, zero, suc, ◌+◌, ◌-◌, ◌*◌, ◌/◌, ◌^◌, ◌<◌, ◌≤◌, ◌≢◌, List, [], ◌∷◌, Option, Some, None, ◌⊎◌, inl, inr, length, get_or, refl, sym, ap, ◌∙◌, arith}
 use Rattle.std.specs.Prelude.{slice_get, option_map, unwrap_or}
 use Rattle.std.proofs.Math.Nat.{mul-lt-mul_of_pos_right}
 use Rattle.std.proofs.lemmas.Bool.{cases_eq}
@@ -7,7 +7,7 @@ use Rattle.std.proofs.lemmas.Option.{slice_get_within}
 use Rattle.std.proofs.lemmas.Nat.{le-div, div-add-mod'}
 use Rattle.gi_mir.specs.Arena.{blocks_of, nth_instr_id, slot_at, HasOrder, IsLinked, IsStored}
 use Rattle.gi_mir.specs.Data.{BlockData}
-use Rattle.gi_mir.specs.Edit.{changed_at, empty_block}
+use Rattle.gi_mir.specs.Edit.{empty_block}
 use Rattle.gi_mir.specs.Ids.{AreOwnIds}
 use Rattle.gi_mir.specs.Labels.{with_label, FillsSpan, HasRoom}
 use Rattle.gi_mir.specs.Places.{id_in}
@@ -19,7 +19,7 @@ use Rattle.gi_mir.specs.declared.labels.Span.{Span}
 use Rattle.gi_mir.specs.declared.layout.Layout.{Layout}
 use Rattle.gi_mir.specs.declared.place.Place.{Place}
 use Rattle.gi_mir.proofs.FormedLemmas.{changed_at-suc}
-use Rattle.gi_mir.proofs.LabelLemmas.{next_named, place_there, placed}
+use Rattle.gi_mir.proofs.LabelLemmas.{next_named, placed}
 use Rattle.gi_mir.proofs.Located.{nth_id-within, id_in-within, id_in-once, HasDistinctIds-in}
 
 -- ---- one label more

@@ -1,6 +1,6 @@
 //! Room for one more label between two instructions.
 
-ghost use Rattle.std.specs.Prelude.{◌≡◌, ℕ, ◌+◌, ◌<◌, ◌≤◌, ◌^◌, IfOk, IfSome, Some, length, slice_get, true};
+ghost use Rattle.std.specs.Prelude.{◌≡◌, ◌<◌, IfOk, IfSome, Some, length, slice_get, true};
 ghost use Rattle.gi_mir.specs.Arena.{blocks_of, is_in, FitsGap, HasGap, IsStored};
 ghost use Rattle.gi_mir.specs.Labels.{label_or, with_label, BeginsAt, FillsSpan, HasRoom, IsRun};
 ghost use Rattle.gi_mir.specs.declared.block.Slot.{Slot};
@@ -72,10 +72,7 @@ impl Layout {
         requires gap { HasGap (blocks_of self.now) gap }
         ensures { IfSome result (λ label. FitsGap self.now.places.items gap label) }
     {
-        between(
-            self.label_or(gap.previous, 0),
-            self.label_or(gap.next, END),
-        )
+        between(self.label_or(gap.previous, 0), self.label_or(gap.next, END))
     }
 
     /// A run that takes in those before it whose labels are this one or a higher one.

@@ -1,7 +1,6 @@
 -- A span begins at a multiple of its size, and so does the end of all labels.
 use Rattle.std.proofs.Common.{◌≡◌, ◌+◌, ◌-◌, ◌*◌, ◌/◌, ◌%◌, ◌^◌, ◌<◌, ◌≤◌, ℕ, arith, sym, ap, subst, ◌∙◌}
 use Rattle.std.proofs.lemmas.Nat.{one_shl, pow-add, row_fits, shr_below}
-
 use Rattle.gi_mir.proofs.labels.Span.around.Goals as goal
 
 span_within : (label bits rest : ℕ) → rest + bits ≡ 62 → label < 2 ^ 62 → label / 2 ^ bits * 2 ^ bits + 2 ^ bits ≤ 2 ^ 62

@@ -1,5 +1,5 @@
 -- An instruction alone is a run.
-use Rattle.std.proofs.Common.{◌<◌, arith}
+use Rattle.std.proofs.Common.{arith}
 use Rattle.gi_mir.specs.Arena.{blocks_of}
 use Rattle.gi_mir.proofs.LabelLemmas.{label_below, stands_placed, IsRun-of}
 use Rattle.gi_mir.proofs.layout.Layout.sparse_span.Goals as goal

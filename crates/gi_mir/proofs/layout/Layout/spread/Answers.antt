@@ -1,5 +1,5 @@
 -- One instruction after the other has its new label.
-use Rattle.std.proofs.Common.{◌≡◌, ◌+◌, ◌<◌, refl, arith, ◌∙◌}
+use Rattle.std.proofs.Common.{◌≡◌, refl, arith, ◌∙◌}
 use Rattle.gi_mir.specs.Arena.{blocks_of}
 use Rattle.gi_mir.proofs.SpreadLemmas.{step_of, spread_next, IsSpreading-none, IsSpreading-within, IsSpreading-linked, IsSpreading-step, IsStored-spread}
 use Rattle.gi_mir.proofs.layout.Layout.spread.Goals as goal

@@ -1,5 +1,5 @@
 -- A run that ends one instruction further on, as long as there is one whose label is low enough.
-use Rattle.std.proofs.Common.{◌≡◌, ◌+◌, ◌<◌, ◌≤◌, ◌^◌, arith}
+use Rattle.std.proofs.Common.{◌+◌, arith}
 use Rattle.gi_mir.specs.Arena.{blocks_of}
 use Rattle.gi_mir.proofs.LabelLemmas.{last_within, placed, behind_run, run_count, BeginsAt-on, FillsSpan-last, FillsSpan-stop}
 use Rattle.gi_mir.proofs.layout.Layout.widened.Goals as goal

@@ -1,5 +1,5 @@
 -- A run that begins one instruction before, as long as there is one whose label is high enough.
-use Rattle.std.proofs.Common.{◌≡◌, ◌+◌, ◌<◌, ◌^◌, arith}
+use Rattle.std.proofs.Common.{arith}
 use Rattle.gi_mir.specs.Arena.{blocks_of}
 use Rattle.gi_mir.proofs.LabelLemmas.{first_within, placed, before_run, run_count, BeginsAt-first, BeginsAt-stop, IsRun-back}
 use Rattle.gi_mir.proofs.layout.Layout.widened_back.Goals as goal
