@@ -20,6 +20,20 @@ seen s = (s.entry, s.next)
 abbrev both : Option (ℕ × InstrData) → Option InstrId → Option (Option (ℕ × InstrData) × Option InstrId)
 both entry next = Some (entry, next)
 
+-- a chain is no longer than what it is cut at
+pub chain-length : (slots : List Slot) (n : ℕ) (at : Option InstrId) → length (chain slots n at) ≤ n
+chain-length slots zero at = omega arith
+chain-length slots (suc n) None = omega arith
+chain-length slots (suc n) (Some id) = by_slot (chain-length slots n) (slice_get slots id.0)
+  where
+    by_entry : (s : Slot) → length (chain slots n s.next) ≤ n → (o : Option (ℕ × InstrData)) → length (option_map_or (λ e. e ∷ chain slots n s.next) o []) ≤ suc n
+    by_entry s rest None = omega arith
+    by_entry s rest (Some e) = omega (arith, rest)
+
+    by_slot : ((at : Option InstrId) → length (chain slots n at) ≤ n) → (o : Option Slot) → length (option_map_or (λ s. option_map_or (λ e. e ∷ chain slots n s.next) s.entry []) o []) ≤ suc n
+    by_slot rest None = omega arith
+    by_slot rest (Some s) = by_entry s (rest s.next) s.entry
+
 -- where each instruction of a list, from a place on, is in the arena with the next one, the chain is the list
 chain-list : (slots : List Slot) (es : List (ℕ × InstrData)) (first : Option InstrId) → first ≡ nth_instr_id es 0
     → ((k id : ℕ) → nth_id es k ≡ Some id → option_map seen (slice_get slots id) ≡ Some (slice_get es k, nth_instr_id es (k + 1)))

@@ -1,6 +1,6 @@
 //! The instructions of a block, one after the other.
 
-ghost use Rattle.std.specs.Prelude.{◌≡◌, take};
+ghost use Rattle.std.specs.Prelude.{◌≡◌, length, take};
 ghost use Rattle.std.specs.Iterator.{YieldsFirstRef, item_count};
 ghost use Rattle.gi_mir.specs.Arena.{chain};
 ghost use Rattle.gi_mir.specs.Instrs.{left};
@@ -15,12 +15,32 @@ pub struct Instrs<'a> {
     count: usize,
 }
 
+/// How many instructions are met from one on, at most so many.
+fn chain_length(slots: &[Slot], next: Option<InstrId>, count: usize) -> usize
+    ensures { result ≡ length (chain slots.now count next) }
+{
+    let mut length = 0;
+    for numbered in (Instrs { slots, next, count }) {
+        let _ = numbered;
+        length += 1;
+    }
+    length
+}
+
 impl<'a> Instrs<'a> {
     /// Those from an instruction on, at most so many.
     pub(crate) fn new(slots: &'a [Slot], next: Option<InstrId>, count: usize) -> Instrs<'a>
         ensures { left result ≡ chain slots.entry.now count next }
     {
         Instrs { slots, next, count }
+    }
+
+    /// How many there are.
+    #[tactic(auto, unfolding(crate::specs::Instrs::left))]
+    pub fn len(self) -> usize
+        ensures { result ≡ length (left self.entry) }
+    {
+        chain_length(self.slots, self.next, self.count)
     }
 
     /// Those that come first, at most so many.
