@@ -6,6 +6,7 @@ pub mod IdsLemmas
 pub mod InstrsLemmas
 pub mod Keys
 pub mod KindLemmas
+pub mod LabelLemmas
 pub mod LettersLemmas
 pub mod Linked
 pub mod Linking
@@ -20,6 +21,7 @@ pub mod Ordered
 pub mod Places
 pub mod Replaced
 pub mod Replacing
+pub mod SpreadLemmas
 pub mod Stored
 pub mod TypingLaws
 pub mod Words

@@ -6,6 +6,7 @@ pub mod Entries
 pub mod Formed
 pub mod Ids
 pub mod Instrs
+pub mod Labels
 pub mod Mentions
 pub mod Names
 pub mod Numbering
