@@ -1,0 +1,45 @@
+-- How rewrites are written: types, operations of one result, numbers and definitions.
+use Rattle.std.specs.Prelude.{ℕ, List, [], ◌∷◌}
+use Rattle.gi_llt.specs.declared.Llt.{Llt}
+use Rattle.gi_llt.specs.declared.Llt.TheVariants.{Scalar}
+use Rattle.gi_mir.specs.Data.{no_flags}
+use Rattle.gi_mir.specs.declared.opcode.Opcode.{Opcode}
+use Rattle.gi_mir.specs.declared.opcode.Opcode.TheVariants as op
+use Rattle.gi_mir.specs.declared.operand.Flags.{Flags}
+use Rattle.gi_mir.specs.declared.operand.Operand.TheVariants as operand
+use Rattle.gi_rule_values.specs.Data.{DefinitionData, OperationData, RewriteData}
+use Rattle.gi_rule_values.specs.declared.rewrite.Slot.{Slot}
+use Rattle.gi_rule_values.specs.declared.rewrite.Slot.TheVariants.{At, Stands}
+
+-- a scalar of so many bits
+abbrev pub s : ℕ → Llt
+s bits = Scalar bits
+
+-- an operation with its flags, and one without flags
+abbrev pub flagged : Flags → Opcode → List Slot → List Llt → OperationData
+flagged flags op slots types = record { op = op; flags = flags; slots = slots; types = types }
+
+abbrev pub plain : Opcode → List Slot → Llt → OperationData
+plain op slots type = flagged no_flags op slots (type ∷ [])
+
+-- on the value at one place, and at two
+abbrev pub on_one : Opcode → (a : ℕ) → Llt → OperationData
+on_one op a type = plain op (At a ∷ []) type
+
+abbrev pub on_two : Opcode → (a b : ℕ) → Llt → OperationData
+on_two op a b type = plain op (At a ∷ At b ∷ []) type
+
+-- a constant of so many bits
+abbrev pub constant : Flags → (bits value : ℕ) → OperationData
+constant flags bits value = flagged flags op.GenericConstant (Stands (operand.Constant bits value) ∷ []) (s bits ∷ [])
+
+abbrev pub number : (bits value : ℕ) → OperationData
+number bits value = constant no_flags bits value
+
+-- what stands at a place is the result of an operation
+abbrev pub holds : (place : ℕ) → OperationData → DefinitionData
+holds place operation = record { operation = operation; results = place ∷ [] }
+
+-- a root of one result, which what was made last stands for or what stands at this place
+abbrev pub rewrite : (inputs : List Llt) → List DefinitionData → OperationData → List OperationData → (result : ℕ) → RewriteData
+rewrite inputs definitions root made result = record { inputs = inputs; definitions = definitions; root = root; made = made; results = result ∷ [] }

@@ -1,0 +1,4 @@
+pub mod Data
+pub mod Forms
+pub mod OnValues
+pub mod Running
