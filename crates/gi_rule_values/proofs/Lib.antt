@@ -1,1 +1,6 @@
 pub mod ByNumbers
+pub mod Combining
+pub mod Lowering
+pub mod Numbers
+pub mod Selecting
+pub mod Widening

@@ -17,17 +17,17 @@ s bits = Scalar bits
 
 -- an operation with its flags, and one without flags
 abbrev pub flagged : Flags → Opcode → List Slot → List Llt → OperationData
-flagged flags op slots types = record { op = op; flags = flags; slots = slots; types = types }
+flagged flags opcode slots types = record { op = opcode; flags = flags; slots = slots; types = types }
 
 abbrev pub plain : Opcode → List Slot → Llt → OperationData
-plain op slots type = flagged no_flags op slots (type ∷ [])
+plain opcode slots type = flagged no_flags opcode slots (type ∷ [])
 
 -- on the value at one place, and at two
 abbrev pub on_one : Opcode → (a : ℕ) → Llt → OperationData
-on_one op a type = plain op (At a ∷ []) type
+on_one opcode a type = plain opcode (At a ∷ []) type
 
 abbrev pub on_two : Opcode → (a b : ℕ) → Llt → OperationData
-on_two op a b type = plain op (At a ∷ At b ∷ []) type
+on_two opcode a b type = plain opcode (At a ∷ At b ∷ []) type
 
 -- a constant of so many bits
 abbrev pub constant : Flags → (bits value : ℕ) → OperationData

@@ -1,0 +1,41 @@
+-- Rows of the selector as rewrites, where x is the width of a machine register in bits.
+use Rattle.std.specs.Prelude.{ℕ, ℤ, pos, [], ◌∷◌}
+use Rattle.gi_llt.specs.declared.Llt.{Llt}
+use Rattle.gi_mir.specs.declared.opcode.Opcode.TheVariants as op
+use Rattle.gi_mir.specs.declared.opcode.Opcode.{Opcode}
+use Rattle.gi_mir.specs.declared.operand.Flags.{Flags}
+use Rattle.gi_mir.specs.declared.operand.Operand.TheVariants as operand
+use Rattle.gi_mir.specs.declared.operand.Pred.TheVariants.{Ule}
+use Rattle.gi_rule_values.specs.Data.{OperationData, RewriteData}
+use Rattle.gi_rule_values.specs.Forms.{flagged, holds, on_two, plain, rewrite, s}
+use Rattle.gi_rule_values.specs.declared.rewrite.Slot.TheVariants.{At, Stands}
+
+-- on a register and a number, and on `$x0` and a register
+abbrev pub with_number : Opcode → (a : ℕ) → ℤ → Llt → OperationData
+with_number opcode a i type = plain opcode (At a ∷ Stands (operand.Int i) ∷ []) type
+
+abbrev pub with_zero : Opcode → (a : ℕ) → Llt → OperationData
+with_zero opcode a type = plain opcode (Stands (operand.Phys 0) ∷ At a ∷ []) type
+
+-- at most: not above
+abbrev pub select_icmp_ule : Flags → (x : ℕ) → RewriteData
+select_icmp_ule flags x =
+    rewrite (s x ∷ s x ∷ []) [] (flagged flags op.GenericCompare (Stands (operand.Predicate Ule) ∷ At 0 ∷ At 1 ∷ []) (s x ∷ []))
+    (on_two op.SetLessUnsigned 1 0 (s x) ∷ with_number op.XorImmediate 2 (pos 1) (s x) ∷ []) 3
+
+-- a mask of all bits or none, by which the values differ from the second
+abbrev pub select_select : Flags → (x : ℕ) → Llt → RewriteData
+select_select flags x type =
+    rewrite (s x ∷ type ∷ type ∷ []) [] (flagged flags op.GenericSelect (At 0 ∷ At 1 ∷ At 2 ∷ []) (type ∷ []))
+    (with_zero op.SetLessUnsigned 0 type
+    ∷ with_zero op.Subtract 3 type
+    ∷ on_two op.Xor 1 2 type
+    ∷ on_two op.And 5 4 type
+    ∷ on_two op.Xor 2 6 type
+    ∷ []) 7
+
+-- the low 32 bits of a word: the others are shifted out
+abbrev pub select_zext : Flags → RewriteData
+select_zext flags =
+    rewrite (s 32 ∷ []) [] (flagged flags op.GenericZeroExtend (At 0 ∷ []) (s 64 ∷ []))
+    (with_number op.ShiftLeftLogicalImmediate 0 (pos 32) (s 64) ∷ with_number op.ShiftRightLogicalImmediate 1 (pos 32) (s 64) ∷ []) 2
