@@ -12,7 +12,7 @@ use Rattle.gi_meaning.specs.State.{IsWorld, Outside, World}
 use Rattle.gi_refine.specs.Values.{Acts, ActsFrom, AllHold, Correspond, Defines, Environment, Fact, ForAllOf, Holds, IsSound, Makes, MayMake, Operation, Rule, StandAt, Then, answered, appended, arguments_at}
 use Rattle.gi_rule_values.specs.Data.{DefinitionData, OperationData, RewriteData}
 use Rattle.gi_rule_values.specs.OnValues.{fact_of, kept_from, on_values, operation_on_values}
-use Rattle.gi_rule_values.specs.Running.{AreEqual, AreThere, ForAllRuns, ForArguments, ForGiven, ForRest, ForResults, ForWord, ForWords, IfDefined, IfEqual, IfGiven, IfKnown, IfMeant, IfThere, IsSoundByNumbers, IsSoundRewrite, IsUndefined, MayGive, OfGiven, OfMeaning, RootMay, value_at, values_at}
+use Rattle.gi_rule_values.specs.Running.{AreEqual, AreThere, ForAllRuns, ForArguments, ForGiven, ForRest, ForResults, ForWord, ForWords, IfDefined, IfEqual, IfGiven, IfKnown, IfMeant, IfThere, IsSoundByNumbers, IsSoundRewrite, IsUndefined, MayGive, OfGiven, OfMeaning, RootMay, found_at, values_at}
 
 -- ══ What is made ══
 
@@ -129,7 +129,7 @@ meaning_known x w _ widths arguments values goal outside all h = all
 -- what stands at the places
 stand_are : (env : Environment) (places widths values : List ℕ) → StandAt env places widths values → values_at env places ≡ Some values
 stand_are env [] [] [] h = refl
-stand_are env (p ∷ ps) (n ∷ ns) (v ∷ vs) h = ap₂ value_at h.0 (stand_are env ps ns vs h.1)
+stand_are env (p ∷ ps) (n ∷ ns) (v ∷ vs) h = ap₂ found_at h.0 (stand_are env ps ns vs h.1)
 stand_are env [] (n ∷ ns) values h = absurd h
 stand_are env [] [] (v ∷ vs) h = absurd h
 stand_are env (p ∷ ps) [] values h = absurd h

@@ -1,5 +1,5 @@
 -- Rules of the legaliser that make an operation of others, as rewrites.
-use Rattle.std.specs.Prelude.{ℕ, ◌-◌, ◌*◌, [], ◌∷◌}
+use Rattle.std.specs.Prelude.{ℕ, ◌-◌, ◌*◌, List, [], ◌∷◌}
 use Rattle.gi_llt.specs.declared.Llt.{Llt}
 use Rattle.gi_mir.specs.Data.{no_flags}
 use Rattle.gi_mir.specs.declared.opcode.Opcode.TheVariants as op
@@ -47,3 +47,42 @@ narrow_logic logic flags x =
     ∷ on_two logic 3 5 (s x)
     ∷ on_two op.GenericMergeValues 6 7 (s (2 * x))
     ∷ []) 8
+
+-- a constant directly before the operation that takes it
+abbrev pub with_constant : Opcode → (a next bits value : ℕ) → List OperationData
+with_constant opcode a next bits value = number bits value ∷ on_two opcode a next (s bits) ∷ []
+
+-- the ones of x bits, x being 32 or 64: of each two bits, of each four, of each byte, and then of all bytes. The masks are
+-- bytes of 55, 33, 0F and 01.
+abbrev pub lower_ctpop : Flags → (x pairs nibbles bytes units : ℕ) → RewriteData
+lower_ctpop flags x pairs nibbles bytes units =
+    rewrite (s x ∷ []) [] (flagged flags op.GenericPopulationCount (At 0 ∷ []) (s x ∷ []))
+    (number x 1 ∷ on_two op.GenericLogicalShiftRight 0 1 (s x)
+    ∷ number x pairs ∷ on_two op.GenericAnd 2 3 (s x)
+    ∷ on_two op.GenericSubtract 0 4 (s x)
+    ∷ number x nibbles ∷ on_two op.GenericAnd 5 6 (s x)
+    ∷ number x 2 ∷ on_two op.GenericLogicalShiftRight 5 8 (s x)
+    ∷ number x nibbles ∷ on_two op.GenericAnd 9 10 (s x)
+    ∷ on_two op.GenericAdd 7 11 (s x)
+    ∷ number x 4 ∷ on_two op.GenericLogicalShiftRight 12 13 (s x)
+    ∷ on_two op.GenericAdd 12 14 (s x)
+    ∷ number x bytes ∷ on_two op.GenericAnd 15 16 (s x)
+    ∷ number x units ∷ on_two op.GenericMultiply 17 18 (s x)
+    ∷ number x (x - 8) ∷ on_two op.GenericLogicalShiftRight 19 20 (s x)
+    ∷ []) 21
+
+-- groups of s bits change places with their neighbours, for s = 8 and 16, and 32 where x is 64
+abbrev pub lower_bswap_32 : Flags → RewriteData
+lower_bswap_32 flags =
+    rewrite (s 32 ∷ []) [] (flagged flags op.GenericByteSwap (At 0 ∷ []) (s 32 ∷ []))
+    (number 32 8 ∷ on_two op.GenericLogicalShiftRight 0 1 (s 32)
+    ∷ number 32 16711935 ∷ on_two op.GenericAnd 2 3 (s 32)
+    ∷ number 32 16711935 ∷ on_two op.GenericAnd 0 5 (s 32)
+    ∷ number 32 8 ∷ on_two op.GenericShiftLeft 6 7 (s 32)
+    ∷ on_two op.GenericOr 4 8 (s 32)
+    ∷ number 32 16 ∷ on_two op.GenericLogicalShiftRight 9 10 (s 32)
+    ∷ number 32 65535 ∷ on_two op.GenericAnd 11 12 (s 32)
+    ∷ number 32 65535 ∷ on_two op.GenericAnd 9 14 (s 32)
+    ∷ number 32 16 ∷ on_two op.GenericShiftLeft 15 16 (s 32)
+    ∷ on_two op.GenericOr 13 17 (s 32)
+    ∷ []) 18

@@ -1,18 +1,23 @@
 -- A rule on values as equations on numbers: its operations are run, its definitions and its root are what they give.
 -- An operation that gives exact results computes on; of one that leaves bits free, whatever it may give is looked at.
-use Rattle.std.specs.Prelude.{◌≡◌, ℕ, ◌+◌, ◌*◌, ◌%◌, ◌^◌, ◌<◌, cond, nat_lt, List, [], ◌∷◌, Option, Some, None, map, slice_get}
+use Rattle.std.specs.Prelude.{◌≡◌, ℕ, ◌+◌, ◌-◌, ◌*◌, ◌%◌, ◌^◌, ◌<◌, cond, nat_lt, List, [], ◌∷◌, Option, Some, None, map, slice_get}
 use Rattle.std.specs.Option.{option_and_then}
 use Rattle.gi_meaning.specs.Act.{all_fitted, copy}
 use Rattle.gi_meaning.specs.Argument.{Argument, Value}
 use Rattle.gi_meaning.specs.Given.{Given, Exactly, LowBits, Undefined}
 use Rattle.gi_meaning.specs.Meaning.{Meaning, Copying, Generic, Machine, meaning_of}
 use Rattle.gi_llt.specs.Llt.{width_of}
+use Rattle.gi_llt.specs.declared.Llt.{Llt}
 use Rattle.gi_meaning.specs.State.{IsWorld, World}
 use Rattle.gi_refine.specs.Values.{Environment, Fact, Defines, ForAllOf, Operation, appended, arguments_at}
 use Rattle.gi_rule_values.specs.Data.{RewriteData}
 use Rattle.gi_rule_values.specs.OnValues.{fact_of, operation_on_values}
 
 -- ══ Running ══
+
+-- a world in which nothing is
+abbrev no_world : World
+no_world = record { words = λ n. 0; memory = λ address. None; global = λ name. 0; stack = λ object. 0; trace = [] }
 
 -- what is given, with this number in the free bits
 abbrev pub filled : (fill : ℕ) → Given → Option (List ℕ)
@@ -40,6 +45,25 @@ step x fill o env =
 abbrev pub run : (x fill : ℕ) → List Operation → Environment → Option Environment
 run x fill [] env = Some env
 run x fill (o ∷ os) env = option_and_then (run x fill os) (step x fill o env)
+
+-- what stands at these places
+abbrev pub found_at : Option (ℕ × ℕ) → Option (List ℕ) → Option (List ℕ)
+found_at (Some entry) (Some values) = Some (entry.1 ∷ values)
+found_at _ _ = None
+
+abbrev pub values_at : Environment → List ℕ → Option (List ℕ)
+values_at env [] = Some []
+values_at env (place ∷ places) = found_at (slice_get env place) (values_at env places)
+
+abbrev pub with_values : List Llt → (x : ℕ) → (values : List ℕ) → Environment
+with_values (type ∷ types) x (value ∷ values) = (width_of x type, value) ∷ with_values types x values
+with_values _ x _ = []
+
+-- what a rewrite makes of these values of its inputs, with all free bits set; a world and names play no part
+abbrev pub ran : (x : ℕ) → RewriteData → (inputs : List ℕ) → Option (List ℕ)
+ran x rewrite inputs =
+    option_and_then (λ env. values_at env rewrite.results)
+    (run x (2 ^ 128 - 1) (map (operation_on_values x [] no_world) rewrite.made) (with_values rewrite.inputs x inputs))
 
 -- ══ Whatever is made ══
 
@@ -94,16 +118,6 @@ IfGiven Undefined values goal = Unit {0}
 IfGiven (Exactly results) values goal = IfEqual results values goal
 IfGiven (LowBits known width value) (v ∷ []) goal = v < 2 ^ width → v % 2 ^ known ≡ value % 2 ^ known → goal
 IfGiven (LowBits known width value) _ goal = Unit {0}
-
--- the values at these places; none where one isn't there
-abbrev pub value_at : Option (ℕ × ℕ) → Option (List ℕ) → Option (List ℕ)
-value_at None values = None
-value_at (Some entry) None = None
-value_at (Some entry) (Some values) = Some (entry.1 ∷ values)
-
-abbrev pub values_at : Environment → List ℕ → Option (List ℕ)
-values_at env [] = Some []
-values_at env (place ∷ places) = value_at (slice_get env place) (values_at env places)
 
 -- the goal, where the operation may give these values
 abbrev pub IfMeant : Meaning → (widths : List ℕ) → List Argument → (values : List ℕ) → Type 0 → Type 0
