@@ -1,3 +1,4 @@
+pub mod Artifacts
 pub mod ByNumbers
 pub mod Combining
 pub mod Lowering

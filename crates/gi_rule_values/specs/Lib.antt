@@ -1,3 +1,4 @@
+pub mod Artifacts
 pub mod Combining
 pub mod Data
 pub mod Forms

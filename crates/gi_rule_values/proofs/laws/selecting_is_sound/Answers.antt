@@ -2,4 +2,7 @@ use Rattle.gi_rule_values.proofs.Selecting.{select_icmp_ule_sound, select_zext_s
 use Rattle.gi_rule_values.proofs.laws.selecting_is_sound.Goals as goal
 
 pub returns : goal.returns
-returns c = record { select_icmp_ule = select_icmp_ule_sound; select_zext = select_zext_sound }
+returns c = record {
+  select_icmp_ule = select_icmp_ule_sound;
+  select_zext = select_zext_sound;
+}

@@ -1,0 +1,7 @@
+use Rattle.std.proofs.Common.{refl}
+use Rattle.gi_rule_values.proofs.laws.lowering_runs.Goals as goal
+
+pub returns : goal.returns
+returns c = record {
+  lower_uadde = refl;
+}

@@ -1,0 +1,8 @@
+use Rattle.std.proofs.Common.{refl}
+use Rattle.gi_rule_values.proofs.laws.selecting_runs.Goals as goal
+
+pub returns : goal.returns
+returns c = record {
+  select_icmp_ule = refl;
+  select_zext = refl;
+}
