@@ -3,6 +3,7 @@
 use Rattle.std.specs.Prelude.{ℕ, ◌-◌, ◌^◌, [], ◌∷◌}
 use Rattle.gi_llt.specs.Signs.{negated}
 use Rattle.gi_llt.specs.declared.Llt.{Llt}
+use Rattle.gi_llt.specs.declared.Llt.TheVariants.{Pointer}
 use Rattle.gi_mir.specs.declared.opcode.Opcode.{Opcode}
 use Rattle.gi_mir.specs.declared.opcode.Opcode.TheVariants as op
 use Rattle.gi_mir.specs.declared.operand.Flags.{Flags}
@@ -40,6 +41,12 @@ urem_to_mask flags more n k = by_another flags more op.GenericUnsignedRemainder 
 -- x with 0, or with 1: x
 abbrev pub right_identity : Opcode → Flags → Flags → (n c : ℕ) → RewriteData
 right_identity root flags more n c = by_constant flags more root n c (on_one op.Copy 0 (s n))
+
+-- G_PTR_ADD p, 0: p
+abbrev pub pointer_identity : Flags → Flags → (x : ℕ) → RewriteData
+pointer_identity flags more x =
+    rewrite (Pointer ∷ s x ∷ []) (holds 1 (constant more x 0) ∷ []) (flagged flags op.GenericPointerAdd (At 0 ∷ At 1 ∷ []) (Pointer ∷ []))
+    (on_one op.Copy 0 Pointer ∷ []) 2
 
 -- G_SUB x, x and G_XOR x, x: 0
 abbrev pub same_to_zero : Opcode → Flags → (n : ℕ) → RewriteData

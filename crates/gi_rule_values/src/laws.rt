@@ -3,10 +3,11 @@
 ghost use Rattle.gi_llt.specs.declared.Llt.{Llt};
 ghost use Rattle.gi_meaning.specs.State.{World};
 ghost use Rattle.gi_mir.specs.Data.{no_flags};
+ghost use Rattle.gi_mir.specs.declared.opcode.Opcode.TheVariants as op;
 ghost use Rattle.gi_mir.specs.declared.operand.Flags.{Flags};
 ghost use Rattle.gi_refine.specs.Values.{IsSound};
 ghost use Rattle.gi_rule_values.specs.Artifacts.{anyext_of_trunc_narrower, anyext_of_trunc_same, anyext_of_trunc_wider, freeze_to_copy, sext_of_trunc_narrower, sext_of_trunc_same, sext_of_trunc_wider, trunc_of_trunc, zext_of_trunc_narrower, zext_of_trunc_same, zext_of_trunc_wider};
-ghost use Rattle.gi_rule_values.specs.Combining.{mul_to_shl, sub_to_add};
+ghost use Rattle.gi_rule_values.specs.Combining.{mul_to_shl, pointer_identity, sub_to_add, udiv_to_lshr, urem_to_mask, right_identity, same_to_zero, cut_extension};
 ghost use Rattle.gi_rule_values.specs.Data.{RewriteData};
 ghost use Rattle.gi_rule_values.specs.Forms.{s};
 ghost use Rattle.gi_rule_values.specs.Lowering.{lower_uadde};
@@ -41,6 +42,24 @@ pub fn artifacts_are_sound()
 pub fn combining_is_sound()
     ensures mul_to_shl { (x : ℕ) (flags more : Flags) (n k : ℕ) → k < n → IsSoundRewrite x (mul_to_shl flags more n k) }
     ensures sub_to_add { (x : ℕ) (flags more : Flags) (n c : ℕ) → c < 2 ^ n → IsSoundRewrite x (sub_to_add flags more n c) }
+    ensures udiv_to_lshr { (x : ℕ) (flags more : Flags) (n k : ℕ) → k < n → IsSoundRewrite x (udiv_to_lshr flags more n k) }
+    ensures urem_to_mask { (x : ℕ) (flags more : Flags) (n k : ℕ) → IsSoundRewrite x (urem_to_mask flags more n k) }
+    ensures add_zero { (x : ℕ) (flags more : Flags) (n : ℕ) → IsSoundRewrite x (right_identity op.GenericAdd flags more n 0) }
+    ensures sub_zero { (x : ℕ) (flags more : Flags) (n : ℕ) → IsSoundRewrite x (right_identity op.GenericSubtract flags more n 0) }
+    ensures or_zero { (x : ℕ) (flags more : Flags) (n : ℕ) → IsSoundRewrite x (right_identity op.GenericOr flags more n 0) }
+    ensures xor_zero { (x : ℕ) (flags more : Flags) (n : ℕ) → IsSoundRewrite x (right_identity op.GenericXor flags more n 0) }
+    ensures shl_zero { (x : ℕ) (flags more : Flags) (n : ℕ) → 1 ≤ n → IsSoundRewrite x (right_identity op.GenericShiftLeft flags more n 0) }
+    ensures lshr_zero { (x : ℕ) (flags more : Flags) (n : ℕ) → 1 ≤ n → IsSoundRewrite x (right_identity op.GenericLogicalShiftRight flags more n 0) }
+    ensures ashr_zero { (x : ℕ) (flags more : Flags) (n : ℕ) → 1 ≤ n → IsSoundRewrite x (right_identity op.GenericArithmeticShiftRight flags more n 0) }
+    ensures mul_one { (x : ℕ) (flags more : Flags) (n : ℕ) → IsSoundRewrite x (right_identity op.GenericMultiply flags more n 1) }
+    ensures udiv_one { (x : ℕ) (flags more : Flags) (n : ℕ) → IsSoundRewrite x (right_identity op.GenericUnsignedDivide flags more n 1) }
+    ensures sdiv_one { (x : ℕ) (flags more : Flags) (n : ℕ) → 2 ≤ n → IsSoundRewrite x (right_identity op.GenericSignedDivide flags more n 1) }
+    ensures pointer_identity { (x : ℕ) (flags more : Flags) → IsSoundRewrite x (pointer_identity flags more x) }
+    ensures sub_same { (x : ℕ) (flags : Flags) (n : ℕ) → IsSoundRewrite x (same_to_zero op.GenericSubtract flags n) }
+    ensures xor_same { (x : ℕ) (flags : Flags) (n : ℕ) → IsSoundRewrite x (same_to_zero op.GenericXor flags n) }
+    ensures cut_anyext { (x : ℕ) (flags more : Flags) (n m : ℕ) → n < m → IsSoundRewrite x (cut_extension op.GenericAnyExtend flags more n m) }
+    ensures cut_zext { (x : ℕ) (flags more : Flags) (n m : ℕ) → n < m → IsSoundRewrite x (cut_extension op.GenericZeroExtend flags more n m) }
+    ensures cut_sext { (x : ℕ) (flags more : Flags) (n m : ℕ) → 1 ≤ n → n < m → IsSoundRewrite x (cut_extension op.GenericSignExtend flags more n m) }
 {}
 
 /// Rules of the legaliser that widen.
@@ -81,6 +100,24 @@ pub fn artifacts_runs()
 pub fn combining_runs()
     ensures mul_to_shl { ran 32 (mul_to_shl no_flags no_flags 8 3) (45 ∷ 8 ∷ []) ≡ Some (104 ∷ []) }
     ensures sub_to_add { ran 32 (sub_to_add no_flags no_flags 8 5) (3 ∷ 5 ∷ []) ≡ Some (254 ∷ []) }
+    ensures udiv_to_lshr { ran 32 (udiv_to_lshr no_flags no_flags 8 3) (205 ∷ 8 ∷ []) ≡ Some (25 ∷ []) }
+    ensures urem_to_mask { ran 32 (urem_to_mask no_flags no_flags 8 3) (205 ∷ 8 ∷ []) ≡ Some (5 ∷ []) }
+    ensures add_zero { ran 32 (right_identity op.GenericAdd no_flags no_flags 8 0) (200 ∷ 0 ∷ []) ≡ Some (200 ∷ []) }
+    ensures sub_zero { ran 32 (right_identity op.GenericSubtract no_flags no_flags 8 0) (200 ∷ 0 ∷ []) ≡ Some (200 ∷ []) }
+    ensures or_zero { ran 32 (right_identity op.GenericOr no_flags no_flags 8 0) (200 ∷ 0 ∷ []) ≡ Some (200 ∷ []) }
+    ensures xor_zero { ran 32 (right_identity op.GenericXor no_flags no_flags 8 0) (200 ∷ 0 ∷ []) ≡ Some (200 ∷ []) }
+    ensures shl_zero { ran 32 (right_identity op.GenericShiftLeft no_flags no_flags 8 0) (200 ∷ 0 ∷ []) ≡ Some (200 ∷ []) }
+    ensures lshr_zero { ran 32 (right_identity op.GenericLogicalShiftRight no_flags no_flags 8 0) (200 ∷ 0 ∷ []) ≡ Some (200 ∷ []) }
+    ensures ashr_zero { ran 32 (right_identity op.GenericArithmeticShiftRight no_flags no_flags 8 0) (200 ∷ 0 ∷ []) ≡ Some (200 ∷ []) }
+    ensures mul_one { ran 32 (right_identity op.GenericMultiply no_flags no_flags 8 1) (200 ∷ 1 ∷ []) ≡ Some (200 ∷ []) }
+    ensures udiv_one { ran 32 (right_identity op.GenericUnsignedDivide no_flags no_flags 8 1) (200 ∷ 1 ∷ []) ≡ Some (200 ∷ []) }
+    ensures sdiv_one { ran 32 (right_identity op.GenericSignedDivide no_flags no_flags 8 1) (200 ∷ 1 ∷ []) ≡ Some (200 ∷ []) }
+    ensures pointer_identity { ran 32 (pointer_identity no_flags no_flags 32) (4096 ∷ 0 ∷ []) ≡ Some (4096 ∷ []) }
+    ensures sub_same { ran 32 (same_to_zero op.GenericSubtract no_flags 8) (200 ∷ []) ≡ Some (0 ∷ []) }
+    ensures xor_same { ran 32 (same_to_zero op.GenericXor no_flags 8) (200 ∷ []) ≡ Some (0 ∷ []) }
+    ensures cut_anyext { ran 32 (cut_extension op.GenericAnyExtend no_flags no_flags 8 32) (200 ∷ 4000000200 ∷ []) ≡ Some (200 ∷ []) }
+    ensures cut_zext { ran 32 (cut_extension op.GenericZeroExtend no_flags no_flags 8 32) (200 ∷ 200 ∷ []) ≡ Some (200 ∷ []) }
+    ensures cut_sext { ran 32 (cut_extension op.GenericSignExtend no_flags no_flags 8 32) (200 ∷ 4294967240 ∷ []) ≡ Some (200 ∷ []) }
 {}
 
 /// What is made, run on numbers, gives what the root gives there: with all free bits set.
