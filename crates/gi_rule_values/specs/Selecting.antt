@@ -1,5 +1,6 @@
 -- Rows of the selector as rewrites, where x is the width of a machine register in bits.
 use Rattle.std.specs.Prelude.{ℕ, ℤ, pos, [], ◌∷◌}
+use Rattle.gi_llt.specs.Bits.{unsigned}
 use Rattle.gi_llt.specs.declared.Llt.{Llt}
 use Rattle.gi_mir.specs.declared.opcode.Opcode.TheVariants as op
 use Rattle.gi_mir.specs.declared.opcode.Opcode.{Opcode}
@@ -7,7 +8,7 @@ use Rattle.gi_mir.specs.declared.operand.Flags.{Flags}
 use Rattle.gi_mir.specs.declared.operand.Operand.TheVariants as operand
 use Rattle.gi_mir.specs.declared.operand.Pred.TheVariants.{Ule}
 use Rattle.gi_rule_values.specs.Data.{OperationData, RewriteData}
-use Rattle.gi_rule_values.specs.Forms.{flagged, holds, on_two, plain, rewrite, s}
+use Rattle.gi_rule_values.specs.Forms.{constant, flagged, holds, on_two, plain, rewrite, s}
 use Rattle.gi_rule_values.specs.declared.rewrite.Slot.TheVariants.{At, Stands}
 
 -- on a register and a number, and on `$x0` and a register
@@ -16,6 +17,12 @@ with_number opcode a i type = plain opcode (At a ∷ Stands (operand.Int i) ∷ 
 
 abbrev pub with_zero : Opcode → (a : ℕ) → Llt → OperationData
 with_zero opcode a type = plain opcode (Stands (operand.Phys 0) ∷ At a ∷ []) type
+
+-- a sum with a constant that is a number i of an immediate
+abbrev pub select_addi : Flags → Flags → (x : ℕ) → ℤ → RewriteData
+select_addi flags more x i =
+    rewrite (s x ∷ s x ∷ []) (holds 1 (constant more x (unsigned x i)) ∷ []) (flagged flags op.GenericAdd (At 0 ∷ At 1 ∷ []) (s x ∷ []))
+    (with_number op.AddImmediate 0 i (s x) ∷ []) 2
 
 -- at most: not above
 abbrev pub select_icmp_ule : Flags → (x : ℕ) → RewriteData

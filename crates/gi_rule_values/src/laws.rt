@@ -1,6 +1,9 @@
 //! What is promised of rewrites.
 
+ghost use Rattle.gi_llt.specs.Llt.{width_of};
+ghost use Rattle.gi_llt.specs.declared.Llt.TheVariants.{Pointer};
 ghost use Rattle.gi_llt.specs.declared.Llt.{Llt};
+ghost use Rattle.gi_meaning.specs.Machine.{is_immediate};
 ghost use Rattle.gi_meaning.specs.State.{World};
 ghost use Rattle.gi_mir.specs.Data.{no_flags};
 ghost use Rattle.gi_mir.specs.declared.opcode.Opcode.TheVariants as op;
@@ -10,12 +13,12 @@ ghost use Rattle.gi_rule_values.specs.Artifacts.{anyext_of_trunc_narrower, anyex
 ghost use Rattle.gi_rule_values.specs.Combining.{mul_to_shl, pointer_identity, sub_to_add, udiv_to_lshr, urem_to_mask, right_identity, same_to_zero, cut_extension};
 ghost use Rattle.gi_rule_values.specs.Data.{RewriteData};
 ghost use Rattle.gi_rule_values.specs.Forms.{s};
-ghost use Rattle.gi_rule_values.specs.Lowering.{lower_uadde};
+ghost use Rattle.gi_rule_values.specs.Lowering.{lower_abs, lower_uadde, narrow_logic};
 ghost use Rattle.gi_rule_values.specs.OnValues.{on_values};
 ghost use Rattle.gi_rule_values.specs.Running.{IsSoundByNumbers, IsSoundRewrite, ran};
-ghost use Rattle.gi_rule_values.specs.Selecting.{select_icmp_ule, select_zext};
+ghost use Rattle.gi_rule_values.specs.Selecting.{select_addi, select_icmp_ule, select_select, select_zext};
 ghost use Rattle.gi_rule_values.specs.Widening.{widen_add, widen_constant, widen_lshr, widen_sdiv};
-ghost use Rattle.std.specs.Prelude.{◌≡◌, [], ◌∷◌, ◌<◌, ◌^◌, ◌≤◌, List, Some, ℕ};
+ghost use Rattle.std.specs.Prelude.{◌≡◌, [], ◌∷◌, ◌<◌, ◌^◌, ◌≤◌, List, Some, ℕ, ℤ, true, negsuc};
 
 /// A rewrite that is sound by numbers is a sound rule on values, in the sense of gi_refine: whatever is made, the root may have
 /// made, or it is undefined.
@@ -73,12 +76,18 @@ pub fn widening_is_sound()
 /// Rules of the legaliser that make an operation of others.
 pub fn lowering_is_sound()
     ensures lower_uadde { (x : ℕ) (flags : Flags) (n : ℕ) → 1 ≤ n → IsSoundRewrite x (lower_uadde flags n) }
+    ensures lower_abs { (x : ℕ) (flags : Flags) (n : ℕ) → 1 ≤ n → IsSoundRewrite x (lower_abs flags n) }
+    ensures narrow_and { (x : ℕ) (flags : Flags) → IsSoundRewrite x (narrow_logic op.GenericAnd flags x) }
+    ensures narrow_or { (x : ℕ) (flags : Flags) → IsSoundRewrite x (narrow_logic op.GenericOr flags x) }
+    ensures narrow_xor { (x : ℕ) (flags : Flags) → IsSoundRewrite x (narrow_logic op.GenericXor flags x) }
 {}
 
 /// Rows of the selector.
 pub fn selecting_is_sound()
     ensures select_icmp_ule { (x : ℕ) (flags : Flags) → 0 < x → IsSoundRewrite x (select_icmp_ule flags x) }
     ensures select_zext { (flags : Flags) → IsSoundRewrite 64 (select_zext flags) }
+    ensures select_addi { (x : ℕ) (flags more : Flags) (i : ℤ) → is_immediate i ≡ true → IsSoundRewrite x (select_addi flags more x i) }
+    ensures select_select { (x : ℕ) (flags : Flags) (type : Llt) → width_of x type ≡ x → IsSoundRewrite x (select_select flags x type) }
 {}
 
 /// What is made, run on numbers, gives what the root gives there: with all free bits set.
@@ -131,10 +140,18 @@ pub fn widening_runs()
 /// What is made, run on numbers, gives what the root gives there: with all free bits set.
 pub fn lowering_runs()
     ensures lower_uadde { ran 32 (lower_uadde no_flags 8) (255 ∷ 0 ∷ 1 ∷ []) ≡ Some (0 ∷ 1 ∷ []) }
+    ensures lower_abs { ran 32 (lower_abs no_flags 8) (200 ∷ []) ≡ Some (56 ∷ []) }
+    ensures lower_abs_least { ran 32 (lower_abs no_flags 8) (128 ∷ []) ≡ Some (128 ∷ []) }
+    ensures narrow_and { ran 64 (narrow_logic op.GenericAnd no_flags 64) (319014718988379809496913694467282698410 ∷ 41206067869332392060018018868690682054 ∷ []) ≡ Some (21267647932558653966460912964485513346 ∷ []) }
+    ensures narrow_or { ran 64 (narrow_logic op.GenericOr no_flags 64) (319014718988379809496913694467282698410 ∷ 41206067869332392060018018868690682054 ∷ []) ≡ Some (338953138925153547590470800371487867118 ∷ []) }
+    ensures narrow_xor { ran 64 (narrow_logic op.GenericXor no_flags 64) (319014718988379809496913694467282698410 ∷ 41206067869332392060018018868690682054 ∷ []) ≡ Some (317685490992594893624009887407002353772 ∷ []) }
 {}
 
 /// What is made, run on numbers, gives what the root gives there: with all free bits set.
 pub fn selecting_runs()
     ensures select_icmp_ule { ran 32 (select_icmp_ule no_flags 32) (7 ∷ 7 ∷ []) ≡ Some (1 ∷ []) }
     ensures select_zext { ran 64 (select_zext no_flags) (4000000000 ∷ []) ≡ Some (4000000000 ∷ []) }
+    ensures select_addi { ran 32 (select_addi no_flags no_flags 32 (negsuc 4)) (3 ∷ 4294967291 ∷ []) ≡ Some (4294967294 ∷ []) }
+    ensures select_select { ran 32 (select_select no_flags 32 (s 32)) (7 ∷ 5 ∷ 9 ∷ []) ≡ Some (5 ∷ []) }
+    ensures select_select_other { ran 32 (select_select no_flags 32 Pointer) (0 ∷ 5 ∷ 9 ∷ []) ≡ Some (9 ∷ []) }
 {}

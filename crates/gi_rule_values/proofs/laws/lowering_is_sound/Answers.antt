@@ -1,5 +1,11 @@
-use Rattle.gi_rule_values.proofs.Lowering.{lower_uadde_sound}
+use Rattle.gi_rule_values.proofs.Lowering.{lower_abs_sound, lower_uadde_sound, narrow_and_sound, narrow_or_sound, narrow_xor_sound}
 use Rattle.gi_rule_values.proofs.laws.lowering_is_sound.Goals as goal
 
 pub returns : goal.returns
-returns c = record { lower_uadde = lower_uadde_sound }
+returns c = record {
+  lower_uadde = lower_uadde_sound;
+  lower_abs = lower_abs_sound;
+  narrow_and = narrow_and_sound;
+  narrow_or = narrow_or_sound;
+  narrow_xor = narrow_xor_sound;
+}

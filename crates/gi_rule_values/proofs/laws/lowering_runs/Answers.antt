@@ -4,4 +4,9 @@ use Rattle.gi_rule_values.proofs.laws.lowering_runs.Goals as goal
 pub returns : goal.returns
 returns c = record {
   lower_uadde = refl;
+  lower_abs = refl;
+  lower_abs_least = refl;
+  narrow_and = refl;
+  narrow_or = refl;
+  narrow_xor = refl;
 }

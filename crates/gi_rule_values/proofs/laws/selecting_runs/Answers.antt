@@ -5,4 +5,7 @@ pub returns : goal.returns
 returns c = record {
   select_icmp_ule = refl;
   select_zext = refl;
+  select_addi = refl;
+  select_select = refl;
+  select_select_other = refl;
 }
