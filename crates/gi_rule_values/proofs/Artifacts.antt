@@ -1,17 +1,15 @@
 -- Rules of the legaliser for casts and parts are sound.
-use Rattle.std.proofs.Common.{◌≡◌, ℕ, ◌+◌, ◌-◌, ◌*◌, ◌/◌, ◌%◌, ◌^◌, ◌<◌, ◌≤◌, ◌==◌, nat_lt, nat_le, Bool, true, false, cond, [], ◌∷◌, Some, refl, sym, ap, ◌∙◌, subst, arith}
+use Rattle.std.proofs.Common.{◌≡◌, ℕ, ◌-◌, ◌^◌, ◌<◌, ◌≤◌, nat_lt, Bool, true, false, cond, [], ◌∷◌, refl, sym, ap, ◌∙◌, subst, arith}
 use Rattle.std.specs.Prelude.{bit_and}
-use Rattle.std.proofs.Math.Nat.{mod-eq_of_lt}
-use Rattle.std.proofs.lemmas.Bool.Decides.{nat_tests}
 use Rattle.std.proofs.lemmas.Nat.{and_mask, mod_below, pow_pos}
-use Rattle.gi_llt.specs.Bits.{sign_extended, signed, unsigned, wrapped}
+use Rattle.gi_llt.specs.Bits.{sign_extended, wrapped}
 use Rattle.gi_llt.specs.declared.Llt.{Llt}
 use Rattle.gi_llt.specs.Llt.{width_of}
-use Rattle.gi_meaning.specs.Given.{Given, LowBits, in_low_bits, one}
+use Rattle.gi_meaning.specs.Given.{in_low_bits, one}
 use Rattle.gi_mir.specs.declared.operand.Flags.{Flags}
 use Rattle.gi_refine.proofs.Basics.{not_below_itself}
 use Rattle.gi_rule_values.specs.Artifacts.{anyext_of_trunc_narrower, anyext_of_trunc_same, anyext_of_trunc_wider, freeze_to_copy, sext_of_trunc_narrower, sext_of_trunc_same, sext_of_trunc_wider, trunc_of_trunc, zext_of_trunc_narrower, zext_of_trunc_same, zext_of_trunc_wider}
-use Rattle.gi_rule_values.specs.Running.{IsSoundByNumbers, IsSoundRewrite, MayGive}
+use Rattle.gi_rule_values.specs.Running.{IsSoundRewrite, MayGive}
 use Rattle.gi_rule_values.proofs.Numbers.{below_wider, low_of_low, same}
 
 pub freeze_to_copy_sound : (x : ℕ) (flags : Flags) (type : Llt) → IsSoundRewrite x (freeze_to_copy flags type)

@@ -4,15 +4,14 @@ use Rattle.gi_llt.specs.Llt.{width_of}
 use Rattle.gi_meaning.specs.Act.{Act, AllReadAs, Answer, Answers, AnswersWords, IsWordOf, ReadsAs, Results, all_fitted, copy}
 use Rattle.gi_meaning.specs.Act as an_answer
 use Rattle.gi_meaning.specs.Argument.{Argument, Value}
-use Rattle.gi_meaning.specs.Argument as an_argument
 use Rattle.gi_meaning.specs.Given.{Given, Exactly, LowBits, IsGiven}
 use Rattle.gi_meaning.specs.Given as a_given
 use Rattle.gi_meaning.specs.Meaning.{Meaning, Copying, Generic, Machine, meaning_of}
-use Rattle.gi_meaning.specs.State.{IsWorld, Outside, World}
-use Rattle.gi_refine.specs.Values.{Acts, ActsFrom, AllHold, Correspond, Defines, Environment, Fact, ForAllOf, Holds, IsSound, Makes, MayMake, Operation, Rule, StandAt, Then, answered, appended, arguments_at}
+use Rattle.gi_meaning.specs.State.{Outside, World}
+use Rattle.gi_refine.specs.Values.{Acts, ActsFrom, AllHold, Correspond, Defines, Environment, Fact, ForAllOf, IsSound, Makes, MayMake, Operation, Rule, StandAt, Then, answered, appended, arguments_at}
 use Rattle.gi_rule_values.specs.Data.{DefinitionData, OperationData, RewriteData}
 use Rattle.gi_rule_values.specs.OnValues.{fact_of, kept_from, on_values, operation_on_values}
-use Rattle.gi_rule_values.specs.Running.{AreEqual, AreThere, ForAllRuns, ForArguments, ForGiven, ForRest, ForResults, ForWord, ForWords, IfDefined, IfEqual, IfGiven, IfKnown, IfMeant, IfThere, IsSoundByNumbers, IsSoundRewrite, IsUndefined, MayGive, OfGiven, OfMeaning, RootMay, found_at, values_at}
+use Rattle.gi_rule_values.specs.Running.{AreEqual, AreThere, ForAllRuns, ForArguments, ForGiven, ForRest, ForResults, ForWord, ForWords, IfDefined, IfEqual, IfGiven, IfKnown, IfMeant, IfThere, IsSoundByNumbers, IsUndefined, MayGive, OfGiven, OfMeaning, RootMay, found_at, values_at}
 
 -- ══ What is made ══
 
@@ -218,9 +217,9 @@ is_added env new (p ∷ ps) (n ∷ ns) (v ∷ vs) h =
       old = rest.old;
       is = rest.is;
       same = λ k at. (
-      h.0 ∙ sym (subst (λ j. slice_get rest.old j ≡ Some (n, v)) (sym at) (appended_keeps (env ++ (n, v) ∷ []) ns vs rest.old (length env) (n, v) rest.is (get_here env (n, v)))),
-      rest.same (k + 1) (ap (λ j. j + 1) at ∙ sym (longer env (n, v))),
-    );
+        h.0 ∙ sym (subst (λ j. slice_get rest.old j ≡ Some (n, v)) (sym at) (appended_keeps (env ++ (n, v) ∷ []) ns vs rest.old (length env) (n, v) rest.is (get_here env (n, v)))),
+        rest.same (k + 1) (ap (λ j. j + 1) at ∙ sym (longer env (n, v))),
+      );
     }
 is_added env new [] (n ∷ ns) values h = absurd h
 is_added env new [] [] (v ∷ vs) h = absurd h

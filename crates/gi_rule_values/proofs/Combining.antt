@@ -1,6 +1,6 @@
 -- Rules of the combiners are sound.
-use Rattle.std.proofs.Common.{◌≡◌, ⊎_elim, ℕ, ℤ, zero, suc, pos, negsuc, ◌/◌, ◌≤◌, ◌==◌, ◌||◌, nat_lt, cond, lit<,  ◌+◌, ◌-◌, ◌*◌, ◌%◌, ◌^◌, ◌<◌, nat_le, Bool, true, false, [], ◌∷◌, Some, refl, sym, ap, ◌∙◌, subst, arith}
-use Rattle.std.specs.Prelude.{bit_and, bit_or, bit_xor, int_div, neg_ℤ}
+use Rattle.std.proofs.Common.{◌≡◌, ℕ, ℤ, suc, pos, negsuc, ◌/◌, ◌≤◌, ◌==◌, nat_lt, cond, lit<, ◌+◌, ◌-◌, ◌*◌, ◌^◌, ◌<◌, nat_le, Bool, true, false, [], ◌∷◌, refl, sym, ap, ◌∙◌, arith}
+use Rattle.std.specs.Prelude.{bit_or, bit_xor, int_div, neg_ℤ}
 use Rattle.std.specs.Int.Bits.{or_zero_r, xor_self, xor_zero_r}
 use Rattle.std.proofs.Math.Nat.{div-le_self, div-one, mod-eq_of_lt, mul-one, pow-le-pow_right}
 use Rattle.std.proofs.lemmas.Bool.Decides.{nat_tests}
@@ -8,14 +8,14 @@ use Rattle.std.proofs.lemmas.Nat.{and_mask, mod_below, pow_pos}
 use Rattle.gi_meaning.proofs.Numbers.{signed-low}
 use Rattle.gi_refine.proofs.Basics.{not_below_itself}
 use Rattle.gi_refine.proofs.ValueRules.{difference_self, sum_with_zero}
-use Rattle.gi_meaning.specs.Given.{Given, LowBits, in_low_bits, one}
+use Rattle.gi_meaning.specs.Given.{in_low_bits, one}
 use Rattle.gi_mir.specs.declared.opcode.Opcode.TheVariants as op
 use Rattle.gi_llt.specs.Signs.{negated}
 use Rattle.gi_llt.specs.Bits.{sign_extended, signed, unsigned, wrapped}
 use Rattle.gi_meaning.specs.Generic.{arithmetic_shift_of, difference_of}
 use Rattle.gi_mir.specs.declared.operand.Flags.{Flags}
 use Rattle.gi_rule_values.specs.Combining.{cut_extension, mul_to_shl, pointer_identity, right_identity, same_to_zero, sub_to_add, udiv_to_lshr, urem_to_mask}
-use Rattle.gi_rule_values.specs.Running.{IfGiven, IsSoundByNumbers, IsSoundRewrite}
+use Rattle.gi_rule_values.specs.Running.{IfGiven, IsSoundRewrite}
 use Rattle.gi_rule_values.proofs.Numbers.{bits_back, difference_is, same, unless, unless_undefined, unsigned_low}
 
 pub mul_to_shl_sound : (x : ℕ) (flags more : Flags) (n k : ℕ) → k < n → IsSoundRewrite x (mul_to_shl flags more n k)

@@ -1,20 +1,20 @@
 -- Rules of the legaliser that make an operation of others are sound.
-use Rattle.std.proofs.Common.{◌≡◌, ◌⊎◌, ⊎_elim, inl, inr, ℕ, ℤ, pos, negsuc, ◌/◌, ◌-ℤ◌, ap₂,  ◌+◌, ◌-◌, ◌*◌, ◌%◌, ◌^◌, ◌<◌, ◌≤◌, nat_lt, nat_le, Bool, true, false, cond, ◌||◌, [], ◌∷◌, Some, refl, sym, ap, ◌∙◌, subst, arith, lit<}
-use Rattle.std.specs.Prelude.{bit_and, bit_or, bit_xor, nat_abs, neg_ℤ}
-use Rattle.std.specs.Int.Bits.{and_lt, xor_add_and, xor_zero_r}
+use Rattle.std.proofs.Common.{◌≡◌, ◌⊎◌, ⊎_elim, inl, inr, ℕ, pos, negsuc, ◌/◌, ◌-ℤ◌, ap₂, ◌+◌, ◌-◌, ◌*◌, ◌%◌, ◌^◌, ◌<◌, ◌≤◌, nat_lt, nat_le, Bool, true, false, cond, ◌||◌, refl, sym, ap, ◌∙◌, subst, arith, lit<}
+use Rattle.std.specs.Prelude.{bit_and, bit_or, bit_xor, nat_abs}
+use Rattle.std.specs.Int.Bits.{xor_add_and, xor_zero_r}
 use Rattle.std.proofs.Math.Nat.{div-add-mod', div-eq_of_lt, mod-add-mod, mod-eq-sub-mod, mod-eq_of_lt, pow-le-pow_right}
 use Rattle.std.proofs.lemmas.Bool.{cases_lt}
 use Rattle.std.proofs.lemmas.Bool.Decides.{nat_tests}
 use Rattle.std.proofs.lemmas.Int.{ints}
-use Rattle.std.proofs.lemmas.Nat.{and_mask, and_mod, and_shr, div_below, div-mul-add, mod_below, or_lt, or_mod, or_shr, pow-add, pow_pos, xor_mod, xor_shr}
-use Rattle.gi_llt.specs.Bits.{sign_extended, signed, unsigned, wrapped}
+use Rattle.std.proofs.lemmas.Nat.{and_mask, and_mod, and_shr, div_below, div-mul-add, or_lt, or_mod, or_shr, pow-add, pow_pos, xor_mod, xor_shr}
+use Rattle.gi_llt.specs.Bits.{unsigned, wrapped}
 use Rattle.gi_meaning.proofs.Numbers.{nat_abs-neg, signed-high, signed-low}
 use Rattle.gi_meaning.specs.Generic.{arithmetic_shift_of, difference_of}
 use Rattle.gi_mir.specs.declared.opcode.Opcode.TheVariants as op
 use Rattle.gi_rule_values.proofs.Numbers.{extended_high, extended_low, halves, unless}
 use Rattle.gi_mir.specs.declared.operand.Flags.{Flags}
 use Rattle.gi_rule_values.specs.Lowering.{lower_abs, lower_uadde, narrow_logic}
-use Rattle.gi_rule_values.specs.Running.{IsSoundByNumbers, IsSoundRewrite}
+use Rattle.gi_rule_values.specs.Running.{IsSoundRewrite}
 
 -- ══ A sum with a carry ══
 
@@ -80,12 +80,18 @@ lower_abs_sound x flags n some = record {
       ⊎_elim
       (λ (low : a < 2 ^ (n - 1)).
       let still : pos a -ℤ pos 0 ≡ pos a = omega (arith, ints) in
-      rw within (refl, ap (λ z. unsigned n (pos (nat_abs z))) (signed-low n a low)
-      ∙ sym (ap (λ s. difference_of n (bit_xor a s) s) (sign_bits_low n a some low a_fits) ∙ ap (λ u. difference_of n u 0) (xor_zero_r a) ∙ ap (unsigned n) still)))
+      rw within (
+        refl,
+        ap (λ z. unsigned n (pos (nat_abs z))) (signed-low n a low)
+            ∙ sym (ap (λ s. difference_of n (bit_xor a s) s) (sign_bits_low n a some low a_fits) ∙ ap (λ u. difference_of n u 0) (xor_zero_r a) ∙ ap (unsigned n) still),
+      ))
       (λ (high : 2 ^ (n - 1) ≤ a).
       let positive : 0 < a = omega (arith, pow_pos (n - 1), high) in
-      rw within (refl, ap (λ z. unsigned n (pos (nat_abs z))) (signed-high n a high) ∙ ap (λ k. unsigned n (pos k)) (nat_abs-neg (2 ^ n - a)) ∙ mod-eq_of_lt (omega (arith, positive, a_fits))
-      ∙ sym (ap (λ s. difference_of n (bit_xor a s) s) (sign_bits_high n a some high a_fits) ∙ ap (λ u. difference_of n u (2 ^ n - 1)) (turned n a a_fits) ∙ turned_and_one n a positive a_fits)))
+      rw within (
+        refl,
+        ap (λ z. unsigned n (pos (nat_abs z))) (signed-high n a high) ∙ ap (λ k. unsigned n (pos k)) (nat_abs-neg (2 ^ n - a)) ∙ mod-eq_of_lt (omega (arith, positive, a_fits))
+            ∙ sym (ap (λ s. difference_of n (bit_xor a s) s) (sign_bits_high n a some high a_fits) ∙ ap (λ u. difference_of n u (2 ^ n - 1)) (turned n a a_fits) ∙ turned_and_one n a positive a_fits),
+      ))
       (cases_lt a (2 ^ (n - 1)));
 }
 

@@ -1,5 +1,5 @@
 -- Rows of the selector are sound.
-use Rattle.std.proofs.Common.{◌≡◌, ℕ, zero, suc, ℤ, pos, ◌-ℤ◌, ◌==◌,  ◌+◌, ◌-◌, ◌*◌, ◌/◌, ◌%◌, ◌^◌, ◌<◌, ◌≤◌, nat_lt, nat_le, Bool, true, false, not, cond, [], ◌∷◌, Some, refl, sym, ap, ◌∙◌, subst, arith, lit<}
+use Rattle.std.proofs.Common.{◌≡◌, ℕ, ℤ, ◌==◌, ◌+◌, ◌-◌, ◌*◌, ◌/◌, ◌%◌, ◌^◌, ◌<◌, ◌≤◌, nat_lt, nat_le, Bool, true, false, not, cond, [], ◌∷◌, refl, sym, ap, ◌∙◌, subst, arith, lit<}
 use Rattle.std.specs.Prelude.{bit_and, bit_xor}
 use Rattle.std.specs.Int.Bits.{and_zero_r, xor_assoc, xor_self, xor_zero_l, xor_zero_r}
 use Rattle.std.proofs.lemmas.Nat.{and_mask, pow_pos, xor_comm, xor_lt}
@@ -10,13 +10,13 @@ use Rattle.gi_meaning.specs.Machine.{is_immediate}
 use Rattle.std.proofs.Math.Nat.{mod-eq_of_lt, pow-le-pow_right}
 use Rattle.std.proofs.lemmas.Bool.Decides.{nat_tests}
 use Rattle.gi_llt.specs.declared.Llt.{Llt}
-use Rattle.gi_meaning.specs.Given.{Given, LowBits, one}
+use Rattle.gi_meaning.specs.Given.{LowBits, one}
 use Rattle.gi_mir.specs.declared.operand.Flags.{Flags}
 use Rattle.gi_refine.proofs.Basics.{not_below_itself, whole_fitted}
 use Rattle.gi_rule_values.specs.Selecting.{select_addi, select_icmp_ule, select_select, select_zext}
 use Rattle.gi_rule_values.proofs.Numbers.{unless}
 use Rattle.std.proofs.lemmas.Nat.{mod_below}
-use Rattle.gi_rule_values.specs.Running.{IsSoundByNumbers, IsSoundRewrite, MayGive}
+use Rattle.gi_rule_values.specs.Running.{IsSoundRewrite, MayGive}
 
 -- ══ Comparisons ══
 

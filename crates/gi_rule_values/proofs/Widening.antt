@@ -1,5 +1,5 @@
 -- Rules of the legaliser that widen are sound.
-use Rattle.std.proofs.Common.{◌≡◌, ⊎_elim, ℕ, ◌+◌, ◌-◌, ◌*◌, ◌/◌, ◌%◌, ◌^◌, ◌<◌, ◌≤◌, ◌==◌, nat_lt, nat_le, Bool, true, false, [], ◌∷◌, Some, refl, sym, ap, ◌∙◌, subst, arith}
+use Rattle.std.proofs.Common.{◌≡◌, ⊎_elim, ℕ, ◌+◌, ◌-◌, ◌/◌, ◌^◌, ◌<◌, ◌≤◌, ◌==◌, nat_lt, nat_le, true, false, refl, sym, ap, ◌∙◌, arith}
 use Rattle.std.specs.Prelude.{int_div}
 use Rattle.std.proofs.Math.Nat.{div-le_self, mod-eq_of_lt}
 use Rattle.std.proofs.lemmas.Bool.{cases_eq, cases_lt, eq-eqb}
@@ -7,19 +7,20 @@ use Rattle.std.proofs.lemmas.Bool.Decides.{nat_tests}
 use Rattle.std.proofs.lemmas.Nat.{mod_below, pow_pos}
 use Rattle.gi_llt.specs.Bits.{sign_extended, signed, unsigned, wrapped}
 use Rattle.gi_mir.specs.declared.operand.Flags.{Flags}
-use Rattle.gi_meaning.proofs.Numbers.{unsigned_below}
 use Rattle.gi_meaning.specs.Generic.{overflows_division}
 use Rattle.gi_rule_values.specs.Widening.{widen_add, widen_constant, widen_lshr, widen_sdiv}
-use Rattle.gi_rule_values.specs.Running.{IsSoundByNumbers, IsSoundRewrite}
+use Rattle.gi_rule_values.specs.Running.{IsSoundRewrite}
 use Rattle.gi_rule_values.proofs.Numbers.{bits_back, extended_high, extended_low, free_given, halves, low_of_low, low_sum, signed_extended, unless, unless_undefined, unsigned_low}
 
 pub widen_add_sound : (x : ℕ) (flags : Flags) (n w : ℕ) → n < w → IsSoundRewrite x (widen_add flags n w)
 widen_add_sound x flags n w wider = record {
   by = λ names world is_world a a_fits b b_fits.
       let less : nat_lt n w ≡ true = grind arith in
-      rw less (λ p p_fits p_low. rw less (λ q q_fits q_low.
-      (refl, unless _ n (wrapped n (a + b)) (wrapped n (wrapped w (p + q))) (mod_below (wrapped w (p + q)) (2 ^ n) (pow_pos n))
-      (sym (low_of_low n w (p + q) (omega (arith, wider)) ∙ low_sum n p q a b p_low q_low)))));
+      rw less (λ p p_fits p_low. rw less (λ q q_fits q_low. (
+        refl,
+        unless _ n (wrapped n (a + b)) (wrapped n (wrapped w (p + q))) (mod_below (wrapped w (p + q)) (2 ^ n) (pow_pos n))
+            (sym (low_of_low n w (p + q) (omega (arith, wider)) ∙ low_sum n p q a b p_low q_low)),
+      )));
 }
 
 pub widen_constant_sound : (x : ℕ) (flags : Flags) (n w value : ℕ) → 1 ≤ n → n < w → value < 2 ^ n → IsSoundRewrite x (widen_constant flags n w value)
@@ -85,7 +86,10 @@ widen_sdiv_sound x flags n w some wider = record {
       rw (first, second, none, inside, is) tt)
       (λ (other : b ≡ 0 → ⊥).
       let is : (b == 0) ≡ false = grind (arith, nat_tests, other) in
-      rw (first, second, none, inside, is) (refl, unless_undefined (overflows_division n a b) _ n (unsigned n (int_div (signed n a) (signed n b))) (wrapped n (unsigned w (int_div (signed n a) (signed n b))))
-      (mod_below (unsigned w (int_div (signed n a) (signed n b))) (2 ^ n) (pow_pos n)) (sym (unsigned_low w n (int_div (signed n a) (signed n b)) within))))
+      rw (first, second, none, inside, is) (
+        refl,
+        unless_undefined (overflows_division n a b) _ n (unsigned n (int_div (signed n a) (signed n b))) (wrapped n (unsigned w (int_div (signed n a) (signed n b))))
+            (mod_below (unsigned w (int_div (signed n a) (signed n b))) (2 ^ n) (pow_pos n)) (sym (unsigned_low w n (int_div (signed n a) (signed n b)) within)),
+      ))
       (cases_eq b 0);
 }

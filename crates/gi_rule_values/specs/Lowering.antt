@@ -22,12 +22,12 @@ lower_uadde flags n = record {
   definitions = [];
   root = flagged flags op.GenericUnsignedAddCarry (At 0 ∷ At 1 ∷ At 2 ∷ []) (s n ∷ s 1 ∷ []);
   made = on_two op.GenericAdd 0 1 (s n)
-  ∷ on_one op.GenericZeroExtend 2 (s n)
-  ∷ on_two op.GenericAdd 3 4 (s n)
-  ∷ compare Ult 3 0 (s 1)
-  ∷ compare Ult 5 3 (s 1)
-  ∷ on_two op.GenericOr 6 7 (s 1)
-  ∷ [];
+      ∷ on_one op.GenericZeroExtend 2 (s n)
+      ∷ on_two op.GenericAdd 3 4 (s n)
+      ∷ compare Ult 3 0 (s 1)
+      ∷ compare Ult 5 3 (s 1)
+      ∷ on_two op.GenericOr 6 7 (s 1)
+      ∷ [];
   results = 5 ∷ 8 ∷ [];
 }
 

@@ -3,7 +3,7 @@
 use Rattle.std.specs.Prelude.{ℕ, ◌+◌, pos, List, [], ◌∷◌, None, length, map}
 use Rattle.std.specs.Option.{option_map_or}
 use Rattle.gi_llt.specs.Llt.{width_of}
-use Rattle.gi_meaning.specs.Argument.{Argument, Number}
+use Rattle.gi_meaning.specs.Argument.{Number}
 use Rattle.gi_meaning.specs.State.{World}
 use Rattle.gi_refine.specs.Agreement.{setting}
 use Rattle.gi_refine.specs.Lifting.{fixed_argument}
