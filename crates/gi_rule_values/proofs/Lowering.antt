@@ -11,9 +11,10 @@ use Rattle.gi_llt.specs.Bits.{unsigned, wrapped}
 use Rattle.gi_meaning.proofs.Numbers.{nat_abs-neg, signed-high, signed-low}
 use Rattle.gi_meaning.specs.Generic.{arithmetic_shift_of, difference_of}
 use Rattle.gi_mir.specs.declared.opcode.Opcode.TheVariants as op
+use Rattle.gi_rule_values.proofs.Groups.{not_cut, swap_32_is, swapped}
 use Rattle.gi_rule_values.proofs.Numbers.{extended_high, extended_low, halves, unless}
 use Rattle.gi_mir.specs.declared.operand.Flags.{Flags}
-use Rattle.gi_rule_values.specs.Lowering.{lower_abs, lower_uadde, narrow_logic}
+use Rattle.gi_rule_values.specs.Lowering.{lower_abs, lower_bswap_32, lower_uadde, narrow_logic}
 use Rattle.gi_rule_values.specs.Running.{IsSoundRewrite}
 
 -- ══ A sum with a carry ══
@@ -130,4 +131,15 @@ narrow_or_sound x flags = record {
   by = λ names world is_world a a_fits b b_fits.
       let is = by_halves bit_or x a b or_mod or_shr a_fits b_fits in
       (refl, unless _ (2 * x) (bit_or a b) _ (subst (λ (k : ℕ). k < 2 ^ (2 * x)) is (or_lt (2 * x) a b a_fits b_fits)) is);
+}
+
+-- ══ Bytes turned around ══
+
+pub lower_bswap_32_sound : (x : ℕ) (flags : Flags) → IsSoundRewrite x (lower_bswap_32 flags)
+lower_bswap_32_sound x flags = record {
+  by = λ names world is_world a a_fits. (
+    refl,
+    sym (ap (λ v. bit_or (bit_and (v / 2 ^ 16) 65535) (wrapped 32 (bit_and v 65535 * 2 ^ 16))) (not_cut 32 8 16711935 a (lit< tt))
+        ∙ not_cut 32 16 65535 (swapped 8 16711935 a) (lit< tt) ∙ swap_32_is a a_fits),
+  );
 }

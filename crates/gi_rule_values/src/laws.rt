@@ -13,7 +13,7 @@ ghost use Rattle.gi_rule_values.specs.Artifacts.{anyext_of_trunc_narrower, anyex
 ghost use Rattle.gi_rule_values.specs.Combining.{mul_to_shl, pointer_identity, sub_to_add, udiv_to_lshr, urem_to_mask, right_identity, same_to_zero, cut_extension};
 ghost use Rattle.gi_rule_values.specs.Data.{RewriteData};
 ghost use Rattle.gi_rule_values.specs.Forms.{s};
-ghost use Rattle.gi_rule_values.specs.Lowering.{lower_abs, lower_uadde, narrow_logic};
+ghost use Rattle.gi_rule_values.specs.Lowering.{lower_abs, lower_bswap_32, lower_uadde, narrow_logic};
 ghost use Rattle.gi_rule_values.specs.OnValues.{on_values};
 ghost use Rattle.gi_rule_values.specs.Running.{IsSoundByNumbers, IsSoundRewrite, ran};
 ghost use Rattle.gi_rule_values.specs.Selecting.{select_addi, select_icmp_ule, select_select, select_zext};
@@ -80,6 +80,7 @@ pub fn lowering_is_sound()
     ensures narrow_and { (x : ℕ) (flags : Flags) → IsSoundRewrite x (narrow_logic op.GenericAnd flags x) }
     ensures narrow_or { (x : ℕ) (flags : Flags) → IsSoundRewrite x (narrow_logic op.GenericOr flags x) }
     ensures narrow_xor { (x : ℕ) (flags : Flags) → IsSoundRewrite x (narrow_logic op.GenericXor flags x) }
+    ensures lower_bswap_32 { (x : ℕ) (flags : Flags) → IsSoundRewrite x (lower_bswap_32 flags) }
 {}
 
 /// Rows of the selector.
@@ -145,6 +146,7 @@ pub fn lowering_runs()
     ensures narrow_and { ran 64 (narrow_logic op.GenericAnd no_flags 64) (319014718988379809496913694467282698410 ∷ 41206067869332392060018018868690682054 ∷ []) ≡ Some (21267647932558653966460912964485513346 ∷ []) }
     ensures narrow_or { ran 64 (narrow_logic op.GenericOr no_flags 64) (319014718988379809496913694467282698410 ∷ 41206067869332392060018018868690682054 ∷ []) ≡ Some (338953138925153547590470800371487867118 ∷ []) }
     ensures narrow_xor { ran 64 (narrow_logic op.GenericXor no_flags 64) (319014718988379809496913694467282698410 ∷ 41206067869332392060018018868690682054 ∷ []) ≡ Some (317685490992594893624009887407002353772 ∷ []) }
+    ensures lower_bswap_32 { ran 32 (lower_bswap_32 no_flags) (305419896 ∷ []) ≡ Some (2018915346 ∷ []) }
 {}
 
 /// What is made, run on numbers, gives what the root gives there: with all free bits set.

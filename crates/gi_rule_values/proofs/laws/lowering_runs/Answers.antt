@@ -9,4 +9,5 @@ returns c = record {
   narrow_and = refl;
   narrow_or = refl;
   narrow_xor = refl;
+  lower_bswap_32 = refl;
 }
