@@ -3,19 +3,19 @@ use Rattle.std.proofs.Common.{◌≡◌, ℕ, suc, ◌+◌, ◌-◌, ◌*◌, �
 use Rattle.std.specs.Prelude.{bit_and, bit_or}
 use Rattle.std.specs.Int.Bits.{or_shifted_r}
 use Rattle.std.proofs.Math.Nat.{div-add-mod', mod-eq_of_lt, mul-le-mul_right, pow-le-pow_right}
-use Rattle.std.proofs.lemmas.Nat.{and_block, and_le_r, and_mask, and_mod, div-mul-add, div_below, mod_below, mod-mul-add, mul-add-lt, or_block, pow-add, pow_pos}
+use Rattle.std.proofs.lemmas.Nat.{and_block, and_le_r, and_mask, and_mod, div-mul-add, div_below, mod_below, mod-mul-add, mul-add-lt, or_block, or_lt, pow-add, pow_pos}
 use Rattle.gi_llt.specs.Bits.{wrapped}
 use Rattle.gi_meaning.specs.Generic.{byte_swap_of}
 
 -- ══ A mask that repeats ══
 
 -- a mask sees no bit above its own
-and_below : (k v m : ℕ) → m < 2 ^ k → bit_and v m ≡ bit_and (v % 2 ^ k) m
+pub and_below : (k v m : ℕ) → m < 2 ^ k → bit_and v m ≡ bit_and (v % 2 ^ k) m
 and_below k v m fits =
     sym (mod-eq_of_lt (omega (arith, and_le_r v m, fits))) ∙ and_mod v m k ∙ ap (bit_and (v % 2 ^ k)) (mod-eq_of_lt fits)
 
 -- two parts, shifted to the right: the low bits of the upper one come into the lower one
-shift_parts : (q k h l : ℕ) → 0 < k → (h * (q * k) + l) / k ≡ h / k * (q * k) + (h % k * q + l / k)
+pub shift_parts : (q k h l : ℕ) → 0 < k → (h * (q * k) + l) / k ≡ h / k * (q * k) + (h % k * q + l / k)
 shift_parts q k h l some =
     ap (λ v. v / k) (gathered (l / k) (l % k) l (div-add-mod' l k)) ∙ div-mul-add (h * q + l / k) k (l % k) (mod_below l k some) ∙ apart (h / k) (h % k) (div-add-mod' h k)
   where
@@ -25,7 +25,7 @@ shift_parts q k h l some =
     apart : (d r : ℕ) → d * k + r ≡ h → h * q + l / k ≡ d * (q * k) + (r * q + l / k)
     apart d r is = subst (λ (u : ℕ). u * q + l / k ≡ d * (q * k) + (r * q + l / k)) is (omega arith)
 
-in_more : (t k m : ℕ) → m < 2 ^ t → m < 2 ^ (t + k)
+pub in_more : (t k m : ℕ) → m < 2 ^ t → m < 2 ^ (t + k)
 in_more t k m fits = let more : 2 ^ t ≤ 2 ^ (t + k) = pow-le-pow_right (lit< tt) (omega arith) in omega (arith, fits, more)
 
 -- a shift to the right and a mask, on two parts of t + k bits
@@ -91,3 +91,30 @@ swap_32_is v fits =
     ap (swapped 8 16711935) (sym parts) ∙ swapped_parts 8 8 255 h l (omega arith) (lit< tt)
     ∙ ap₂ (λ p q. p * 65536 + q) (swap_16_is h (omega (arith, fits))) (swap_16_is l (omega arith)) in
     ap (swapped 16 65535) first ∙ swapped_pair 16 ((h % 256 * 256 + h / 256) * 65536 + (l % 256 * 256 + l / 256)) (omega (arith, fits)) ∙ omega (arith, fits)
+
+-- what was swapped has its bits
+swapped_fits : (n k m v : ℕ) → m < 2 ^ n → m * 2 ^ k < 2 ^ n → swapped k m v < 2 ^ n
+swapped_fits n k m v fits shifted =
+    or_lt n (bit_and (v / 2 ^ k) m) (bit_and v m * 2 ^ k) (omega (arith, and_le_r (v / 2 ^ k) m, fits)) (omega (arith, mul-le-mul_right (2 ^ k) (and_le_r v m), shifted))
+
+reversed_halves : (v : ℕ) → byte_swap_of 32 (v % 4294967296) * 4294967296 + byte_swap_of 32 (v / 4294967296) ≡ byte_swap_of 64 v
+reversed_halves v = omega arith
+
+pub swap_64_is : (v : ℕ) → v < 2 ^ 64 → swapped 32 4294967295 (swapped 16 281470681808895 (swapped 8 71777214294589695 v)) ≡ byte_swap_of 64 v
+swap_64_is v fits =
+    let h : ℕ = v / 4294967296 in
+    let l : ℕ = v % 4294967296 in
+    let p : ℕ = swapped 8 16711935 h in
+    let q : ℕ = swapped 8 16711935 l in
+    let low : l < 2 ^ 32 = omega arith in
+    let high : h < 2 ^ 32 = omega (arith, fits) in
+    let first : swapped 8 71777214294589695 v ≡ p * 4294967296 + q = ap (swapped 8 71777214294589695) (sym (div-add-mod' v 4294967296)) ∙ swapped_parts 24 8 16711935 h l low (lit< tt) in
+    let second : swapped 16 281470681808895 (p * 4294967296 + q) ≡ byte_swap_of 32 h * 4294967296 + byte_swap_of 32 l =
+    swapped_parts 16 16 65535 p q (swapped_fits 32 8 16711935 l (lit< tt) (lit< tt)) (lit< tt) ∙ ap₂ (λ a b. a * 4294967296 + b) (swap_32_is h high) (swap_32_is l low) in
+    let first_fits : byte_swap_of 32 h < 2 ^ 32 = subst (λ (u : ℕ). u < 2 ^ 32) (swap_32_is h high) (swapped_fits 32 16 65535 p (lit< tt) (lit< tt)) in
+    let second_fits : byte_swap_of 32 l < 2 ^ 32 = subst (λ (u : ℕ). u < 2 ^ 32) (swap_32_is l low) (swapped_fits 32 16 65535 q (lit< tt) (lit< tt)) in
+    ap (λ u. swapped 32 4294967295 (swapped 16 281470681808895 u)) first ∙ ap (swapped 32 4294967295) second
+    ∙ turned (byte_swap_of 32 h) (byte_swap_of 32 l) first_fits second_fits ∙ reversed_halves v
+  where
+    turned : (a b : ℕ) → a < 4294967296 → b < 4294967296 → swapped 32 4294967295 (a * 4294967296 + b) ≡ b * 4294967296 + a
+    turned a b first second = swapped_pair 32 (a * 4294967296 + b) (omega (arith, first, second)) ∙ omega (arith, first, second)

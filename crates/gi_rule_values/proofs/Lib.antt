@@ -4,5 +4,6 @@ pub mod Combining
 pub mod Groups
 pub mod Lowering
 pub mod Numbers
+pub mod Ones
 pub mod Selecting
 pub mod Widening

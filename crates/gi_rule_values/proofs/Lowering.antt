@@ -11,10 +11,11 @@ use Rattle.gi_llt.specs.Bits.{unsigned, wrapped}
 use Rattle.gi_meaning.proofs.Numbers.{nat_abs-neg, signed-high, signed-low}
 use Rattle.gi_meaning.specs.Generic.{arithmetic_shift_of, difference_of}
 use Rattle.gi_mir.specs.declared.opcode.Opcode.TheVariants as op
-use Rattle.gi_rule_values.proofs.Groups.{not_cut, swap_32_is, swapped}
+use Rattle.gi_rule_values.proofs.Groups.{not_cut, swap_32_is, swap_64_is, swapped}
+use Rattle.gi_rule_values.proofs.Ones.{counted_32, plainly}
 use Rattle.gi_rule_values.proofs.Numbers.{extended_high, extended_low, halves, unless}
 use Rattle.gi_mir.specs.declared.operand.Flags.{Flags}
-use Rattle.gi_rule_values.specs.Lowering.{lower_abs, lower_bswap_32, lower_uadde, narrow_logic}
+use Rattle.gi_rule_values.specs.Lowering.{lower_abs, lower_bswap_32, lower_bswap_64, lower_ctpop_32, lower_uadde, narrow_logic}
 use Rattle.gi_rule_values.specs.Running.{IsSoundRewrite}
 
 -- ══ A sum with a carry ══
@@ -142,4 +143,26 @@ lower_bswap_32_sound x flags = record {
     sym (ap (λ v. bit_or (bit_and (v / 2 ^ 16) 65535) (wrapped 32 (bit_and v 65535 * 2 ^ 16))) (not_cut 32 8 16711935 a (lit< tt))
         ∙ not_cut 32 16 65535 (swapped 8 16711935 a) (lit< tt) ∙ swap_32_is a a_fits),
   );
+}
+
+pub lower_bswap_64_sound : (x : ℕ) (flags : Flags) → IsSoundRewrite x (lower_bswap_64 flags)
+lower_bswap_64_sound x flags = record {
+  by = λ names world is_world a a_fits.
+      let first : ℕ = swapped 8 71777214294589695 a in (
+        refl,
+        sym (ap (λ v. turned_64 32 4294967295 (turned_64 16 281470681808895 v)) (not_cut 64 8 71777214294589695 a (lit< tt))
+            ∙ ap (turned_64 32 4294967295) (not_cut 64 16 281470681808895 first (lit< tt))
+            ∙ not_cut 64 32 4294967295 (swapped 16 281470681808895 first) (lit< tt) ∙ swap_64_is a a_fits),
+      );
+}
+  where
+    turned_64 : (k m v : ℕ) → ℕ
+    turned_64 k m v = bit_or (bit_and (v / 2 ^ k) m) (wrapped 64 (bit_and v m * 2 ^ k))
+
+-- ══ Ones ══
+
+pub lower_ctpop_32_sound : (x : ℕ) (flags : Flags) → IsSoundRewrite x (lower_ctpop_32 flags)
+lower_ctpop_32_sound x flags = record {
+  by = λ names world is_world a a_fits.
+      (refl, sym (ap (λ v. wrapped 32 (v * 16843009) / 2 ^ 24) (plainly 32 1431655765 858993459 252645135 a a_fits (lit< tt)) ∙ counted_32 a a_fits));
 }

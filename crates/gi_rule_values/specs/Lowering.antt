@@ -1,5 +1,5 @@
 -- Rules of the legaliser that make an operation of others, as rewrites.
-use Rattle.std.specs.Prelude.{ℕ, ◌-◌, ◌*◌, List, [], ◌∷◌}
+use Rattle.std.specs.Prelude.{ℕ, ◌+◌, ◌-◌, ◌*◌, ◌++◌, List, [], ◌∷◌}
 use Rattle.gi_llt.specs.declared.Llt.{Llt}
 use Rattle.gi_mir.specs.Data.{no_flags}
 use Rattle.gi_mir.specs.declared.opcode.Opcode.TheVariants as op
@@ -71,18 +71,28 @@ lower_ctpop flags x pairs nibbles bytes units =
     ∷ number x (x - 8) ∷ on_two op.GenericLogicalShiftRight 19 20 (s x)
     ∷ []) 21
 
--- groups of s bits change places with their neighbours, for s = 8 and 16, and 32 where x is 64
+abbrev pub lower_ctpop_32 : Flags → RewriteData
+lower_ctpop_32 flags = lower_ctpop flags 32 1431655765 858993459 252645135 16843009
+
+abbrev pub lower_ctpop_64 : Flags → RewriteData
+lower_ctpop_64 flags = lower_ctpop flags 64 6148914691236517205 3689348814741910323 1085102592571150095 72340172838076673
+
+-- groups of so many bits change places with their neighbours: what stands at a, where next is the first place that is free
+abbrev pub groups_swapped : (x a next size mask : ℕ) → List OperationData
+groups_swapped x a next size mask =
+    number x size ∷ on_two op.GenericLogicalShiftRight a next (s x)
+    ∷ number x mask ∷ on_two op.GenericAnd (next + 1) (next + 2) (s x)
+    ∷ number x mask ∷ on_two op.GenericAnd a (next + 4) (s x)
+    ∷ number x size ∷ on_two op.GenericShiftLeft (next + 5) (next + 6) (s x)
+    ∷ on_two op.GenericOr (next + 3) (next + 7) (s x)
+    ∷ []
+
 abbrev pub lower_bswap_32 : Flags → RewriteData
 lower_bswap_32 flags =
     rewrite (s 32 ∷ []) [] (flagged flags op.GenericByteSwap (At 0 ∷ []) (s 32 ∷ []))
-    (number 32 8 ∷ on_two op.GenericLogicalShiftRight 0 1 (s 32)
-    ∷ number 32 16711935 ∷ on_two op.GenericAnd 2 3 (s 32)
-    ∷ number 32 16711935 ∷ on_two op.GenericAnd 0 5 (s 32)
-    ∷ number 32 8 ∷ on_two op.GenericShiftLeft 6 7 (s 32)
-    ∷ on_two op.GenericOr 4 8 (s 32)
-    ∷ number 32 16 ∷ on_two op.GenericLogicalShiftRight 9 10 (s 32)
-    ∷ number 32 65535 ∷ on_two op.GenericAnd 11 12 (s 32)
-    ∷ number 32 65535 ∷ on_two op.GenericAnd 9 14 (s 32)
-    ∷ number 32 16 ∷ on_two op.GenericShiftLeft 15 16 (s 32)
-    ∷ on_two op.GenericOr 13 17 (s 32)
-    ∷ []) 18
+    (groups_swapped 32 0 1 8 16711935 ++ groups_swapped 32 9 10 16 65535) 18
+
+abbrev pub lower_bswap_64 : Flags → RewriteData
+lower_bswap_64 flags =
+    rewrite (s 64 ∷ []) [] (flagged flags op.GenericByteSwap (At 0 ∷ []) (s 64 ∷ []))
+    (groups_swapped 64 0 1 8 71777214294589695 ++ groups_swapped 64 9 10 16 281470681808895 ++ groups_swapped 64 18 19 32 4294967295) 27

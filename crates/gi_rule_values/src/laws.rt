@@ -13,7 +13,7 @@ ghost use Rattle.gi_rule_values.specs.Artifacts.{anyext_of_trunc_narrower, anyex
 ghost use Rattle.gi_rule_values.specs.Combining.{mul_to_shl, pointer_identity, sub_to_add, udiv_to_lshr, urem_to_mask, right_identity, same_to_zero, cut_extension};
 ghost use Rattle.gi_rule_values.specs.Data.{RewriteData};
 ghost use Rattle.gi_rule_values.specs.Forms.{s};
-ghost use Rattle.gi_rule_values.specs.Lowering.{lower_abs, lower_bswap_32, lower_uadde, narrow_logic};
+ghost use Rattle.gi_rule_values.specs.Lowering.{lower_abs, lower_bswap_32, lower_bswap_64, lower_ctpop_32, lower_uadde, narrow_logic};
 ghost use Rattle.gi_rule_values.specs.OnValues.{on_values};
 ghost use Rattle.gi_rule_values.specs.Running.{IsSoundByNumbers, IsSoundRewrite, ran};
 ghost use Rattle.gi_rule_values.specs.Selecting.{select_addi, select_icmp_ule, select_select, select_zext};
@@ -81,6 +81,8 @@ pub fn lowering_is_sound()
     ensures narrow_or { (x : ℕ) (flags : Flags) → IsSoundRewrite x (narrow_logic op.GenericOr flags x) }
     ensures narrow_xor { (x : ℕ) (flags : Flags) → IsSoundRewrite x (narrow_logic op.GenericXor flags x) }
     ensures lower_bswap_32 { (x : ℕ) (flags : Flags) → IsSoundRewrite x (lower_bswap_32 flags) }
+    ensures lower_bswap_64 { (x : ℕ) (flags : Flags) → IsSoundRewrite x (lower_bswap_64 flags) }
+    ensures lower_ctpop_32 { (x : ℕ) (flags : Flags) → IsSoundRewrite x (lower_ctpop_32 flags) }
 {}
 
 /// Rows of the selector.
@@ -147,6 +149,9 @@ pub fn lowering_runs()
     ensures narrow_or { ran 64 (narrow_logic op.GenericOr no_flags 64) (319014718988379809496913694467282698410 ∷ 41206067869332392060018018868690682054 ∷ []) ≡ Some (338953138925153547590470800371487867118 ∷ []) }
     ensures narrow_xor { ran 64 (narrow_logic op.GenericXor no_flags 64) (319014718988379809496913694467282698410 ∷ 41206067869332392060018018868690682054 ∷ []) ≡ Some (317685490992594893624009887407002353772 ∷ []) }
     ensures lower_bswap_32 { ran 32 (lower_bswap_32 no_flags) (305419896 ∷ []) ≡ Some (2018915346 ∷ []) }
+    ensures lower_bswap_64 { ran 64 (lower_bswap_64 no_flags) (81985529216486895 ∷ []) ≡ Some (17279655951921914625 ∷ []) }
+    ensures lower_ctpop_32 { ran 32 (lower_ctpop_32 no_flags) (4027519540 ∷ []) ≡ Some (13 ∷ []) }
+    ensures lower_ctpop_32_all { ran 32 (lower_ctpop_32 no_flags) (4294967295 ∷ []) ≡ Some (32 ∷ []) }
 {}
 
 /// What is made, run on numbers, gives what the root gives there: with all free bits set.

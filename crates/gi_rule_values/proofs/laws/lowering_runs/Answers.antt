@@ -10,4 +10,7 @@ returns c = record {
   narrow_or = refl;
   narrow_xor = refl;
   lower_bswap_32 = refl;
+  lower_bswap_64 = refl;
+  lower_ctpop_32 = refl;
+  lower_ctpop_32_all = refl;
 }
