@@ -1,10 +1,10 @@
 -- The ones of a number, counted in all its bytes at once.
-use Rattle.std.proofs.Common.{◌≡◌, ℕ, zero, suc, ◌+◌, ◌-◌, ◌*◌, ◌/◌, ◌%◌, ◌^◌, ◌<◌, ◌≤◌, ◌==◌, ◌&&◌, Bool, true, false, pos, ◌-ℤ◌, inl, inr, refl, sym, ap, ap₂, ◌∙◌, subst, arith, lit<, ⊎_elim}
+use Rattle.std.proofs.Common.{◌≡◌, ℕ, zero, suc, ◌+◌, ◌-◌, ◌*◌, ◌/◌, ◌%◌, ◌^◌, ◌<◌, ◌≤◌, ◌==◌, ◌&&◌, Bool, true, false, pos, ◌-ℤ◌, refl, sym, ap, ap₂, ◌∙◌, subst, arith, lit<, ⊎_elim}
 use Rattle.std.specs.Prelude.{bit_and}
 use Rattle.std.proofs.Math.Nat.{add-mul-mod_self_right, div-add-mod', div-le_self, mod-eq_of_lt, mul-le-mul_right}
 use Rattle.std.proofs.lemmas.Bool.{cases_lt, eqb-true}
 use Rattle.std.proofs.lemmas.Int.{ints}
-use Rattle.std.proofs.lemmas.Nat.{and_block, and_le_l, and_le_r, and_mod, pow-add, pow_pos}
+use Rattle.std.proofs.lemmas.Nat.{and_block, and_le_l, and_le_r, and_mod, pow-add}
 use Rattle.gi_llt.specs.Bits.{unsigned, wrapped}
 use Rattle.gi_meaning.specs.Generic.{difference_of, ones}
 use Rattle.gi_rule_values.proofs.Groups.{and_below, in_more, shift_parts, shifted_parts}
