@@ -161,7 +161,7 @@ facts_known x w outside env (fact ∷ facts) goal free all h = facts_known x w o
 -- ══ What the root may give ══
 
 -- an entry stays where it is as results are added
-get_left : {X : Type 0} (xs ys : List X) (k : ℕ) (x : X) → slice_get xs k ≡ Some x → slice_get (xs ++ ys) k ≡ Some x
+pub get_left : {X : Type 0} (xs ys : List X) (k : ℕ) (x : X) → slice_get xs k ≡ Some x → slice_get (xs ++ ys) k ≡ Some x
 get_left [] ys k x h = cc
 get_left (z ∷ xs) ys zero x h = h
 get_left (z ∷ xs) ys (suc k) x h = get_left xs ys k x h
@@ -170,7 +170,7 @@ get_here : {X : Type 0} (xs : List X) (x : X) → slice_get (xs ++ x ∷ []) (le
 get_here [] x = refl
 get_here (z ∷ xs) x = get_here xs x
 
-longer : {X : Type 0} (xs : List X) (x : X) → length (xs ++ x ∷ []) ≡ length xs + 1
+pub longer : {X : Type 0} (xs : List X) (x : X) → length (xs ++ x ∷ []) ≡ length xs + 1
 longer [] x = refl
 longer (z ∷ xs) x = ap suc (longer xs x) ∙ omega arith
 

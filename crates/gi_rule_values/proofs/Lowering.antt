@@ -12,10 +12,10 @@ use Rattle.gi_meaning.proofs.Numbers.{nat_abs-neg, signed-high, signed-low}
 use Rattle.gi_meaning.specs.Generic.{arithmetic_shift_of, difference_of}
 use Rattle.gi_mir.specs.declared.opcode.Opcode.TheVariants as op
 use Rattle.gi_rule_values.proofs.Groups.{not_cut, swap_32_is, swap_64_is, swapped}
-use Rattle.gi_rule_values.proofs.Ones.{counted_32, plainly}
+use Rattle.gi_rule_values.proofs.Ones.{counted_32, counted_64, plainly}
 use Rattle.gi_rule_values.proofs.Numbers.{extended_high, extended_low, halves, unless}
 use Rattle.gi_mir.specs.declared.operand.Flags.{Flags}
-use Rattle.gi_rule_values.specs.Lowering.{lower_abs, lower_bswap_32, lower_bswap_64, lower_ctpop_32, lower_uadde, narrow_logic}
+use Rattle.gi_rule_values.specs.Lowering.{lower_abs, lower_bswap_32, lower_bswap_64, lower_ctpop_32, lower_ctpop_64, lower_uadde, narrow_logic}
 use Rattle.gi_rule_values.specs.Running.{IsSoundRewrite}
 
 -- ══ A sum with a carry ══
@@ -165,4 +165,10 @@ pub lower_ctpop_32_sound : (x : ℕ) (flags : Flags) → IsSoundRewrite x (lower
 lower_ctpop_32_sound x flags = record {
   by = λ names world is_world a a_fits.
       (refl, sym (ap (λ v. wrapped 32 (v * 16843009) / 2 ^ 24) (plainly 32 1431655765 858993459 252645135 a a_fits (lit< tt)) ∙ counted_32 a a_fits));
+}
+
+pub lower_ctpop_64_sound : (x : ℕ) (flags : Flags) → IsSoundRewrite x (lower_ctpop_64 flags)
+lower_ctpop_64_sound x flags = record {
+  by = λ names world is_world a a_fits.
+      (refl, sym (ap (λ v. wrapped 64 (v * 72340172838076673) / 2 ^ 56) (plainly 64 6148914691236517205 3689348814741910323 1085102592571150095 a a_fits (lit< tt)) ∙ counted_64 a a_fits));
 }

@@ -167,6 +167,44 @@ counted_32 v fits =
     (ones_fit 8 (v / 256 / 256 / 256 % 256)) (ones_fit 8 (v / 256 / 256 % 256)) (ones_fit 8 (v / 256 % 256)) (ones_fit 8 (v % 256))
     ∙ sym (ones_32 v)
 
+-- ══ 64 bits ══
+
+ones_64 : (v : ℕ) → ones 64 v ≡ ones 32 (v % 4294967296) + ones 32 (v / 4294967296)
+ones_64 v =
+    let first : v % 4294967296 % 256 ≡ v % 256 = omega arith in
+    let second : v % 4294967296 / 256 % 256 ≡ v / 256 % 256 = omega arith in
+    let third : v % 4294967296 / 256 / 256 % 256 ≡ v / 256 / 256 % 256 = omega arith in
+    let fourth : v % 4294967296 / 256 / 256 / 256 % 256 ≡ v / 256 / 256 / 256 % 256 = omega arith in
+    let above : v / 256 / 256 / 256 / 256 ≡ v / 4294967296 = omega arith in
+    let low : ones 32 (v % 4294967296) ≡ ones 8 (v % 256) + (ones 8 (v / 256 % 256) + (ones 8 (v / 256 / 256 % 256) + ones 8 (v / 256 / 256 / 256 % 256))) =
+    ones_32 (v % 4294967296) ∙ ap₂ (λ a b. a + b) (ap (ones 8) first) (ap₂ (λ a b. a + b) (ap (ones 8) second) (ap₂ (λ a b. a + b) (ap (ones 8) third) (ap (ones 8) fourth))) in
+    let whole : ones 64 v ≡ ones 8 (v % 256) + (ones 8 (v / 256 % 256) + (ones 8 (v / 256 / 256 % 256) + (ones 8 (v / 256 / 256 / 256 % 256) + ones 32 (v / 256 / 256 / 256 / 256)))) =
+    ones_parts 56 v ∙ ap (λ k. ones 8 (v % 256) + k) (ones_parts 48 (v / 256)
+    ∙ ap (λ k. ones 8 (v / 256 % 256) + k) (ones_parts 40 (v / 256 / 256) ∙ ap (λ k. ones 8 (v / 256 / 256 % 256) + k) (ones_parts 32 (v / 256 / 256 / 256)))) in
+    whole ∙ joined (ones 8 (v % 256)) (ones 8 (v / 256 % 256)) (ones 8 (v / 256 / 256 % 256)) (ones 8 (v / 256 / 256 / 256 % 256)) (ones 32 (v / 256 / 256 / 256 / 256)) ∙ ap₂ (λ a b. a + b) (sym low) (ap (ones 32) above)
+  where
+    joined : (a b c d k : ℕ) → a + (b + (c + (d + k))) ≡ a + (b + (c + d)) + k
+    joined a b c d k = omega arith
+
+sum_of_8 : (p q r s t u v w : ℕ) → p ≤ 8 → q ≤ 8 → r ≤ 8 → s ≤ 8 → t ≤ 8 → u ≤ 8 → v ≤ 8 → w ≤ 8
+    → (((p * 256 + q) * 65536 + (r * 256 + s)) * 4294967296 + ((t * 256 + u) * 65536 + (v * 256 + w))) * 72340172838076673 % 18446744073709551616 / 72057594037927936
+    ≡ (w + (v + (u + t))) + (s + (r + (q + p)))
+sum_of_8 p q r s t u v w p_fits q_fits r_fits s_fits t_fits u_fits v_fits w_fits = omega (arith, p_fits, q_fits, r_fits, s_fits, t_fits, u_fits, v_fits, w_fits)
+
+pub counted_64 : (v : ℕ) → v < 2 ^ 64 → wrapped 64 (counted 6148914691236517205 3689348814741910323 1085102592571150095 v * 72340172838076673) / 2 ^ 56 ≡ ones 64 v
+counted_64 v fits =
+    let h : ℕ = v / 4294967296 in
+    let l : ℕ = v % 4294967296 in
+    let parts : counted 6148914691236517205 3689348814741910323 1085102592571150095 v ≡ counted 1431655765 858993459 252645135 h * 4294967296 + counted 1431655765 858993459 252645135 l =
+    ap (counted 6148914691236517205 3689348814741910323 1085102592571150095) (sym (div-add-mod' v 4294967296))
+    ∙ counted_parts 32 1431655765 858993459 252645135 h l (record { enough = omega arith; first = omega arith; second = omega arith; third = omega arith; three = refl; room = omega arith }) (omega arith) in
+    ap (λ k. k * 72340172838076673 % 18446744073709551616 / 72057594037927936) (parts ∙ ap₂ (λ a b. a * 4294967296 + b) (count_32 h (omega (arith, fits))) (count_32 l (omega arith)))
+    ∙ sum_of_8 (ones 8 (h / 256 / 256 / 256 % 256)) (ones 8 (h / 256 / 256 % 256)) (ones 8 (h / 256 % 256)) (ones 8 (h % 256))
+    (ones 8 (l / 256 / 256 / 256 % 256)) (ones 8 (l / 256 / 256 % 256)) (ones 8 (l / 256 % 256)) (ones 8 (l % 256))
+    (ones_fit 8 (h / 256 / 256 / 256 % 256)) (ones_fit 8 (h / 256 / 256 % 256)) (ones_fit 8 (h / 256 % 256)) (ones_fit 8 (h % 256))
+    (ones_fit 8 (l / 256 / 256 / 256 % 256)) (ones_fit 8 (l / 256 / 256 % 256)) (ones_fit 8 (l / 256 % 256)) (ones_fit 8 (l % 256))
+    ∙ ap₂ (λ a b. a + b) (sym (ones_32 l)) (sym (ones_32 h)) ∙ sym (ones_64 v)
+
 -- ══ Nothing is cut ══
 
 less_plain : (n v c : ℕ) → v < 2 ^ n → c ≤ v → difference_of n v c ≡ v - c

@@ -1,13 +1,13 @@
 -- Rules of the legaliser for casts and parts as rewrites. The flags are those of the root, and of the definition that was
 -- looked at.
-use Rattle.std.specs.Prelude.{ℕ, pos, ◌-◌, ◌^◌, List, [], ◌∷◌}
+use Rattle.std.specs.Prelude.{ℕ, zero, suc, pos, ◌+◌, ◌-◌, ◌*◌, ◌^◌, List, [], ◌∷◌}
 use Rattle.gi_llt.specs.declared.Llt.{Llt}
 use Rattle.gi_mir.specs.declared.opcode.Opcode.{Opcode}
 use Rattle.gi_mir.specs.declared.opcode.Opcode.TheVariants as op
 use Rattle.gi_mir.specs.declared.operand.Flags.{Flags}
 use Rattle.gi_mir.specs.declared.operand.Operand.TheVariants as operand
 use Rattle.gi_rule_values.specs.Data.{OperationData, RewriteData}
-use Rattle.gi_rule_values.specs.Forms.{flagged, holds, number, on_one, on_two, plain, rewrite, s}
+use Rattle.gi_rule_values.specs.Forms.{flagged, holds, number, on_one, on_two, parts, places_from, plain, rewrite, s, slots_from}
 use Rattle.gi_rule_values.specs.declared.rewrite.Slot.TheVariants.{At, Stands}
 
 -- G_FREEZE x: x
@@ -66,3 +66,29 @@ sext_of_trunc_narrower flags more m w k = sext_of_trunc op.GenericTruncate flags
 
 abbrev pub sext_of_trunc_wider : Flags → Flags → (m w k : ℕ) → RewriteData
 sext_of_trunc_wider flags more m w k = sext_of_trunc op.GenericAnyExtend flags more m w k
+
+-- ══ Parts ══
+
+-- parts from a place on, put together
+abbrev pub merge_from : Flags → (place count width : ℕ) → OperationData
+merge_from flags place count width = flagged flags op.GenericMergeValues (slots_from place count) (s (count * width) ∷ [])
+
+abbrev pub copies_from : (place count width : ℕ) → List OperationData
+copies_from place zero width = []
+copies_from place (suc count) width = on_one op.Copy place (s width) ∷ copies_from (place + 1) count width
+
+-- G_UNMERGE_VALUES of G_MERGE_VALUES with the same parts: the parts
+abbrev pub unmerge_of_merge : Flags → Flags → (width count : ℕ) → RewriteData
+unmerge_of_merge flags more width count = record {
+  inputs = s (count * width) ∷ parts count width;
+  definitions = holds 0 (merge_from more 1 count width) ∷ [];
+  root = flagged flags op.GenericUnmergeValues (At 0 ∷ []) (parts count width);
+  made = copies_from 1 count width;
+  results = places_from (count + 1) count;
+}
+
+-- G_TRUNC of a merge of two parts: the lower one, or its low bits
+abbrev pub trunc_of_merge : Opcode → Flags → Flags → (width n : ℕ) → RewriteData
+trunc_of_merge cast flags more width n =
+    rewrite (s (2 * width) ∷ parts 2 width) (holds 0 (merge_from more 1 2 width) ∷ []) (flagged flags op.GenericTruncate (At 0 ∷ []) (s n ∷ []))
+    (on_one cast 1 (s n) ∷ []) 3

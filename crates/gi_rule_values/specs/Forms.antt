@@ -1,5 +1,5 @@
 -- How rewrites are written: types, operations of one result, numbers and definitions.
-use Rattle.std.specs.Prelude.{ℕ, List, [], ◌∷◌}
+use Rattle.std.specs.Prelude.{ℕ, zero, suc, ◌+◌, List, [], ◌∷◌}
 use Rattle.gi_llt.specs.declared.Llt.{Llt}
 use Rattle.gi_llt.specs.declared.Llt.TheVariants.{Scalar}
 use Rattle.gi_mir.specs.Data.{no_flags}
@@ -43,3 +43,17 @@ holds place operation = record { operation = operation; results = place ∷ [] }
 -- a root of one result, which what was made last stands for or what stands at this place
 abbrev pub rewrite : (inputs : List Llt) → List DefinitionData → OperationData → List OperationData → (result : ℕ) → RewriteData
 rewrite inputs definitions root made result = record { inputs = inputs; definitions = definitions; root = root; made = made; results = result ∷ [] }
+
+-- ══ Parts of one width, one after another ══
+
+abbrev pub parts : (count width : ℕ) → List Llt
+parts zero width = []
+parts (suc count) width = s width ∷ parts count width
+
+abbrev pub places_from : (place count : ℕ) → List ℕ
+places_from place zero = []
+places_from place (suc count) = place ∷ places_from (place + 1) count
+
+abbrev pub slots_from : (place count : ℕ) → List Slot
+slots_from place zero = []
+slots_from place (suc count) = At place ∷ slots_from (place + 1) count

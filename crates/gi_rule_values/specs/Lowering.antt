@@ -1,5 +1,5 @@
 -- Rules of the legaliser that make an operation of others, as rewrites.
-use Rattle.std.specs.Prelude.{ℕ, ◌+◌, ◌-◌, ◌*◌, ◌++◌, List, [], ◌∷◌}
+use Rattle.std.specs.Prelude.{ℕ, zero, suc, ◌+◌, ◌-◌, ◌*◌, ◌++◌, List, [], ◌∷◌}
 use Rattle.gi_llt.specs.declared.Llt.{Llt}
 use Rattle.gi_mir.specs.Data.{no_flags}
 use Rattle.gi_mir.specs.declared.opcode.Opcode.TheVariants as op
@@ -9,7 +9,7 @@ use Rattle.gi_mir.specs.declared.operand.Operand.TheVariants as operand
 use Rattle.gi_mir.specs.declared.operand.Pred.{Pred}
 use Rattle.gi_mir.specs.declared.operand.Pred.TheVariants.{Ult}
 use Rattle.gi_rule_values.specs.Data.{OperationData, RewriteData}
-use Rattle.gi_rule_values.specs.Forms.{flagged, number, on_one, on_two, plain, rewrite, s}
+use Rattle.gi_rule_values.specs.Forms.{flagged, number, on_one, on_two, parts, plain, rewrite, s, slots_from}
 use Rattle.gi_rule_values.specs.declared.rewrite.Slot.TheVariants.{At, Stands}
 
 abbrev pub compare : Pred → (a b : ℕ) → Llt → OperationData
@@ -96,3 +96,26 @@ abbrev pub lower_bswap_64 : Flags → RewriteData
 lower_bswap_64 flags =
     rewrite (s 64 ∷ []) [] (flagged flags op.GenericByteSwap (At 0 ∷ []) (s 64 ∷ []))
     (groups_swapped 64 0 1 8 71777214294589695 ++ groups_swapped 64 9 10 16 281470681808895 ++ groups_swapped 64 18 19 32 4294967295) 27
+
+-- ══ Parts ══
+
+-- each further part is extended, shifted to its place and joined to the sum of those below it
+abbrev pub merge_steps : (bits width sum next i left : ℕ) → List OperationData
+merge_steps bits width sum next i zero = []
+merge_steps bits width sum next i (suc left) =
+    on_one op.GenericZeroExtend i (s bits)
+    ∷ number bits (i * width) ∷ on_two op.GenericShiftLeft next (next + 1) (s bits)
+    ∷ on_two op.GenericOr sum (next + 2) (s bits)
+    ∷ merge_steps bits width (next + 3) (next + 4) (i + 1) left
+
+abbrev pub merge_place : (sum next left : ℕ) → ℕ
+merge_place sum next zero = sum
+merge_place sum next (suc left) = merge_place (next + 3) (next + 4) left
+
+-- one part and so many further ones
+abbrev pub lower_merge : Flags → (width further : ℕ) → RewriteData
+lower_merge flags width further =
+    let bits = suc further * width in
+    let count = suc further in
+    rewrite (parts count width) [] (flagged flags op.GenericMergeValues (slots_from 0 count) (s bits ∷ []))
+    (on_one op.GenericZeroExtend 0 (s bits) ∷ merge_steps bits width count (count + 1) 1 further) (merge_place count (count + 1) further)

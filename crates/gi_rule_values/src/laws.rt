@@ -9,16 +9,16 @@ ghost use Rattle.gi_mir.specs.Data.{no_flags};
 ghost use Rattle.gi_mir.specs.declared.opcode.Opcode.TheVariants as op;
 ghost use Rattle.gi_mir.specs.declared.operand.Flags.{Flags};
 ghost use Rattle.gi_refine.specs.Values.{IsSound};
-ghost use Rattle.gi_rule_values.specs.Artifacts.{anyext_of_trunc_narrower, anyext_of_trunc_same, anyext_of_trunc_wider, freeze_to_copy, sext_of_trunc_narrower, sext_of_trunc_same, sext_of_trunc_wider, trunc_of_trunc, zext_of_trunc_narrower, zext_of_trunc_same, zext_of_trunc_wider};
+ghost use Rattle.gi_rule_values.specs.Artifacts.{anyext_of_trunc_narrower, anyext_of_trunc_same, anyext_of_trunc_wider, freeze_to_copy, sext_of_trunc_narrower, sext_of_trunc_same, sext_of_trunc_wider, trunc_of_trunc, unmerge_of_merge, zext_of_trunc_narrower, zext_of_trunc_same, zext_of_trunc_wider};
 ghost use Rattle.gi_rule_values.specs.Combining.{mul_to_shl, pointer_identity, sub_to_add, udiv_to_lshr, urem_to_mask, right_identity, same_to_zero, cut_extension};
 ghost use Rattle.gi_rule_values.specs.Data.{RewriteData};
 ghost use Rattle.gi_rule_values.specs.Forms.{s};
-ghost use Rattle.gi_rule_values.specs.Lowering.{lower_abs, lower_bswap_32, lower_bswap_64, lower_ctpop_32, lower_uadde, narrow_logic};
+ghost use Rattle.gi_rule_values.specs.Lowering.{lower_abs, lower_bswap_32, lower_bswap_64, lower_ctpop_32, lower_ctpop_64, lower_merge, lower_uadde, narrow_logic};
 ghost use Rattle.gi_rule_values.specs.OnValues.{on_values};
 ghost use Rattle.gi_rule_values.specs.Running.{IsSoundByNumbers, IsSoundRewrite, ran};
-ghost use Rattle.gi_rule_values.specs.Selecting.{select_addi, select_icmp_ule, select_select, select_zext};
+ghost use Rattle.gi_rule_values.specs.Selecting.{materialize_constant, select_addi, select_icmp_ule, select_select, select_zext};
 ghost use Rattle.gi_rule_values.specs.Widening.{widen_add, widen_constant, widen_lshr, widen_sdiv};
-ghost use Rattle.std.specs.Prelude.{◌≡◌, [], ◌∷◌, ◌<◌, ◌^◌, ◌≤◌, List, Some, ℕ, ℤ, true, negsuc};
+ghost use Rattle.std.specs.Prelude.{◌≡◌, [], ◌∷◌, ◌<◌, ◌^◌, ◌≤◌, List, Some, ℕ, ℤ, true, negsuc, ◌⊎◌};
 
 /// A rewrite that is sound by numbers is a sound rule on values, in the sense of gi_refine: whatever is made, the root may have
 /// made, or it is undefined.
@@ -39,6 +39,7 @@ pub fn artifacts_are_sound()
     ensures sext_of_trunc_same { (x : ℕ) (flags more : Flags) (m k : ℕ) → m < k → IsSoundRewrite x (sext_of_trunc_same flags more m k) }
     ensures sext_of_trunc_narrower { (x : ℕ) (flags more : Flags) (m w k : ℕ) → m < k → k < w → IsSoundRewrite x (sext_of_trunc_narrower flags more m w k) }
     ensures sext_of_trunc_wider { (x : ℕ) (flags more : Flags) (m w k : ℕ) → m < w → w < k → IsSoundRewrite x (sext_of_trunc_wider flags more m w k) }
+    ensures unmerge_of_merge { (x : ℕ) (flags more : Flags) (width count : ℕ) → IsSoundRewrite x (unmerge_of_merge flags more width count) }
 {}
 
 /// Rules of the combiners.
@@ -83,6 +84,8 @@ pub fn lowering_is_sound()
     ensures lower_bswap_32 { (x : ℕ) (flags : Flags) → IsSoundRewrite x (lower_bswap_32 flags) }
     ensures lower_bswap_64 { (x : ℕ) (flags : Flags) → IsSoundRewrite x (lower_bswap_64 flags) }
     ensures lower_ctpop_32 { (x : ℕ) (flags : Flags) → IsSoundRewrite x (lower_ctpop_32 flags) }
+    ensures lower_ctpop_64 { (x : ℕ) (flags : Flags) → IsSoundRewrite x (lower_ctpop_64 flags) }
+    ensures lower_merge { (x : ℕ) (flags : Flags) (width further : ℕ) → 1 ≤ width → IsSoundRewrite x (lower_merge flags width further) }
 {}
 
 /// Rows of the selector.
@@ -91,6 +94,7 @@ pub fn selecting_is_sound()
     ensures select_zext { (flags : Flags) → IsSoundRewrite 64 (select_zext flags) }
     ensures select_addi { (x : ℕ) (flags more : Flags) (i : ℤ) → is_immediate i ≡ true → IsSoundRewrite x (select_addi flags more x i) }
     ensures select_select { (x : ℕ) (flags : Flags) (type : Llt) → width_of x type ≡ x → IsSoundRewrite x (select_select flags x type) }
+    ensures materialize_constant { (x : ℕ) (flags : Flags) (type : Llt) (value : ℕ) → (x ≡ 32) ⊎ (x ≡ 64) → width_of x type ≡ x → value < 2 ^ x → IsSoundRewrite x (materialize_constant flags x type value) }
 {}
 
 /// What is made, run on numbers, gives what the root gives there: with all free bits set.
@@ -106,6 +110,7 @@ pub fn artifacts_runs()
     ensures sext_of_trunc_same { ran 64 (sext_of_trunc_same no_flags no_flags 8 32) (200 ∷ 84424 ∷ []) ≡ Some (4294967240 ∷ []) }
     ensures sext_of_trunc_narrower { ran 64 (sext_of_trunc_narrower no_flags no_flags 8 64 32) (200 ∷ 4295051720 ∷ []) ≡ Some (4294967240 ∷ []) }
     ensures sext_of_trunc_wider { ran 64 (sext_of_trunc_wider no_flags no_flags 8 32 64) (200 ∷ 84424 ∷ []) ≡ Some (18446744073709551560 ∷ []) }
+    ensures unmerge_of_merge { ran 32 (unmerge_of_merge no_flags no_flags 8 3) (197121 ∷ 1 ∷ 2 ∷ 3 ∷ []) ≡ Some (1 ∷ 2 ∷ 3 ∷ []) }
 {}
 
 /// What is made, run on numbers, gives what the root gives there: with all free bits set.
@@ -152,6 +157,9 @@ pub fn lowering_runs()
     ensures lower_bswap_64 { ran 64 (lower_bswap_64 no_flags) (81985529216486895 ∷ []) ≡ Some (17279655951921914625 ∷ []) }
     ensures lower_ctpop_32 { ran 32 (lower_ctpop_32 no_flags) (4027519540 ∷ []) ≡ Some (13 ∷ []) }
     ensures lower_ctpop_32_all { ran 32 (lower_ctpop_32 no_flags) (4294967295 ∷ []) ≡ Some (32 ∷ []) }
+    ensures lower_ctpop_64 { ran 64 (lower_ctpop_64 no_flags) (17298064712328483380 ∷ []) ≡ Some (26 ∷ []) }
+    ensures lower_ctpop_64_all { ran 64 (lower_ctpop_64 no_flags) (18446744073709551615 ∷ []) ≡ Some (64 ∷ []) }
+    ensures lower_merge { ran 64 (lower_merge no_flags 16 3) (1 ∷ 2 ∷ 3 ∷ 4 ∷ []) ≡ Some (1125912791875585 ∷ []) }
 {}
 
 /// What is made, run on numbers, gives what the root gives there: with all free bits set.
@@ -161,4 +169,6 @@ pub fn selecting_runs()
     ensures select_addi { ran 32 (select_addi no_flags no_flags 32 (negsuc 4)) (3 ∷ 4294967291 ∷ []) ≡ Some (4294967294 ∷ []) }
     ensures select_select { ran 32 (select_select no_flags 32 (s 32)) (7 ∷ 5 ∷ 9 ∷ []) ≡ Some (5 ∷ []) }
     ensures select_select_other { ran 32 (select_select no_flags 32 Pointer) (0 ∷ 5 ∷ 9 ∷ []) ≡ Some (9 ∷ []) }
+    ensures materialize_constant { ran 32 (materialize_constant no_flags 32 (s 32) 305419896) [] ≡ Some (305419896 ∷ []) }
+    ensures materialize_constant_long { ran 64 (materialize_constant no_flags 64 (s 64) 18446744073404131720) [] ≡ Some (18446744073404131720 ∷ []) }
 {}

@@ -14,4 +14,5 @@ returns c = record {
   sext_of_trunc_same = refl;
   sext_of_trunc_narrower = refl;
   sext_of_trunc_wider = refl;
+  unmerge_of_merge = refl;
 }

@@ -13,4 +13,7 @@ returns c = record {
   lower_bswap_64 = refl;
   lower_ctpop_32 = refl;
   lower_ctpop_32_all = refl;
+  lower_ctpop_64 = refl;
+  lower_ctpop_64_all = refl;
+  lower_merge = refl;
 }

@@ -8,4 +8,6 @@ returns c = record {
   select_addi = refl;
   select_select = refl;
   select_select_other = refl;
+  materialize_constant = refl;
+  materialize_constant_long = refl;
 }
