@@ -1,14 +1,11 @@
 -- Runs of lists of operations, a step at a time, over environments of any length.
-use Rattle.std.proofs.Common.{◌≡◌, ℕ, zero, suc, ◌+◌, ◌*◌, ◌/◌, ◌%◌, ◌^◌, ◌<◌, ◌≤◌, nat_le, false, List, [], ◌∷◌, ◌++◌, length, map, Option, Some, None, option_map, slice_get, refl, sym, ap, ap₂, ◌∙◌, subst, arith, append_assoc}
-use Rattle.std.specs.Prelude.{bit_or}
-use Rattle.std.specs.Int.Bits.{or_shifted_r}
-use Rattle.std.proofs.Math.Nat.{add-mul-mod_self_left, mod-eq_of_lt, mul-le-mul_right, pow-le-pow_right}
-use Rattle.std.proofs.lemmas.Nat.{div-mul-add, mul-add-lt, pow-add, pow_pos}
-use Rattle.gi_llt.specs.Bits.{wrapped}
+use Rattle.std.proofs.Common.{◌≡◌, ℕ, zero, suc, ◌+◌, ◌*◌, ◌/◌, ◌^◌, ◌<◌, List, [], ◌∷◌, ◌++◌, length, map, Option, Some, None, option_map, slice_get, refl, sym, ap, ap₂, ◌∙◌, subst, arith, append_assoc}
+use Rattle.std.proofs.Math.Nat.{add-mul-mod_self_left, mod-eq_of_lt}
+use Rattle.std.proofs.lemmas.Nat.{div-mul-add}
 use Rattle.gi_llt.specs.Llt.{width_of}
 use Rattle.gi_meaning.specs.Argument.{Argument, Value}
 use Rattle.gi_meaning.specs.Generic.{merged, parts_of}
-use Rattle.gi_meaning.specs.Meaning.{Meaning, Generic, meaning_of}
+use Rattle.gi_meaning.specs.Meaning.{meaning_of}
 use Rattle.gi_meaning.specs.Runs.{joined_lists}
 use Rattle.gi_meaning.specs.State.{World}
 use Rattle.gi_refine.specs.Values.{At, Environment, ForAllOf, Operation, appended, arguments_at}

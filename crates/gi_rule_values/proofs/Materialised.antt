@@ -1,28 +1,25 @@
 -- A constant is made by the instructions of its sequence.
-use Rattle.std.proofs.Common.{◌≡◌, ◌⊎◌, ℕ, ℤ, pos, Bool, true, false, cond, option_map, ◌+◌, ◌^◌, ◌<◌, List, [], ◌∷◌, ◌++◌, length, map, Option, Some, None, slice_get, refl, sym, ap, ap₂, ◌∙◌, subst, arith}
+use Rattle.std.proofs.Common.{◌≡◌, ◌⊎◌, ℕ, ℤ, pos, Bool, true, false, cond, option_map, ◌+◌, ◌^◌, ◌<◌, List, [], ◌∷◌, ◌++◌, length, map, Option, Some, slice_get, refl, sym, ap, ◌∙◌, subst}
 use Rattle.gi_llt.specs.Llt.{width_of}
 use Rattle.gi_llt.specs.declared.Llt.{Llt}
 use Rattle.gi_meaning.specs.Act.{fitted}
-use Rattle.gi_meaning.specs.Argument.{Argument, Number, Value}
+use Rattle.gi_meaning.specs.Argument.{Number, Value}
 use Rattle.gi_meaning.specs.Given.{Given, one}
-use Rattle.gi_meaning.specs.Meaning.{Machine, Meaning, meaning_of}
 use Rattle.gi_meaning.specs.Runs.{joined_lists}
 use Rattle.gi_meaning.specs.State.{World}
-use Rattle.gi_meaning.specs.Words.{word_given}
-use Rattle.gi_mir.specs.Data.{no_flags}
 use Rattle.gi_mir.specs.declared.operand.Flags.{Flags}
 use Rattle.gi_refine.proofs.Basics.{not_below_itself, whole_fitted}
-use Rattle.gi_refine.specs.Values.{Environment, Operation, argument_at, arguments_at}
+use Rattle.gi_refine.specs.Values.{Environment, Operation, argument_at}
 use Rattle.gi_meaning.specs.Machine.{is_immediate}
 use Rattle.gi_llt.specs.Bits.{signed}
 use Rattle.gi_mir.specs.declared.operand.Operand.TheVariants as operand
-use Rattle.gi_riscv.specs.Materialised.{fits_32, high_part, low_part, lower, materialised, next_of, steps_in, unless_zero, zeros_of}
+use Rattle.gi_riscv.specs.Materialised.{fits_32, high_part, low_part, lower, next_of, steps_in, unless_zero, zeros_of}
 use Rattle.gi_riscv.specs.Steps.{Make, step_gives}
 use Rattle.gi_riscv.specs.declared.constants.Step.{Step}
 use Rattle.gi_riscv.specs.declared.constants.Step.TheVariants.{Addi, Addiw, Lui, Slli}
 use Rattle.gi_riscv.proofs.Making.{word_made}
 use Rattle.gi_rule_values.specs.OnValues.{operation_on_values, slot_on_values}
-use Rattle.gi_rule_values.specs.Running.{ForAllRuns, ForGiven, ForRest, IfThere, IsSoundRewrite, RootMay}
+use Rattle.gi_rule_values.specs.Running.{ForAllRuns, ForGiven, IfThere, IsSoundRewrite, RootMay}
 use Rattle.gi_rule_values.specs.Selecting.{chain, chain_place, materialize_constant, step_on}
 use Rattle.gi_rule_values.specs.declared.rewrite.Slot.{Slot}
 use Rattle.gi_rule_values.specs.declared.rewrite.Slot.TheVariants.{At, Stands}

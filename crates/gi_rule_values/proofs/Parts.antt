@@ -1,13 +1,13 @@
 -- Rules that put parts together and take them apart are sound, for any number of parts.
-use Rattle.std.proofs.Common.{◌≡◌, ℕ, zero, suc, ◌+◌, ◌*◌, ◌/◌, ◌%◌, ◌^◌, ◌<◌, ◌≤◌, nat_le, false, List, [], ◌∷◌, ◌++◌, length, map, Option, Some, None, slice_get, lit<, refl, sym, ap, ap₂, ◌∙◌, subst, arith, append_assoc}
+use Rattle.std.proofs.Common.{◌≡◌, ℕ, suc, ◌+◌, ◌*◌, ◌^◌, ◌<◌, ◌≤◌, nat_le, false, List, [], ◌∷◌, ◌++◌, length, map, Option, Some, slice_get, lit<, refl, sym, ap, ap₂, ◌∙◌, subst, arith, append_assoc}
 use Rattle.std.specs.Prelude.{bit_or}
 use Rattle.std.specs.Int.Bits.{or_shifted_r}
-use Rattle.std.proofs.Math.Nat.{mod-eq_of_lt, mul_comm, mul-le-mul_right, pow-le-pow_right}
+use Rattle.std.proofs.Math.Nat.{mod-eq_of_lt, mul_comm, pow-le-pow_right}
 use Rattle.std.proofs.lemmas.List.{append-nil}
-use Rattle.std.proofs.lemmas.Nat.{mul-add-lt, pow-add, pow_pos}
+use Rattle.std.proofs.lemmas.Nat.{mul-add-lt, pow-add}
 use Rattle.gi_llt.specs.Bits.{wrapped}
 use Rattle.gi_llt.specs.Llt.{width_of}
-use Rattle.gi_meaning.specs.Argument.{Argument, Value}
+use Rattle.gi_meaning.specs.Argument.{Value}
 use Rattle.gi_meaning.specs.Generic.{merged, parts_of}
 use Rattle.gi_meaning.specs.Given.{Exactly}
 use Rattle.gi_meaning.specs.State.{World}
@@ -17,7 +17,7 @@ use Rattle.gi_refine.specs.Values.{Environment, Operation, arguments_at}
 use Rattle.gi_refine.proofs.Basics.{copied_whole}
 use Rattle.gi_rule_values.specs.Artifacts.{copies_from, merge_from, unmerge_of_merge}
 use Rattle.gi_rule_values.specs.Data.{RewriteData}
-use Rattle.gi_rule_values.specs.Forms.{number, on_one, on_two, parts, places_from, s, slots_from}
+use Rattle.gi_rule_values.specs.Forms.{number, on_one, on_two, parts, s}
 use Rattle.gi_rule_values.specs.Lowering.{lower_merge, merge_place, merge_steps}
 use Rattle.gi_rule_values.specs.OnValues.{fact_of, operation_on_values}
 use Rattle.gi_rule_values.specs.Running.{AreEqual, ForAllRuns, IfDefined, IfKnown, IfThere, IsSoundRewrite, MayGive, OfGiven, RootMay}
