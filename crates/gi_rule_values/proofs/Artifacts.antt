@@ -10,7 +10,7 @@ use Rattle.gi_mir.specs.declared.operand.Flags.{Flags}
 use Rattle.gi_refine.proofs.Basics.{not_below_itself}
 use Rattle.gi_rule_values.specs.Artifacts.{anyext_of_trunc_narrower, anyext_of_trunc_same, anyext_of_trunc_wider, freeze_to_copy, sext_of_trunc_narrower, sext_of_trunc_same, sext_of_trunc_wider, trunc_of_trunc, zext_of_trunc_narrower, zext_of_trunc_same, zext_of_trunc_wider}
 use Rattle.gi_rule_values.specs.Running.{IsSoundRewrite, MayGive}
-use Rattle.gi_rule_values.proofs.Numbers.{below_wider, low_of_low, same}
+use Rattle.gi_rule_values.proofs.Numbers.{below_wider, low_again, low_of_low, same}
 
 pub freeze_to_copy_sound : (x : ℕ) (flags : Flags) (type : Llt) → IsSoundRewrite x (freeze_to_copy flags type)
 freeze_to_copy_sound x flags type = record {
@@ -24,12 +24,8 @@ trunc_of_trunc_sound x flags more m w k within = record {
   by = λ names world is_world a a_fits b b_fits is. (refl, ap (wrapped k) is ∙ low_of_low k m b within);
 }
 
--- what has the low w bits of a number has its low m bits
-low_again : (m w v b : ℕ) → m ≤ w → wrapped w v ≡ wrapped w b → wrapped m v ≡ wrapped m b
-low_again m w v b within same = sym (low_of_low m w v within) ∙ ap (wrapped m) same ∙ low_of_low m w b within
-
 -- a number of k bits whose low m bits are those of b
-may_widen : (m k a b v : ℕ) → v < 2 ^ k → a ≡ wrapped m b → wrapped m v ≡ wrapped m b → m < k → MayGive (in_low_bits m k a) (v ∷ [])
+pub may_widen : (m k a b v : ℕ) → v < 2 ^ k → a ≡ wrapped m b → wrapped m v ≡ wrapped m b → m < k → MayGive (in_low_bits m k a) (v ∷ [])
 may_widen m k a b v fits is low wider =
     let less : nat_lt m k ≡ true = grind arith in
     rw less (fits, low ∙ sym (ap (wrapped m) is ∙ low_of_low m m b (omega arith)))
@@ -53,7 +49,7 @@ anyext_of_trunc_wider_sound x flags more m w k cut wider = record {
 }
 
 -- no promise is broken: the value
-may_extend : (broken : Bool) (m k a v : ℕ) → m < k → a < 2 ^ m → v ≡ a → MayGive (cond broken (in_low_bits m k a) (one a)) (v ∷ [])
+pub may_extend : (broken : Bool) (m k a v : ℕ) → m < k → a < 2 ^ m → v ≡ a → MayGive (cond broken (in_low_bits m k a) (one a)) (v ∷ [])
 may_extend true m k a v wider fits is =
     let less : nat_lt m k ≡ true = grind arith in
     rw less (subst (λ u. u < 2 ^ k) (sym is) (below_wider m k a (omega (arith, wider)) fits), ap (wrapped m) is)

@@ -10,3 +10,4 @@ pub mod Ones
 pub mod Parts
 pub mod Selecting
 pub mod Widening
+pub mod WideningMore

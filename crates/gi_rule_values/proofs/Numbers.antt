@@ -1,12 +1,12 @@
 -- Numbers that rules are about: powers of two, differences, and parts of numbers.
 use Rattle.std.proofs.Common.{◌≡◌, ◌⊎◌, ⊎_elim, ℕ, ℤ, zero, suc, pos, negsuc, ◌-ℤ◌, ◌+◌, ◌-◌, ◌*◌, ◌/◌, ◌%◌, ◌^◌, ◌<◌, ◌≤◌, ◌==◌, Bool, true, false, cond, [], ◌∷◌, refl, sym, ap, ap₂, ◌∙◌, subst, arith, lit<}
 use Rattle.std.specs.Prelude.{neg_ℤ}
-use Rattle.std.proofs.Math.Nat.{add-mod, div-add-mod', mod-eq_of_lt, mod-one, pow-le-pow_right}
-use Rattle.std.proofs.Math.Pow.{mod-mod-pow}
+use Rattle.std.proofs.Math.Nat.{add-mod, add-mul-mod_self_right, div-add-mod', mod-eq_of_lt, mod-one, pow-le-pow_right}
+use Rattle.std.proofs.Math.Pow.{mod-mod-pow, shr_mono}
 use Rattle.std.proofs.lemmas.Bool.{cases_lt, eq-eqb}
 use Rattle.std.proofs.lemmas.Bool.Decides.{nat_tests}
 use Rattle.std.proofs.lemmas.Int.{ints}
-use Rattle.std.proofs.lemmas.Nat.{div_below, mod_below, mod-mul-add, pow-add, pow_pos}
+use Rattle.std.proofs.lemmas.Nat.{div_below, mod_below, mod-mul-add, mul-mod, pow-add, pow_pos}
 use Rattle.gi_llt.specs.Bits.{sign_extended, signed, unsigned, wrapped}
 use Rattle.gi_meaning.proofs.Numbers.{signed-high, signed-low, unsigned-neg}
 use Rattle.gi_llt.specs.Signs.{negated}
@@ -70,9 +70,40 @@ pub low_of_low : (n w v : ℕ) → n ≤ w → wrapped n (wrapped w v) ≡ wrapp
 low_of_low n w v within =
     let parts : (w - n) + n ≡ w = omega (arith, within) in subst (λ (k : ℕ). wrapped n (wrapped k v) ≡ wrapped n v) parts (mod-mod-pow v (w - n) n)
 
+-- what has the low w bits of a number has its low m bits
+pub low_again : (m w v b : ℕ) → m ≤ w → wrapped w v ≡ wrapped w b → wrapped m v ≡ wrapped m b
+low_again m w v b within same = sym (low_of_low m w v within) ∙ ap (wrapped m) same ∙ low_of_low m w b within
+
 -- the low bits of a sum are those of the low bits' sum
 pub low_sum : (n p q a b : ℕ) → wrapped n p ≡ wrapped n a → wrapped n q ≡ wrapped n b → wrapped n (p + q) ≡ wrapped n (a + b)
 low_sum n p q a b left right = add-mod p q (2 ^ n) ∙ ap₂ (λ u v. (u + v) % 2 ^ n) left right ∙ sym (add-mod a b (2 ^ n))
+
+-- and so of a product
+pub low_product : (n p q a b : ℕ) → wrapped n p ≡ wrapped n a → wrapped n q ≡ wrapped n b → wrapped n (p * q) ≡ wrapped n (a * b)
+low_product n p q a b left right = mul-mod p q (2 ^ n) ∙ ap₂ (λ u v. (u * v) % 2 ^ n) left right ∙ sym (mul-mod a b (2 ^ n))
+
+-- a difference of any numbers, by the low bits of the second
+pub difference_plain : (n a b : ℕ) → difference_of n a b ≡ (a + (2 ^ n - b % 2 ^ n)) % 2 ^ n
+difference_plain n a b = ⊎_elim
+    (λ (less : a < b).
+    let is : pos a -ℤ pos b ≡ negsuc (b - a - 1) = omega (arith, ints, less) in
+    let m : ℕ = b - a - 1 in
+    let more : ℕ = b / 2 ^ n - m / 2 ^ n in
+    let least : m / 2 ^ n ≤ b / 2 ^ n = shr_mono n (omega (arith, less)) in
+    let quotient : b / 2 ^ n ≡ m / 2 ^ n + more = omega (arith, least) in
+    let parts : b / 2 ^ n * 2 ^ n ≡ m / 2 ^ n * 2 ^ n + more * 2 ^ n = ap (λ k. k * 2 ^ n) quotient ∙ spread (m / 2 ^ n) more (2 ^ n) in
+    let turned : a + (2 ^ n - b % 2 ^ n) ≡ more * 2 ^ n + (2 ^ n - 1 - m % 2 ^ n) =
+    omega (arith, less, parts, div-add-mod' b (2 ^ n), div-add-mod' m (2 ^ n), mod_below b (2 ^ n) (pow_pos n), mod_below m (2 ^ n) (pow_pos n)) in
+    ap (unsigned n) is ∙ sym (ap (λ k. k % 2 ^ n) turned ∙ mod-mul-add more (2 ^ n) (2 ^ n - 1 - (b - a - 1) % 2 ^ n) (omega (arith, mod_below (b - a - 1) (2 ^ n) (pow_pos n), pow_pos n))))
+    (λ (most : b ≤ a).
+    let is : pos a -ℤ pos b ≡ pos (a - b) = omega (arith, ints, most) in
+    let whole : b / 2 ^ n * 2 ^ n + b % 2 ^ n ≡ b = div-add-mod' b (2 ^ n) in
+    let turned : a + (2 ^ n - b % 2 ^ n) ≡ a - b + (b / 2 ^ n + 1) * 2 ^ n = omega (arith, most, whole, mod_below b (2 ^ n) (pow_pos n)) in
+    ap (unsigned n) is ∙ sym (ap (λ k. k % 2 ^ n) turned ∙ add-mul-mod_self_right (a - b) (b / 2 ^ n + 1) (2 ^ n)))
+    (cases_lt a b)
+  where
+    spread : (q e p : ℕ) → (q + e) * p ≡ q * p + e * p
+    spread q e p = omega arith
 
 -- what is less than a power is less than a greater one
 pub below_wider : (n w a : ℕ) → n ≤ w → a < 2 ^ n → a < 2 ^ w

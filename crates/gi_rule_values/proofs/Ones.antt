@@ -120,7 +120,7 @@ byte_counted v fits = eqb-true (counted 85 51 15 v) (ones 8 v) (holds_below (λ 
 
 -- ══ All bytes ══
 
-ones_fit : (n v : ℕ) → ones n v ≤ n
+pub ones_fit : (n v : ℕ) → ones n v ≤ n
 ones_fit zero v = omega arith
 ones_fit (suc n) v = omega (arith, ones_fit n (v / 2))
 

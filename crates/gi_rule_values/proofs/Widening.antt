@@ -50,7 +50,7 @@ widen_lshr_sound x flags n w wider = record {
 }
 
 -- zero stays zero as its sign is extended
-zero_extended : (n w b : ℕ) → 1 ≤ n → n < w → b < 2 ^ n → (sign_extended n w b == 0) ≡ (b == 0)
+pub zero_extended : (n w b : ℕ) → 1 ≤ n → n < w → b < 2 ^ n → (sign_extended n w b == 0) ≡ (b == 0)
 zero_extended n w b some wider fits = ⊎_elim
     (λ (low : b < 2 ^ (n - 1)). ap (λ k. k == 0) (extended_low n w b (omega (arith, wider)) low fits))
     (λ (high : 2 ^ (n - 1) ≤ b).
@@ -60,7 +60,7 @@ zero_extended n w b some wider fits = ⊎_elim
     (cases_lt b (2 ^ (n - 1)))
 
 -- and nothing becomes the least number of more bits
-not_least : (n w a : ℕ) → 1 ≤ n → n < w → a < 2 ^ n → (sign_extended n w a == 2 ^ (w - 1)) ≡ false
+pub not_least : (n w a : ℕ) → 1 ≤ n → n < w → a < 2 ^ n → (sign_extended n w a == 2 ^ (w - 1)) ≡ false
 not_least n w a some wider fits = ⊎_elim
     (λ (low : a < 2 ^ (n - 1)).
     let (two, more, half) = halves n w some (omega (arith, wider)) in

@@ -7,7 +7,7 @@ use Rattle.gi_mir.specs.declared.opcode.Opcode.TheVariants as op
 use Rattle.gi_mir.specs.declared.operand.Flags.{Flags}
 use Rattle.gi_mir.specs.declared.operand.Operand.TheVariants as operand
 use Rattle.gi_rule_values.specs.Data.{OperationData, RewriteData}
-use Rattle.gi_rule_values.specs.Forms.{flagged, holds, number, on_one, on_two, parts, places_from, plain, rewrite, s, slots_from}
+use Rattle.gi_rule_values.specs.Forms.{flagged, holds, in_register, number, on_one, on_two, parts, places_from, plain, rewrite, s, slots_from}
 use Rattle.gi_rule_values.specs.declared.rewrite.Slot.TheVariants.{At, Stands}
 
 -- G_FREEZE x: x
@@ -52,9 +52,6 @@ abbrev pub zext_of_trunc_wider : Flags → Flags → (m w k : ℕ) → RewriteDa
 zext_of_trunc_wider flags more m w k = zext_of_trunc op.GenericAnyExtend flags more m w k
 
 -- G_SEXT of G_TRUNC x: the low m bits of x with their sign
-abbrev pub in_register : (a from : ℕ) → Llt → OperationData
-in_register a from type = plain op.GenericSignExtendInRegister (At a ∷ Stands (operand.Int (pos from)) ∷ []) type
-
 abbrev pub sext_of_trunc_same : Flags → Flags → (m k : ℕ) → RewriteData
 sext_of_trunc_same flags more m k = cast_of_trunc op.GenericSignExtend flags more m k k (in_register 1 m (s k) ∷ []) 2
 

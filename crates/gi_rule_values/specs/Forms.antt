@@ -1,5 +1,5 @@
 -- How rewrites are written: types, operations of one result, numbers and definitions.
-use Rattle.std.specs.Prelude.{ℕ, zero, suc, ◌+◌, List, [], ◌∷◌}
+use Rattle.std.specs.Prelude.{ℕ, zero, suc, pos, ◌+◌, List, [], ◌∷◌}
 use Rattle.gi_llt.specs.declared.Llt.{Llt}
 use Rattle.gi_llt.specs.declared.Llt.TheVariants.{Scalar}
 use Rattle.gi_mir.specs.Data.{no_flags}
@@ -7,6 +7,7 @@ use Rattle.gi_mir.specs.declared.opcode.Opcode.{Opcode}
 use Rattle.gi_mir.specs.declared.opcode.Opcode.TheVariants as op
 use Rattle.gi_mir.specs.declared.operand.Flags.{Flags}
 use Rattle.gi_mir.specs.declared.operand.Operand.TheVariants as operand
+use Rattle.gi_mir.specs.declared.operand.Pred.{Pred}
 use Rattle.gi_rule_values.specs.Data.{DefinitionData, OperationData, RewriteData}
 use Rattle.gi_rule_values.specs.declared.rewrite.Slot.{Slot}
 use Rattle.gi_rule_values.specs.declared.rewrite.Slot.TheVariants.{At, Stands}
@@ -28,6 +29,14 @@ on_one opcode a type = plain opcode (At a ∷ []) type
 
 abbrev pub on_two : Opcode → (a b : ℕ) → Llt → OperationData
 on_two opcode a b type = plain opcode (At a ∷ At b ∷ []) type
+
+-- a comparison of the values at two places
+abbrev pub compare : Pred → (a b : ℕ) → Llt → OperationData
+compare pred a b type = plain op.GenericCompare (Stands (operand.Predicate pred) ∷ At a ∷ At b ∷ []) type
+
+-- the low bits of the value at a place, with their sign
+abbrev pub in_register : (a from : ℕ) → Llt → OperationData
+in_register a from type = plain op.GenericSignExtendInRegister (At a ∷ Stands (operand.Int (pos from)) ∷ []) type
 
 -- a constant of so many bits
 abbrev pub constant : Flags → (bits value : ℕ) → OperationData

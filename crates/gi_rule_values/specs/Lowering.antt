@@ -9,11 +9,8 @@ use Rattle.gi_mir.specs.declared.operand.Operand.TheVariants as operand
 use Rattle.gi_mir.specs.declared.operand.Pred.{Pred}
 use Rattle.gi_mir.specs.declared.operand.Pred.TheVariants.{Ult}
 use Rattle.gi_rule_values.specs.Data.{OperationData, RewriteData}
-use Rattle.gi_rule_values.specs.Forms.{flagged, number, on_one, on_two, parts, plain, rewrite, s, slots_from}
+use Rattle.gi_rule_values.specs.Forms.{compare, flagged, number, on_one, on_two, parts, plain, rewrite, s, slots_from}
 use Rattle.gi_rule_values.specs.declared.rewrite.Slot.TheVariants.{At, Stands}
-
-abbrev pub compare : Pred → (a b : ℕ) → Llt → OperationData
-compare pred a b type = plain op.GenericCompare (Stands (operand.Predicate pred) ∷ At a ∷ At b ∷ []) type
 
 -- a sum with a carry in and a carry out: two sums, of which at most one carries
 abbrev pub lower_uadde : Flags → (n : ℕ) → RewriteData

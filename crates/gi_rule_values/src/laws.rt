@@ -8,6 +8,8 @@ ghost use Rattle.gi_meaning.specs.State.{World};
 ghost use Rattle.gi_mir.specs.Data.{no_flags};
 ghost use Rattle.gi_mir.specs.declared.opcode.Opcode.TheVariants as op;
 ghost use Rattle.gi_mir.specs.declared.operand.Flags.{Flags};
+ghost use Rattle.gi_mir.specs.declared.operand.Pred.TheVariants.{Ult, Slt};
+ghost use Rattle.gi_mir.specs.declared.operand.Pred.{Pred};
 ghost use Rattle.gi_refine.specs.Values.{IsSound};
 ghost use Rattle.gi_rule_values.specs.Artifacts.{anyext_of_trunc_narrower, anyext_of_trunc_same, anyext_of_trunc_wider, freeze_to_copy, sext_of_trunc_narrower, sext_of_trunc_same, sext_of_trunc_wider, trunc_of_trunc, unmerge_of_merge, zext_of_trunc_narrower, zext_of_trunc_same, zext_of_trunc_wider};
 ghost use Rattle.gi_rule_values.specs.Combining.{mul_to_shl, pointer_identity, sub_to_add, udiv_to_lshr, urem_to_mask, right_identity, same_to_zero, cut_extension};
@@ -17,7 +19,7 @@ ghost use Rattle.gi_rule_values.specs.Lowering.{lower_abs, lower_bswap_32, lower
 ghost use Rattle.gi_rule_values.specs.OnValues.{on_values};
 ghost use Rattle.gi_rule_values.specs.Running.{IsSoundByNumbers, IsSoundRewrite, ran};
 ghost use Rattle.gi_rule_values.specs.Selecting.{materialize_constant, select_addi, select_icmp_ule, select_select, select_zext};
-ghost use Rattle.gi_rule_values.specs.Widening.{widen_add, widen_constant, widen_lshr, widen_sdiv};
+ghost use Rattle.gi_rule_values.specs.Widening.{widen_add, widen_and, widen_ashr, widen_condition, widen_constant, widen_ctpop, widen_icmp, widen_icmp_result, widen_implicit_def, widen_lshr, widen_mul, widen_or, widen_sdiv, widen_select, widen_sext_inreg, widen_shl, widen_srem, widen_sub, widen_udiv, widen_urem, widen_xor, widen_cast};
 ghost use Rattle.std.specs.Prelude.{◌≡◌, [], ◌∷◌, ◌<◌, ◌^◌, ◌≤◌, List, Some, ℕ, ℤ, true, negsuc, ◌⊎◌};
 
 /// A rewrite that is sound by numbers is a sound rule on values, in the sense of gi_refine: whatever is made, the root may have
@@ -72,6 +74,26 @@ pub fn widening_is_sound()
     ensures widen_lshr { (x : ℕ) (flags : Flags) (n w : ℕ) → n < w → IsSoundRewrite x (widen_lshr flags n w) }
     ensures widen_sdiv { (x : ℕ) (flags : Flags) (n w : ℕ) → 1 ≤ n → n < w → IsSoundRewrite x (widen_sdiv flags n w) }
     ensures widen_constant { (x : ℕ) (flags : Flags) (n w value : ℕ) → 1 ≤ n → n < w → value < 2 ^ n → IsSoundRewrite x (widen_constant flags n w value) }
+    ensures widen_sub { (x : ℕ) (flags : Flags) (n w : ℕ) → n < w → IsSoundRewrite x (widen_sub flags n w) }
+    ensures widen_mul { (x : ℕ) (flags : Flags) (n w : ℕ) → n < w → IsSoundRewrite x (widen_mul flags n w) }
+    ensures widen_and { (x : ℕ) (flags : Flags) (n w : ℕ) → n < w → IsSoundRewrite x (widen_and flags n w) }
+    ensures widen_or { (x : ℕ) (flags : Flags) (n w : ℕ) → n < w → IsSoundRewrite x (widen_or flags n w) }
+    ensures widen_xor { (x : ℕ) (flags : Flags) (n w : ℕ) → n < w → IsSoundRewrite x (widen_xor flags n w) }
+    ensures widen_shl { (x : ℕ) (flags : Flags) (n w : ℕ) → n < w → IsSoundRewrite x (widen_shl flags n w) }
+    ensures widen_ashr { (x : ℕ) (flags : Flags) (n w : ℕ) → 1 ≤ n → n < w → IsSoundRewrite x (widen_ashr flags n w) }
+    ensures widen_udiv { (x : ℕ) (flags : Flags) (n w : ℕ) → n < w → IsSoundRewrite x (widen_udiv flags n w) }
+    ensures widen_urem { (x : ℕ) (flags : Flags) (n w : ℕ) → n < w → IsSoundRewrite x (widen_urem flags n w) }
+    ensures widen_srem { (x : ℕ) (flags : Flags) (n w : ℕ) → 1 ≤ n → n < w → IsSoundRewrite x (widen_srem flags n w) }
+    ensures widen_ctpop { (x : ℕ) (flags : Flags) (n w : ℕ) → n < w → IsSoundRewrite x (widen_ctpop flags n w) }
+    ensures widen_sext_inreg { (x : ℕ) (flags : Flags) (n w k : ℕ) → k ≤ n → n < w → IsSoundRewrite x (widen_sext_inreg flags n w k) }
+    ensures widen_select { (x : ℕ) (flags : Flags) (c n w : ℕ) → n < w → IsSoundRewrite x (widen_select flags c n w) }
+    ensures widen_condition { (x : ℕ) (flags : Flags) (type : Llt) → IsSoundRewrite x (widen_condition flags x type) }
+    ensures widen_icmp_result { (x : ℕ) (flags : Flags) (pred : Pred) (type : Llt) → IsSoundRewrite x (widen_icmp_result flags pred type x) }
+    ensures widen_icmp { (x : ℕ) (flags : Flags) (pred : Pred) (n w k : ℕ) → 1 ≤ n → n < w → IsSoundRewrite x (widen_icmp flags pred n w k) }
+    ensures widen_anyext { (x : ℕ) (flags : Flags) (m k w : ℕ) → m < k → k < w → IsSoundRewrite x (widen_cast op.GenericAnyExtend flags m k w) }
+    ensures widen_zext { (x : ℕ) (flags : Flags) (m k w : ℕ) → m < k → k < w → IsSoundRewrite x (widen_cast op.GenericZeroExtend flags m k w) }
+    ensures widen_sext { (x : ℕ) (flags : Flags) (m k w : ℕ) → m < k → k < w → IsSoundRewrite x (widen_cast op.GenericSignExtend flags m k w) }
+    ensures widen_implicit_def { (x : ℕ) (flags : Flags) (n w : ℕ) → IsSoundRewrite x (widen_implicit_def flags n w) }
 {}
 
 /// Rules of the legaliser that make an operation of others.
@@ -143,6 +165,27 @@ pub fn widening_runs()
     ensures widen_lshr { ran 32 (widen_lshr no_flags 8 32) (200 ∷ 3 ∷ []) ≡ Some (25 ∷ []) }
     ensures widen_sdiv { ran 32 (widen_sdiv no_flags 8 32) (200 ∷ 3 ∷ []) ≡ Some (238 ∷ []) }
     ensures widen_constant { ran 32 (widen_constant no_flags 8 32 200) [] ≡ Some (200 ∷ []) }
+    ensures widen_sub { ran 32 (widen_sub no_flags 8 32) (3 ∷ 5 ∷ []) ≡ Some (254 ∷ []) }
+    ensures widen_mul { ran 32 (widen_mul no_flags 8 32) (45 ∷ 8 ∷ []) ≡ Some (104 ∷ []) }
+    ensures widen_and { ran 32 (widen_and no_flags 8 32) (202 ∷ 108 ∷ []) ≡ Some (72 ∷ []) }
+    ensures widen_or { ran 32 (widen_or no_flags 8 32) (202 ∷ 108 ∷ []) ≡ Some (238 ∷ []) }
+    ensures widen_xor { ran 32 (widen_xor no_flags 8 32) (202 ∷ 108 ∷ []) ≡ Some (166 ∷ []) }
+    ensures widen_shl { ran 32 (widen_shl no_flags 8 32) (200 ∷ 3 ∷ []) ≡ Some (64 ∷ []) }
+    ensures widen_ashr { ran 32 (widen_ashr no_flags 8 32) (200 ∷ 3 ∷ []) ≡ Some (249 ∷ []) }
+    ensures widen_udiv { ran 32 (widen_udiv no_flags 8 32) (200 ∷ 3 ∷ []) ≡ Some (66 ∷ []) }
+    ensures widen_urem { ran 32 (widen_urem no_flags 8 32) (200 ∷ 3 ∷ []) ≡ Some (2 ∷ []) }
+    ensures widen_srem { ran 32 (widen_srem no_flags 8 32) (200 ∷ 3 ∷ []) ≡ Some (254 ∷ []) }
+    ensures widen_ctpop { ran 32 (widen_ctpop no_flags 8 32) (202 ∷ []) ≡ Some (4 ∷ []) }
+    ensures widen_sext_inreg { ran 32 (widen_sext_inreg no_flags 16 32 8) (968 ∷ []) ≡ Some (65480 ∷ []) }
+    ensures widen_select { ran 32 (widen_select no_flags 1 8 32) (1 ∷ 200 ∷ 100 ∷ []) ≡ Some (200 ∷ []) }
+    ensures widen_condition { ran 32 (widen_condition no_flags 32 (s 8)) (0 ∷ 200 ∷ 100 ∷ []) ≡ Some (100 ∷ []) }
+    ensures widen_icmp_result { ran 32 (widen_icmp_result no_flags Ult (s 8) 32) (100 ∷ 200 ∷ []) ≡ Some (1 ∷ []) }
+    ensures widen_icmp { ran 32 (widen_icmp no_flags Slt 8 32 1) (200 ∷ 100 ∷ []) ≡ Some (1 ∷ []) }
+    ensures widen_icmp_unsigned { ran 32 (widen_icmp no_flags Ult 8 32 1) (200 ∷ 100 ∷ []) ≡ Some (0 ∷ []) }
+    ensures widen_anyext { ran 32 (widen_cast op.GenericAnyExtend no_flags 8 16 32) (200 ∷ []) ≡ Some (65480 ∷ []) }
+    ensures widen_zext { ran 32 (widen_cast op.GenericZeroExtend no_flags 8 16 32) (200 ∷ []) ≡ Some (200 ∷ []) }
+    ensures widen_sext { ran 32 (widen_cast op.GenericSignExtend no_flags 8 16 32) (200 ∷ []) ≡ Some (65480 ∷ []) }
+    ensures widen_implicit_def { ran 32 (widen_implicit_def no_flags 8 32) [] ≡ Some (255 ∷ []) }
 {}
 
 /// What is made, run on numbers, gives what the root gives there: with all free bits set.
