@@ -1,0 +1,13 @@
+pub mod Artifacts
+pub mod ByNumbers
+pub mod Combining
+pub mod Groups
+pub mod Lists
+pub mod Lowering
+pub mod Materialised
+pub mod Numbers
+pub mod Ones
+pub mod Parts
+pub mod Selecting
+pub mod Widening
+pub mod WideningMore

@@ -1,0 +1,26 @@
+use Rattle.gi_rule_values.proofs.Combining.{add_zero_sound, ashr_zero_sound, cut_anyext_sound, cut_sext_sound, cut_zext_sound, lshr_zero_sound, mul_one_sound, mul_to_shl_sound, or_zero_sound, pointer_identity_sound, sdiv_one_sound, shl_zero_sound, sub_same_sound, sub_to_add_sound, sub_zero_sound, udiv_one_sound, udiv_to_lshr_sound, urem_to_mask_sound, xor_same_sound, xor_zero_sound}
+use Rattle.gi_rule_values.proofs.laws.combining_is_sound.Goals as goal
+
+pub returns : goal.returns
+returns c = record {
+  mul_to_shl = mul_to_shl_sound;
+  sub_to_add = sub_to_add_sound;
+  udiv_to_lshr = udiv_to_lshr_sound;
+  urem_to_mask = urem_to_mask_sound;
+  add_zero = add_zero_sound;
+  sub_zero = sub_zero_sound;
+  or_zero = or_zero_sound;
+  xor_zero = xor_zero_sound;
+  shl_zero = shl_zero_sound;
+  lshr_zero = lshr_zero_sound;
+  ashr_zero = ashr_zero_sound;
+  mul_one = mul_one_sound;
+  udiv_one = udiv_one_sound;
+  sdiv_one = sdiv_one_sound;
+  pointer_identity = pointer_identity_sound;
+  sub_same = sub_same_sound;
+  xor_same = xor_same_sound;
+  cut_anyext = cut_anyext_sound;
+  cut_zext = cut_zext_sound;
+  cut_sext = cut_sext_sound;
+}

@@ -1,0 +1,26 @@
+use Rattle.std.proofs.Common.{refl}
+use Rattle.gi_rule_values.proofs.laws.combining_runs.Goals as goal
+
+pub returns : goal.returns
+returns c = record {
+  mul_to_shl = refl;
+  sub_to_add = refl;
+  udiv_to_lshr = refl;
+  urem_to_mask = refl;
+  add_zero = refl;
+  sub_zero = refl;
+  or_zero = refl;
+  xor_zero = refl;
+  shl_zero = refl;
+  lshr_zero = refl;
+  ashr_zero = refl;
+  mul_one = refl;
+  udiv_one = refl;
+  sdiv_one = refl;
+  pointer_identity = refl;
+  sub_same = refl;
+  xor_same = refl;
+  cut_anyext = refl;
+  cut_zext = refl;
+  cut_sext = refl;
+}

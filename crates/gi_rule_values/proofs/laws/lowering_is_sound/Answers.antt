@@ -1,0 +1,17 @@
+use Rattle.gi_rule_values.proofs.Lowering.{lower_abs_sound, lower_bswap_32_sound, lower_bswap_64_sound, lower_ctpop_32_sound, lower_ctpop_64_sound, lower_uadde_sound, narrow_and_sound, narrow_or_sound, narrow_xor_sound}
+use Rattle.gi_rule_values.proofs.Parts.{lower_merge_sound}
+use Rattle.gi_rule_values.proofs.laws.lowering_is_sound.Goals as goal
+
+pub returns : goal.returns
+returns c = record {
+  lower_uadde = lower_uadde_sound;
+  lower_abs = lower_abs_sound;
+  narrow_and = narrow_and_sound;
+  narrow_or = narrow_or_sound;
+  narrow_xor = narrow_xor_sound;
+  lower_bswap_32 = lower_bswap_32_sound;
+  lower_bswap_64 = lower_bswap_64_sound;
+  lower_ctpop_32 = lower_ctpop_32_sound;
+  lower_ctpop_64 = lower_ctpop_64_sound;
+  lower_merge = lower_merge_sound;
+}

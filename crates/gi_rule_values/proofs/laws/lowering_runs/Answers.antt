@@ -1,0 +1,19 @@
+use Rattle.std.proofs.Common.{refl}
+use Rattle.gi_rule_values.proofs.laws.lowering_runs.Goals as goal
+
+pub returns : goal.returns
+returns c = record {
+  lower_uadde = refl;
+  lower_abs = refl;
+  lower_abs_least = refl;
+  narrow_and = refl;
+  narrow_or = refl;
+  narrow_xor = refl;
+  lower_bswap_32 = refl;
+  lower_bswap_64 = refl;
+  lower_ctpop_32 = refl;
+  lower_ctpop_32_all = refl;
+  lower_ctpop_64 = refl;
+  lower_ctpop_64_all = refl;
+  lower_merge = refl;
+}

@@ -1,0 +1,58 @@
+-- Rules of the combiners as rewrites, at types of n bits. The flags are those of the root, and of the definition that was
+-- looked at. Constants are numbers below 2 ^ n.
+use Rattle.std.specs.Prelude.{ℕ, ◌-◌, ◌^◌, [], ◌∷◌}
+use Rattle.gi_llt.specs.Signs.{negated}
+use Rattle.gi_llt.specs.declared.Llt.TheVariants.{Pointer}
+use Rattle.gi_mir.specs.declared.opcode.Opcode.{Opcode}
+use Rattle.gi_mir.specs.declared.opcode.Opcode.TheVariants as op
+use Rattle.gi_mir.specs.declared.operand.Flags.{Flags}
+use Rattle.gi_rule_values.specs.Data.{OperationData, RewriteData}
+use Rattle.gi_rule_values.specs.Forms.{constant, flagged, holds, number, on_one, on_two, rewrite, s}
+use Rattle.gi_rule_values.specs.declared.rewrite.Slot.TheVariants.{At}
+
+-- two registers of n bits, the second a constant
+abbrev pub by_constant : Flags → Flags → Opcode → (n c : ℕ) → OperationData → RewriteData
+by_constant flags more root n c made =
+    rewrite (s n ∷ s n ∷ []) (holds 1 (constant more n c) ∷ []) (flagged flags root (At 0 ∷ At 1 ∷ []) (s n ∷ [])) (made ∷ []) 2
+
+-- the same with a constant of its own in what is made
+abbrev pub by_another : Flags → Flags → Opcode → (n c : ℕ) → (another : ℕ) → Opcode → RewriteData
+by_another flags more root n c another made =
+    rewrite (s n ∷ s n ∷ []) (holds 1 (constant more n c) ∷ []) (flagged flags root (At 0 ∷ At 1 ∷ []) (s n ∷ []))
+    (number n another ∷ on_two made 0 2 (s n) ∷ []) 3
+
+-- G_MUL x, 2 ^ k: G_SHL x, k
+abbrev pub mul_to_shl : Flags → Flags → (n k : ℕ) → RewriteData
+mul_to_shl flags more n k = by_another flags more op.GenericMultiply n (2 ^ k) k op.GenericShiftLeft
+
+-- G_UDIV x, 2 ^ k: G_LSHR x, k
+abbrev pub udiv_to_lshr : Flags → Flags → (n k : ℕ) → RewriteData
+udiv_to_lshr flags more n k = by_another flags more op.GenericUnsignedDivide n (2 ^ k) k op.GenericLogicalShiftRight
+
+-- G_SUB x, c: G_ADD x, -c
+abbrev pub sub_to_add : Flags → Flags → (n c : ℕ) → RewriteData
+sub_to_add flags more n c = by_another flags more op.GenericSubtract n c (negated n c) op.GenericAdd
+
+-- G_UREM x, 2 ^ k: G_AND x, 2 ^ k - 1
+abbrev pub urem_to_mask : Flags → Flags → (n k : ℕ) → RewriteData
+urem_to_mask flags more n k = by_another flags more op.GenericUnsignedRemainder n (2 ^ k) (2 ^ k - 1) op.GenericAnd
+
+-- x with 0, or with 1: x
+abbrev pub right_identity : Opcode → Flags → Flags → (n c : ℕ) → RewriteData
+right_identity root flags more n c = by_constant flags more root n c (on_one op.Copy 0 (s n))
+
+-- G_PTR_ADD p, 0: p
+abbrev pub pointer_identity : Flags → Flags → (x : ℕ) → RewriteData
+pointer_identity flags more x =
+    rewrite (Pointer ∷ s x ∷ []) (holds 1 (constant more x 0) ∷ []) (flagged flags op.GenericPointerAdd (At 0 ∷ At 1 ∷ []) (Pointer ∷ []))
+    (on_one op.Copy 0 Pointer ∷ []) 2
+
+-- G_SUB x, x and G_XOR x, x: 0
+abbrev pub same_to_zero : Opcode → Flags → (n : ℕ) → RewriteData
+same_to_zero root flags n = rewrite (s n ∷ []) [] (flagged flags root (At 0 ∷ At 0 ∷ []) (s n ∷ [])) (number n 0 ∷ []) 1
+
+-- G_TRUNC of an extension of x from n bits to m, back to n bits: x
+abbrev pub cut_extension : Opcode → Flags → Flags → (n m : ℕ) → RewriteData
+cut_extension extend flags more n m =
+    rewrite (s n ∷ s m ∷ []) (holds 1 (flagged more extend (At 0 ∷ []) (s m ∷ [])) ∷ []) (flagged flags op.GenericTruncate (At 1 ∷ []) (s n ∷ []))
+    (on_one op.Copy 0 (s n) ∷ []) 2
