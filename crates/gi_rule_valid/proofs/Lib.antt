@@ -1,3 +1,5 @@
 pub mod InPlace
 pub mod Lists
+pub mod Origins
 pub mod Targets
+pub mod Typed

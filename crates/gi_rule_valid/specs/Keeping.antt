@@ -28,7 +28,19 @@ is_fixed (operand.Constant bits value) = true
 is_fixed (operand.Predicate pred) = true
 is_fixed _ = false
 
--- a place before this one, or such an operand
+-- a number or a predicate
+abbrev pub is_number : Operand → Bool
+is_number (operand.Int number) = true
+is_number (operand.Constant bits value) = true
+is_number (operand.Predicate pred) = true
+is_number _ = false
+
+-- what is looked at: a place before this one, or such an operand
+abbrev pub is_asked : (count : ℕ) → Slot → Bool
+is_asked count (At place) = nat_lt place count
+is_asked count (Stands o) = is_number o
+
+-- what is made may read `$x0` too
 abbrev pub is_taken : (count : ℕ) → Slot → Bool
 is_taken count (At place) = nat_lt place count
 is_taken count (Stands o) = is_fixed o
@@ -45,7 +57,7 @@ places_taken (Stands o ∷ slots) = places_taken slots
 abbrev pub are_origins : (known : List ℕ) → List DefinitionData → (count : ℕ) → (inputs : List ℕ) → Bool
 are_origins known [] count inputs = list_all (λ place. is_in place known) inputs
 are_origins known (d ∷ ds) count inputs =
-    computes d.operation.op && list_all (is_taken count) d.operation.slots && (length d.results == length d.operation.types)
+    computes d.operation.op && list_all (is_asked count) d.operation.slots && (length d.results == length d.operation.types)
     && list_all (λ place. nat_lt place count) d.results
     && option_map_or (λ place. is_in place known) (slice_get d.results 0) false
     && are_origins (known ++ places_taken d.operation.slots) ds count inputs
@@ -111,7 +123,7 @@ are_results types count _ _ = false
 abbrev pub keeps : (x : ℕ) → RewriteData → Bool
 keeps x rewrite =
     computes rewrite.root.op && nat_lt 0 (length rewrite.root.types)
-    && list_all (is_taken (length rewrite.inputs)) rewrite.root.slots
+    && list_all (is_asked (length rewrite.inputs)) rewrite.root.slots
     && are_origins (places_taken rewrite.root.slots) rewrite.definitions (length rewrite.inputs) (places_from 0 rewrite.inputs)
     && are_placed (length rewrite.inputs) rewrite.made
     && are_met x rewrite.inputs rewrite.made
