@@ -3,3 +3,4 @@ pub mod Lists
 pub mod Origins
 pub mod Targets
 pub mod Typed
+pub mod Valid
