@@ -36,7 +36,7 @@ use Rattle.gi_soundness.proofs.Scaled.{kind_new}
 use Rattle.gi_soundness.proofs.Typed.{in_list, kind_kept, no_kind_in, origin_used, other_alike}
 use Rattle.gi_soundness.proofs.Valid.{great_of, known_of, stays_valid}
 use Rattle.gi_rule_values.specs.Data.{OperationData, RewriteData}
-use Rattle.gi_rule_valid.specs.Keeping.{all_types, are_met, are_origins, are_placed, are_results, has_type, is_asked, is_quiet, is_taken, keeps, places_from, places_taken}
+use Rattle.gi_rule_valid.specs.Keeping.{all_types, are_met, gives_types, are_origins, are_placed, are_results, has_type, is_asked, is_quiet, is_taken, keeps, places_from, places_taken}
 use Rattle.gi_rule_valid.specs.Using.{AreOfTypes, FitsAt, UseData, all_instrs_for, all_registers, instr_for, kind_in, made_of, next_for, operand_for, place_for, register_at, registers_for, rewritten_at, target_at, targets_of}
 use Rattle.gi_rule_valid.proofs.InPlace.{is_replaced_by, replacing}
 use Rattle.gi_rule_valid.proofs.Lists.{IsListed, all_listed, among, as_many, defines_are, flat, flat_registers, flat_types, kind_at, kinds_are, placed_one, results_are, slots_none}
@@ -96,11 +96,6 @@ within (x ∷ xs) (suc k) ty h = omega (arith, within xs k ty h)
 pub typed_kind : (banked : Bool) (ty : Llt) → type_of_kind (kind_with banked ty) ≡ Some ty
 typed_kind true ty = refl
 typed_kind false ty = refl
-
--- registers have types in this phase
-abbrev pub gives_types : Phase → Bool
-gives_types Untyped = false
-gives_types _ = true
 
 pub type_of_register : (phase : Phase) (g : FunctionData) (r : ℕ) (banked : Bool) (ty : Llt) → gives_types phase ≡ true → kind_of g r ≡ kind_with banked ty → type_in phase g r ≡ Some ty
 type_of_register Typed g r banked ty h is = ap type_of_kind is ∙ typed_kind banked ty

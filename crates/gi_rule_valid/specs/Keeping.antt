@@ -12,7 +12,7 @@ use Rattle.gi_mir.specs.declared.operand.Operand.{Operand}
 use Rattle.gi_mir.specs.declared.operand.Operand.TheVariants as operand
 use Rattle.gi_soundness.specs.Rules.{computes, is_in}
 use Rattle.gi_valid.specs.Faults.{is_division, is_product}
-use Rattle.gi_valid.specs.Typing.{unsuited}
+use Rattle.gi_valid.specs.Typing.{Phase, Untyped, unsuited}
 use Rattle.gi_rule_values.specs.Data.{DefinitionData, OperationData, RewriteData}
 use Rattle.gi_rule_values.specs.declared.rewrite.Slot.{Slot}
 use Rattle.gi_rule_values.specs.declared.rewrite.Slot.TheVariants.{At, Stands}
@@ -128,3 +128,10 @@ keeps x rewrite =
     && are_placed (length rewrite.inputs) rewrite.made
     && are_met x rewrite.inputs rewrite.made
     && are_results (all_types rewrite.inputs rewrite.made) (length rewrite.inputs) rewrite.results rewrite.root.types
+
+-- ══ Phases ══
+
+-- registers have types in this phase
+abbrev pub gives_types : Phase → Bool
+gives_types Untyped = false
+gives_types _ = true
