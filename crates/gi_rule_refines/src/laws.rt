@@ -1,0 +1,1 @@
+//! What is promised of functions in which sound rewrites are made.
