@@ -212,15 +212,15 @@ places_in (t ∷ types) place p least most = by (p == place) refl (λ l. places_
     by false so rest = rest (grind (arith, nat_tests, so, least))
 
 -- what a definition asks
-record AsksOrigin (known : List ℕ) (d : DefinitionData) (ds : List DefinitionData) (count : ℕ) (inputs : List ℕ) : Type 0 where
-  computes : computes d.operation.op ≡ true
-  slots : list_all (is_asked count) d.operation.slots ≡ true
-  many : length d.results ≡ length d.operation.types
-  below : list_all (λ place. nat_lt place count) d.results ≡ true
-  read : option_map_or (λ place. is_in place known) (slice_get d.results 0) false ≡ true
-  rest : are_origins (known ++ places_taken d.operation.slots) ds count inputs ≡ true
+pub record AsksOrigin (known : List ℕ) (d : DefinitionData) (ds : List DefinitionData) (count : ℕ) (inputs : List ℕ) : Type 0 where
+  pub computes : computes d.operation.op ≡ true
+  pub slots : list_all (is_asked count) d.operation.slots ≡ true
+  pub many : length d.results ≡ length d.operation.types
+  pub below : list_all (λ place. nat_lt place count) d.results ≡ true
+  pub read : option_map_or (λ place. is_in place known) (slice_get d.results 0) false ≡ true
+  pub rest : are_origins (known ++ places_taken d.operation.slots) ds count inputs ≡ true
 
-asks_origin : (known : List ℕ) (d : DefinitionData) (ds : List DefinitionData) (count : ℕ) (inputs : List ℕ) → are_origins known (d ∷ ds) count inputs ≡ true → AsksOrigin known d ds count inputs
+pub asks_origin : (known : List ℕ) (d : DefinitionData) (ds : List DefinitionData) (count : ℕ) (inputs : List ℕ) → are_origins known (d ∷ ds) count inputs ≡ true → AsksOrigin known d ds count inputs
 asks_origin known d ds count inputs h =
     let A : Bool = computes d.operation.op in
     let B : Bool = list_all (is_asked count) d.operation.slots in
@@ -239,13 +239,13 @@ map_length g [] = refl
 map_length g (x ∷ xs) = ap suc (map_length g xs)
 
 -- the first result of a definition
-record HasFirst (known results : List ℕ) : Type 0 where
-  place : ℕ
-  is : option_map_or (λ p. p) (slice_get results 0) 0 ≡ place
-  inside : is_in place known ≡ true
-  some : nat_lt 0 (length results) ≡ true
+pub record HasFirst (known results : List ℕ) : Type 0 where
+  pub place : ℕ
+  pub is : option_map_or (λ p. p) (slice_get results 0) 0 ≡ place
+  pub inside : is_in place known ≡ true
+  pub some : nat_lt 0 (length results) ≡ true
 
-has_first : (known results : List ℕ) → option_map_or (λ place. is_in place known) (slice_get results 0) false ≡ true → HasFirst known results
+pub has_first : (known results : List ℕ) → option_map_or (λ place. is_in place known) (slice_get results 0) false ≡ true → HasFirst known results
 has_first known [] h = cc
 has_first known (q ∷ results) h = record { place = q; is = refl; inside = h; some = grind (arith, nat_tests) }
 
