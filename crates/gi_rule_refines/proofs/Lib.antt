@@ -1,3 +1,4 @@
 pub mod Fresh
 pub mod Known
+pub mod Refined
 pub mod Shown
