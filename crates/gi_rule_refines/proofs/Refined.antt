@@ -2,6 +2,9 @@
 use Rattle.std.proofs.Common.{◌≡◌, ◌⊎◌, ℕ, zero, suc, ◌+◌, ◌-◌, ◌≤◌, ◌<◌, Bool, true, false, cond, not, ◌&&◌, ◌||◌, ◌==◌, nat_lt, nat_le, List, [], ◌∷◌, ◌++◌, Option, Some, None, length, map, slice_get, inl, inr, ⊎_elim, refl, sym, ap, ap₂, ◌∙◌, subst, arith, true≢false, le-leb, leb-false, ltb-true}
 use Rattle.std.proofs.lemmas.Bool.{and_parts, and_from, or_cases, or_left, or_right, eqb-true, eq-eqb, not-true, false_from_ne_true}
 use Rattle.std.specs.List.{list_all, list_any}
+use Rattle.std.specs.Option.{option_map_or}
+use Rattle.std.specs.Prelude.{pos}
+use Rattle.std.proofs.lemmas.Bool.Decides.{nat_tests}
 use Rattle.gi_llt.specs.Llt.{width_of}
 use Rattle.gi_llt.specs.declared.Llt.{Llt}
 use Rattle.gi_mir.specs.Data.{InstrData, FunctionData}
@@ -12,13 +15,14 @@ use Rattle.gi_mir.proofs.Located.{id_in-live, id_in-within}
 use Rattle.gi_meaning.specs.Runs.{after_phis, is_among, is_phi, phis_of, setting_of, width_of_kind}
 use Rattle.gi_meaning.specs.State.{IsWorld, State, World, outside_of}
 use Rattle.gi_refine.specs.Agreement.{AgreeAt, setting}
-use Rattle.gi_refine.specs.Lifting.{AreThere, HasValue, IsKnown, IsPlaced, Placing, all_covered, all_grown, are_all_fresh, covers, is_kept, takes}
+use Rattle.gi_refine.specs.Lifting.{AreThere, HasValue, IsKnown, IsPlaced, Placing, all_covered, all_grown, are_all_fresh, covers, fixed_argument, is_kept, takes}
 use Rattle.gi_refine.specs.OnePlace.{only_virtual}
 use Rattle.gi_refine.specs.Reached.{IsReached}
 use Rattle.gi_refine.specs.Refinement.{RefinesUnchecked}
 use Rattle.gi_refine.specs.Replacing.{Replacement}
 use Rattle.gi_refine.specs.RuleUse.{IsRuleUse, width_in}
-use Rattle.gi_refine.specs.Values.{IsSound, Slot as Place}
+use Rattle.gi_meaning.specs.Argument.{Argument, Number}
+use Rattle.gi_refine.specs.Values.{Fixed, IsSound, Slot as Place}
 use Rattle.gi_refine.proofs.Covering.{covered_by}
 use Rattle.gi_refine.proofs.Fitted.{fit_sized}
 use Rattle.gi_refine.proofs.RulesUsed.{use_followed}
@@ -29,6 +33,7 @@ use Rattle.gi_pattern.proofs.InPlace.{blocks-replaced}
 use Rattle.gi_lifting.specs.Uses.{back_of, front_of}
 use Rattle.gi_lifting.proofs.Used.{entry-of, get-within, split-at}
 use Rattle.gi_valid.specs.Typing.{Phase}
+use Rattle.gi_valid.proofs.Single.{often}
 use Rattle.gi_soundness.specs.Conditions.{is_plain, is_plain_operand}
 use Rattle.gi_soundness.specs.Rewriting.{IsRewritten}
 use Rattle.gi_soundness.specs.Rules.{is_in}
@@ -48,7 +53,7 @@ use Rattle.gi_rule_values.specs.Data.{OperationData, RewriteData}
 use Rattle.gi_rule_values.specs.OnValues.{kept_from, on_values, operation_on_values, slot_on_values}
 use Rattle.gi_rule_values.specs.declared.rewrite.Slot.{Slot}
 use Rattle.gi_rule_values.specs.declared.rewrite.Slot.TheVariants.{At, Stands}
-use Rattle.gi_rule_valid.specs.Keeping.{is_taken, places_from, places_taken}
+use Rattle.gi_rule_valid.specs.Keeping.{is_fixed, is_taken, places_from, places_taken}
 use Rattle.gi_rule_valid.specs.Using.{AreOfTypes, UseData, all_registers, kind_in, made_of, register_at, rewritten_at, targets_of}
 use Rattle.gi_rule_valid.proofs.InPlace.{is_replaced_by}
 use Rattle.gi_rule_valid.proofs.Lists.{among, as_many, flat, flat_registers, flat_types}
@@ -57,7 +62,7 @@ use Rattle.gi_rule_valid.proofs.Targets.{among_at}
 use Rattle.gi_rule_valid.proofs.Valid.{IsKeeping, IsMadeResult, IsSeen, IsUse, all_pass, each_once, input_apart, input_kind, made_defines, made_result, new_kind, new_or_result, new_registers, result_kinds, rewriting_at, root_of, seen}
 use Rattle.gi_rule_refines.specs.Computing.{gives, gives_all}
 use Rattle.gi_rule_refines.proofs.Fresh.{StandsAt, all_fresh, all_grown_is, among_is, flat_is, get_behind, kept_target, stands_at}
-use Rattle.gi_rule_refines.proofs.Known.{Moment, TellsAll, ahead, tells_all, whole}
+use Rattle.gi_rule_refines.proofs.Known.{Moment, TellsAll, ahead, result_widths, tells_all, whole}
 use Rattle.gi_rule_refines.proofs.Shown.{all_pure, all_show, one_pure, shows_one, wide_kind}
 
 -- ══ The test ══
@@ -177,3 +182,174 @@ all_covers x phase names w f id u c =
   where
     kept : ℕ → Bool
     kept r = is_kept (all_grown u.inputs (u.results ∷ [])) (all_grown u.inputs (made_registers f u)) (kept_from (length u.rewrite.inputs) u.rewrite.results) r
+
+-- ══ Placed ══
+
+pub placed : (x : ℕ) (phase : Phase) (names : List (List ℕ)) (f : FunctionData) (id : ℕ) (u : UseData) → IsSoundUse x phase names f id u → (w : World)
+    → (c : IsUse x phase f id u) → IsPlaced x names (width_in x f) (width_in x (rewritten_at f id u)) w (on_values x names w u.rewrite) (placing_of f u) (only_virtual (is_new_in f)) (only_virtual (is_new_in f))
+    ((id, root_of f u c.fits.line) ∷ []) (with_ids f.next_id (made_of f id u))
+placed x phase names f id u a w c =
+    let s = seen x phase f id u c in
+    let taken = asked_taken (length u.rewrite.inputs) u.rewrite.root.slots c.keeps.slots in
+    let old_wide : map (width_in x f) u.results ≡ map (width_of x) u.rewrite.root.types = results_wide s in
+    record {
+      old_pure = and_from _ true (one_pure x names w u.rewrite.root a.gives.root) refl;
+      new_pure = all_pure x names w u.rewrite.made a.gives.made;
+      old_shown = (shows_one x names (width_in x f) w (kind_in f) u.inputs u.results (length u.rewrite.inputs) u.rewrite.root c.fits.line s.many c.fits.many taken old_wide, tt);
+      new_shown = all_show x names (width_in x (rewritten_at f id u)) w (kind_in f) (line_of f id) (targets_of u) u.inputs (length u.inputs) f.next_reg f.next_id u.rewrite.made refl s.placed (made_wide x phase f id u c);
+      old_fresh = all_fresh u.inputs (u.results ∷ []) (λ r there. apart r (sym (ap (among r) (append_nothing u.results)) ∙ there)) (λ r. subst (λ l. often r l ≤ 1) (sym (append_nothing u.results)) (s.once r));
+      new_fresh = all_fresh u.inputs (made_registers f u)
+          (λ r there. ⊎_elim (λ more. false_from_ne_true (among r u.inputs) (λ inside. over f.next_reg r more (input_place x phase f id u c r inside).1)) (λ result. apart r result)
+          (new_or_result f id u c.fits.line r s (sym (among_flat f u r) ∙ there)))
+          (λ r. subst (λ l. often r l ≤ 1) (sym (flat_registers (targets_of u) (length u.inputs) f.next_reg u.rewrite.made)) (each_once f id u c.fits.line r s));
+      old_widths = inputs_wide x f u.inputs u.rewrite.inputs c.fits.types;
+      new_widths = same_widths x f (rewritten_at f id u) u.inputs (λ r inside. old_kind x phase f id u c r (input_place x phase f id u c r inside).1) ∙ inputs_wide x f u.inputs u.rewrite.inputs c.fits.types;
+      seen = none_seen (is_new_in f) u.inputs (λ r there. had_is_old f r (input_place x phase f id u c r (sym (among_is r u.inputs) ∙ there)).1);
+      covered = covered_by (only_virtual (is_new_in f)) (only_virtual (is_new_in f)) (on_values x names w u.rewrite) (placing_of f u) (all_covers x phase names w f id u c) (λ p h. h);
+    }
+  where
+    apart : (r : ℕ) → among r u.results ≡ true → among r u.inputs ≡ false
+    apart r result = false_from_ne_true (among r u.inputs) (λ inside. true≢false (sym result ∙ (input_place x phase f id u c r inside).0))
+
+    results_wide : IsSeen f id u c.fits.line → map (width_in x f) u.results ≡ map (width_of x) u.rewrite.root.types
+    results_wide s = result_widths x phase f c.valid id u.inputs u.results u.rewrite.root c.fits.line (length u.rewrite.inputs) s.there (asked_taken (length u.rewrite.inputs) u.rewrite.root.slots c.keeps.slots) c.fits.many
+
+-- ══ Known ══
+
+-- what the root takes is among what its operation takes
+taken_is : (x : ℕ) (names : List (List ℕ)) (w : World) (count k : ℕ) (slots : List Slot) → list_all (is_taken count) slots ≡ true → is_in k (places_taken slots) ≡ true → takes k (map (slot_on_values x names w) slots) ≡ true
+taken_is x names w count k [] h inside = cc
+taken_is x names w count k (At p ∷ slots) h inside =
+    let each = and_parts (nat_lt p count) (list_all (is_taken count) slots) h in
+    ⊎_elim (λ now. or_left (p == k) (takes k (map (slot_on_values x names w) slots)) (eq-eqb p k (sym (eqb-true k p now))))
+    (λ later. or_right (p == k) (takes k (map (slot_on_values x names w) slots)) (taken_is x names w count k slots each.1 later)) (or_cases (k == p) (is_in k (places_taken slots)) inside)
+taken_is x names w count k (Stands o ∷ slots) h inside =
+    let each = and_parts (is_fixed o) (list_all (is_taken count) slots) h in
+    by (option_map_or Fixed (fixed_argument (setting x names (λ r. x)) w o) (Fixed (Number (pos 0)))) (fixed_only (fixed_argument (setting x names (λ r. x)) w o)) (taken_is x names w count k slots each.1 inside)
+  where
+    fixed_only : (a : Option Argument) → (b : Argument) × (option_map_or Fixed a (Fixed (Number (pos 0))) ≡ Fixed b)
+    fixed_only None = (Number (pos 0), refl)
+    fixed_only (Some b) = (b, refl)
+
+    by : (p : Place) → (b : Argument) × (p ≡ Fixed b) → takes k (map (slot_on_values x names w) slots) ≡ true → takes k (p ∷ map (slot_on_values x names w) slots) ≡ true
+    by p only h = subst (λ (q : Place). takes k (q ∷ map (slot_on_values x names w) slots) ≡ true) (sym only.1) h
+
+inputs_there : (slots : List Place) (values : ℕ → Option ℕ) (k : ℕ) (rs : List ℕ) → ((j : ℕ) → j < length rs → takes (k + j) slots ≡ false → HasValue (values (register_at rs j))) → AreThere slots values k rs
+inputs_there slots values k [] each = tt
+inputs_there slots values k (r ∷ rs) each = (
+  (λ other. each 0 (omega arith) (let none : k + 0 ≡ k = omega arith in ap (λ j. takes j slots) none ∙ other)),
+  inputs_there slots values (suc k) rs (λ j below other. each (suc j) (omega (arith, below)) (let one : k + suc j ≡ suc k + j = omega arith in ap (λ i. takes i slots) one ∙ other)),
+)
+
+pub known_there : (x : ℕ) (phase : Phase) (names : List (List ℕ)) (f : FunctionData) (id : ℕ) (u : UseData) → IsSoundUse x phase names f id u → (w : World) → IsWorld x w → (c : IsUse x phase f id u) → (state : State)
+    → IsReached (setting_of x names f) w f.blocks (home_of f id) (after_phis (front_of f id)) state → IsKnown (setting_of x names f) w (on_values x names w u.rewrite) u.inputs state
+known_there x phase names f id u a w is_world c state reached = record {
+  there = inputs_there (map (slot_on_values x names w) u.rewrite.root.slots) state.values 0 u.inputs
+      (λ j below other.
+      let none : 0 + j ≡ j = omega arith in
+      ⊎_elim (λ taken. absurd (true≢false (sym (taken_is x names w (length u.rewrite.inputs) j u.rewrite.root.slots (asked_taken (length u.rewrite.inputs) u.rewrite.root.slots c.keeps.slots) taken) ∙ sym (ap (λ i. takes i (map (slot_on_values x names w) u.rewrite.root.slots)) none) ∙ other))) (λ has. has)
+      (told.there j (place_inside u.rewrite.inputs 0 j (omega arith) (subst (λ n. j < 0 + n) (seen x phase f id u c).many (omega (arith, below))))));
+  sized = fit_sized (setting_of x names f) state (a.fit.by w is_world (home_of f id) (home_block f id) (after_phis (front_of f id)) ((id, root_of f u c.fits.line) ∷ back_of f id) (root_there f id c.live) splits state reached) u.inputs;
+  facts = λ env reads. told.facts (outside_of state) env reads;
+}
+  where
+    other : is_phi (root_of f u c.fits.line) ≡ false
+    other = pure_is_no_phi (root_of f u c.fits.line) (seen x phase f id u c).pure
+
+    splits : after_phis (home_block f id).instrs ≡ after_phis (front_of f id) ++ (id, root_of f u c.fits.line) ∷ back_of f id
+    splits = root_splits f id (root_of f u c.fits.line) c.live c.fits.root other
+
+    t : Moment x names f w state
+    t = record {
+      is_world = is_world;
+      phase = phase;
+      valid = c.valid;
+      place = home_of f id;
+      body = home_block f id;
+      before = after_phis (front_of f id);
+      back = (id, root_of f u c.fits.line) ∷ back_of f id;
+      there = root_there f id c.live;
+      splits = splits;
+      reached = reached;
+    }
+
+    site : IsSite f (home_of f id) (ahead x names f w state t) (id, root_of f u c.fits.line) (back_of f id)
+    site = record { block = home_block f id; found = root_there f id c.live; splits = whole x names f w state t }
+
+    told : TellsAll x names f w state u.inputs (places_taken u.rewrite.root.slots) u.rewrite.definitions (places_from 0 u.rewrite.inputs)
+    told =
+        tells_all x names f w state t u.inputs (length u.rewrite.inputs) (seen x phase f id u c).many (places_taken u.rewrite.root.slots) u.rewrite.definitions (places_from 0 u.rewrite.inputs) c.fits.definitions c.keeps.origins a.gives.definitions
+        (λ p inside. use_at f (great_of f) (known_of x phase f c.valid) (home_of f id) (ahead x names f w state t) (id, root_of f u c.fits.line) (back_of f id) site other (register_at u.inputs p)
+        (is_used (kind_in f) u.inputs u.results u.rewrite.root c.fits.line p inside))
+
+    place_inside : (types : List Llt) (place p : ℕ) → place ≤ p → p < place + length types → is_in p (places_from place types) ≡ true
+    place_inside [] place p least most = absurd (omega (arith, least, most))
+    place_inside (ty ∷ types) place p least most = by (p == place) refl (λ l. place_inside types (place + 1) p l (omega (arith, most)))
+      where
+        by : (b : Bool) → (p == place) ≡ b → (place + 1 ≤ p → is_in p (places_from (place + 1) types) ≡ true) → (b || is_in p (places_from (place + 1) types)) ≡ true
+        by true so rest = refl
+        by false so rest = rest (grind (arith, nat_tests, so, least))
+
+-- ══ The function ══
+
+-- what is made begins with no phi
+first_no_phi : (is back : List (ℕ × InstrData)) (d : ℕ) → list_all (λ (p : ℕ × InstrData). is_plain p.1) is ≡ true → list_any (defines d) is ≡ true → phis_of (is ++ back) ≡ []
+first_no_phi [] back d plain made = cc
+first_no_phi (i ∷ is) back d plain made =
+    let own : is_plain i.1 ≡ true = (and_parts (is_plain i.1) (list_all (λ (p : ℕ × InstrData). is_plain p.1) is) plain).0 in
+    ap (λ t. cond t (i ∷ phis_of (is ++ back)) []) (plain_no_phi i.1 own)
+  where
+    plain_no_phi : (j : InstrData) → is_plain j ≡ true → is_phi j ≡ false
+    plain_no_phi j h = not-true (is_phi j) (and_parts (not (is_phi j)) (not (is_terminator_op j.op)) (and_parts (not (is_phi j) && not (is_terminator_op j.op)) (list_all is_plain_operand j.operands) h).0).0
+
+abbrev replacement_of : FunctionData → (id : ℕ) → UseData → (line : ℕ) → Replacement
+replacement_of f id u line = record {
+  block = home_of f id;
+  before = front_of f id;
+  old = (id, root_of f u line) ∷ [];
+  new = with_ids f.next_id (made_of f id u);
+  after = back_of f id;
+  hidden = is_new_in f;
+}
+
+first_result : (rs : List ℕ) → nat_lt 0 (length rs) ≡ true → (r : ℕ) × (among r rs ≡ true)
+first_result [] h = cc
+first_result (r ∷ rs) h = (r, or_left (r == r) (among r rs) (eq-eqb r r refl))
+
+pub use_refines : (x : ℕ) (phase : Phase) (names : List (List ℕ)) (f : FunctionData) (id : ℕ) (u : UseData) → IsSoundUse x phase names f id u → RefinesUnchecked x names f (rewritten_at f id u)
+use_refines x phase names f id u a =
+    replacement_refines x names f (rewritten_at f id u) (replacement_of f id u c.fits.line) (record {
+      block = home_block f id;
+      here = get-within f.blocks (home_of f id) empty_block (id_in-within id f.blocks (home_of f id) (place_in_block f id) (id_in-live f id c.live));
+      instrs = split-at (home_block f id).instrs (place_in_block f id) (id, root_of f u c.fits.line) (entry-of f id (root_of f u c.fits.line) c.live c.fits.root);
+      blocks = blocks-replaced f id (made_of f id u) c.own c.live;
+      no_phi = ap (λ t. cond t ((id, root_of f u c.fits.line) ∷ phis_of (back_of f id)) []) (pure_is_no_phi (root_of f u c.fits.line) s.pure);
+      no_new_phi = first_no_phi (with_ids f.next_id (made_of f id u)) (back_of f id) result.0
+          (all_of_ids is_plain f.next_id (made_of f id u)
+          ∙ all_pass is_plain (kind_in f) (line_of f id) (targets_of u) u.inputs (length u.inputs) f.next_reg u.rewrite.made s.placed (λ regs rs o count quiet taken. plain_for (kind_in f) regs rs o (line_of f id) count (quiet_computes o quiet) taken))
+          (made_defines f id u c.fits.line result.0 s ∙ among_at result.0 (new_registers f u) m.k m.at);
+      before_clear = all_clear f c.had (front_of f id) (front_inside f id c.live);
+      after_clear = all_clear f c.had (back_of f id) (back_inside f id c.live);
+      others_clear = λ k apart other found. all_clear f c.had other.instrs (other_inside f k other found);
+      widths = λ q shown. ap (width_of_kind x) (old_kind x phase f id u c q (leb-false f.next_reg q shown));
+      follows = λ w is_world. use_followed x names f (rewritten_at f id u) (only_virtual (is_new_in f)) (only_virtual (is_new_in f)) (λ v. on_values x names v u.rewrite) (placing_of f u) (home_of f id) (after_phis (front_of f id))
+          ((id, root_of f u c.fits.line) ∷ []) (with_ids f.next_id (made_of f id u)) (AgreeAt (setting_of x names f) (setting_of x names (rewritten_at f id u)) (λ k. only_virtual (is_new_in f)))
+          (record {
+            sound = λ v is. a.sound v is;
+            placed = λ v is. placed x phase names f id u a v c;
+            known = λ v is state reached. known_there x phase names f id u a v is c state reached;
+          })
+          w is_world;
+    })
+  where
+    c : IsUse x phase f id u
+    c = a.use_is
+
+    s : IsSeen f id u a.use_is.fits.line
+    s = seen x phase f id u a.use_is
+
+    result : (r : ℕ) × (among r u.results ≡ true)
+    result = first_result u.results (some_results x phase f id u a.use_is)
+
+    m : IsMadeResult f u (first_result u.results (some_results x phase f id u a.use_is)).0
+    m = made_result x f id u a.use_is.fits.line result.0 s a.use_is.keeps a.use_is.fits.many result.1
