@@ -1,13 +1,12 @@
 -- What is known of the states that runs reach where a rewrite fits: its definitions hold.
-use Rattle.std.proofs.Common.{◌≡◌, ℕ, zero, suc, ◌+◌, ◌≤◌, ◌<◌, Bool, true, false, cond, not, ◌&&◌, ◌||◌, ◌==◌, nat_lt, List, [], ◌∷◌, ◌++◌, Option, Some, None, option_map, length, map, slice_get, inl, inr, ⊎_elim, ◌⊎◌, refl, sym, ap, ap₂, ◌∙◌, subst, arith, append_assoc, true≢false, ltb-true}
-use Rattle.std.proofs.lemmas.Bool.{and_parts, and_from, or_cases, or_left, or_right, eqb-true, eq-eqb}
-use Rattle.std.specs.List.{list_all, list_any}
-use Rattle.std.specs.Option.{option_map_or}
+use Rattle.std.proofs.Common.{◌≡◌, ℕ, suc, ◌≤◌, ◌<◌, true, ◌&&◌, ◌==◌, nat_lt, List, [], ◌∷◌, ◌++◌, Option, Some, None, option_map, length, map, slice_get, inl, inr, ⊎_elim, ◌⊎◌, refl, sym, ap, ap₂, ◌∙◌, subst, arith, append_assoc, ltb-true}
+use Rattle.std.proofs.lemmas.Bool.{and_parts, and_from, or_cases, eqb-true}
+use Rattle.std.specs.List.{list_all}
 use Rattle.gi_llt.specs.Llt.{width_of}
 use Rattle.gi_llt.specs.declared.Llt.{Llt}
 use Rattle.gi_mir.specs.Data.{InstrData, BlockData, FunctionData}
-use Rattle.gi_mir.specs.Edit.{all_instrs, defines, is_def_of}
-use Rattle.gi_mir.specs.Registers.{kind_in_operands, kind_of}
+use Rattle.gi_mir.specs.Edit.{all_instrs, defines}
+use Rattle.gi_mir.specs.Registers.{kind_of}
 use Rattle.gi_mir.specs.declared.operand.Kind.{Kind}
 use Rattle.gi_mir.specs.declared.operand.Operand.{Operand}
 use Rattle.gi_mir.specs.declared.operand.Operand.TheVariants as operand
@@ -16,12 +15,12 @@ use Rattle.gi_meaning.specs.Argument.{Argument, Value}
 use Rattle.gi_meaning.specs.InRow.{results_in}
 use Rattle.gi_meaning.specs.Meaning.{meaning_of}
 use Rattle.gi_meaning.specs.Runs.{Setting, after_phis, argument_of, arguments_of, joined_lists, phis_of, setting_of, width_of_kind}
-use Rattle.gi_meaning.specs.State.{IsWorld, Outside, State, World, outside_of}
+use Rattle.gi_meaning.specs.State.{IsWorld, Outside, State, World}
 use Rattle.gi_refine.specs.Agreement.{setting}
-use Rattle.gi_refine.specs.Lifting.{AreThere, HasValue, Reads, takes}
+use Rattle.gi_refine.specs.Lifting.{HasValue, Reads}
 use Rattle.gi_refine.specs.Reached.{IsReached}
 use Rattle.gi_refine.specs.RuleUse.{width_in}
-use Rattle.gi_refine.specs.Values.{ActsFrom, AllHold, Environment, Holds, StandAt, arguments_at}
+use Rattle.gi_refine.specs.Values.{ActsFrom, AllHold, Environment, Holds, StandAt}
 use Rattle.gi_refine.proofs.ValuesStepped.{BothRead, both_read, parts}
 use Rattle.gi_valid.specs.Definitions.{definition, is_pure, uses_purely}
 use Rattle.gi_valid.specs.Facts.{AreHeld, HoldsDefinition, is_computing, is_fixed as is_steady_operand, is_steady}
@@ -40,13 +39,13 @@ use Rattle.gi_soundness.proofs.Staying.{origin_here}
 use Rattle.gi_soundness.proofs.Typed.{found_there, in_list}
 use Rattle.gi_soundness.proofs.Valid.{great_of, known_of}
 use Rattle.gi_rule_values.specs.Data.{DefinitionData, OperationData}
-use Rattle.gi_rule_values.specs.OnValues.{fact_of, operation_on_values, slot_on_values}
+use Rattle.gi_rule_values.specs.OnValues.{fact_of, operation_on_values}
 use Rattle.gi_rule_values.specs.declared.rewrite.Slot.{Slot}
 use Rattle.gi_rule_values.specs.declared.rewrite.Slot.TheVariants.{At, Stands}
-use Rattle.gi_rule_valid.specs.Keeping.{are_origins, is_asked, is_fixed, is_number, is_taken, places_taken}
+use Rattle.gi_rule_valid.specs.Keeping.{are_origins, is_asked, is_number, is_taken, places_taken}
 use Rattle.gi_rule_valid.specs.Using.{AreDefined, defined_as, instr_for, kind_in, operand_for, register_at}
-use Rattle.gi_rule_valid.proofs.Lists.{among, defines_are, kind_at, kinds_are, results_are, slots_none}
-use Rattle.gi_rule_valid.proofs.Origins.{AsksOrigin, HasFirst, asked_taken, asks_origin, has_first, is_used, pure_for}
+use Rattle.gi_rule_valid.proofs.Lists.{defines_are, kinds_are, results_are, slots_none}
+use Rattle.gi_rule_valid.proofs.Origins.{asked_taken, asks_origin, has_first, is_used, pure_for}
 use Rattle.gi_rule_valid.proofs.Targets.{among_at, kind_there}
 use Rattle.gi_rule_refines.specs.Computing.{gives}
 use Rattle.gi_rule_refines.proofs.Shown.{one_pure, place_there, shows_one, wide_kind}

@@ -1,5 +1,5 @@
 -- A sound rewrite refines the valid functions in which it fits.
-use Rattle.std.proofs.Common.{◌≡◌, ◌⊎◌, ℕ, zero, suc, ◌+◌, ◌-◌, ◌≤◌, ◌<◌, Bool, true, false, cond, not, ◌&&◌, ◌||◌, ◌==◌, nat_lt, nat_le, List, [], ◌∷◌, ◌++◌, Option, Some, None, length, map, slice_get, inl, inr, ⊎_elim, refl, sym, ap, ap₂, ◌∙◌, subst, arith, true≢false, le-leb, leb-false, ltb-true}
+use Rattle.std.proofs.Common.{◌≡◌, ℕ, suc, ◌+◌, ◌≤◌, ◌<◌, Bool, true, false, cond, not, ◌&&◌, ◌||◌, ◌==◌, nat_lt, List, [], ◌∷◌, ◌++◌, Option, Some, None, length, map, slice_get, ⊎_elim, refl, sym, ap, ap₂, ◌∙◌, subst, arith, true≢false, le-leb, leb-false}
 use Rattle.std.proofs.lemmas.Bool.{and_parts, and_from, or_cases, or_left, or_right, eqb-true, eq-eqb, not-true, false_from_ne_true}
 use Rattle.std.specs.List.{list_all, list_any}
 use Rattle.std.specs.Option.{option_map_or}
@@ -8,19 +8,19 @@ use Rattle.std.proofs.lemmas.Bool.Decides.{nat_tests}
 use Rattle.gi_llt.specs.Llt.{width_of}
 use Rattle.gi_llt.specs.declared.Llt.{Llt}
 use Rattle.gi_mir.specs.Data.{InstrData, FunctionData}
-use Rattle.gi_mir.specs.Edit.{IsLive, all_instrs, defines, empty_block, home_block, home_of, instr_of, place_in_block, uses}
+use Rattle.gi_mir.specs.Edit.{defines, empty_block, home_block, home_of, place_in_block}
 use Rattle.gi_mir.specs.Registers.{kind_in_instrs, kind_in_operands, kind_of}
 use Rattle.gi_mir.specs.Row.{is_terminator_op}
 use Rattle.gi_mir.proofs.Located.{id_in-live, id_in-within}
-use Rattle.gi_meaning.specs.Runs.{after_phis, is_among, is_phi, phis_of, setting_of, width_of_kind}
+use Rattle.gi_meaning.specs.Runs.{after_phis, is_phi, phis_of, setting_of, width_of_kind}
 use Rattle.gi_meaning.specs.State.{IsWorld, State, World, outside_of}
 use Rattle.gi_refine.specs.Agreement.{AgreeAt, setting}
-use Rattle.gi_refine.specs.Lifting.{AreThere, HasValue, IsKnown, IsPlaced, Placing, all_covered, all_grown, are_all_fresh, covers, fixed_argument, is_kept, takes}
+use Rattle.gi_refine.specs.Lifting.{AreThere, HasValue, IsKnown, IsPlaced, Placing, all_covered, all_grown, covers, fixed_argument, is_kept, takes}
 use Rattle.gi_refine.specs.OnePlace.{only_virtual}
 use Rattle.gi_refine.specs.Reached.{IsReached}
 use Rattle.gi_refine.specs.Refinement.{RefinesUnchecked}
 use Rattle.gi_refine.specs.Replacing.{Replacement}
-use Rattle.gi_refine.specs.RuleUse.{IsRuleUse, width_in}
+use Rattle.gi_refine.specs.RuleUse.{width_in}
 use Rattle.gi_meaning.specs.Argument.{Argument, Number}
 use Rattle.gi_refine.specs.Values.{Fixed, IsSound, Slot as Place}
 use Rattle.gi_refine.proofs.Covering.{covered_by}
@@ -49,8 +49,8 @@ use Rattle.gi_refining.proofs.Using.{none_seen}
 use Rattle.gi_refining.proofs.UsingElsewhere.{all_clear, back_inside, front_inside, had_is_old, other_inside}
 use Rattle.gi_refining.proofs.UsingFresh.{flat as flattened}
 use Rattle.gi_refining.proofs.UsingKept.{covered_from}
-use Rattle.gi_rule_values.specs.Data.{OperationData, RewriteData}
-use Rattle.gi_rule_values.specs.OnValues.{kept_from, on_values, operation_on_values, slot_on_values}
+use Rattle.gi_rule_values.specs.Data.{RewriteData}
+use Rattle.gi_rule_values.specs.OnValues.{kept_from, on_values, slot_on_values}
 use Rattle.gi_rule_values.specs.declared.rewrite.Slot.{Slot}
 use Rattle.gi_rule_values.specs.declared.rewrite.Slot.TheVariants.{At, Stands}
 use Rattle.gi_rule_valid.specs.Keeping.{is_fixed, is_taken, places_from, places_taken}
@@ -59,9 +59,9 @@ use Rattle.gi_rule_valid.proofs.InPlace.{is_replaced_by}
 use Rattle.gi_rule_valid.proofs.Lists.{among, as_many, flat, flat_registers, flat_types}
 use Rattle.gi_rule_valid.proofs.Origins.{asked_taken, is_used, plain_for, quiet_computes}
 use Rattle.gi_rule_valid.proofs.Targets.{among_at}
-use Rattle.gi_rule_valid.proofs.Valid.{IsKeeping, IsMadeResult, IsSeen, IsUse, all_pass, each_once, input_apart, input_kind, made_defines, made_result, new_kind, new_or_result, new_registers, result_kinds, rewriting_at, root_of, seen}
+use Rattle.gi_rule_valid.proofs.Valid.{IsMadeResult, IsSeen, IsUse, all_pass, each_once, input_apart, made_defines, made_result, new_kind, new_or_result, new_registers, result_kinds, rewriting_at, root_of, seen}
 use Rattle.gi_rule_refines.specs.Computing.{gives, gives_all}
-use Rattle.gi_rule_refines.proofs.Fresh.{StandsAt, all_fresh, all_grown_is, among_is, flat_is, get_behind, kept_target, stands_at}
+use Rattle.gi_rule_refines.proofs.Fresh.{all_fresh, all_grown_is, among_is, flat_is, get_behind, kept_target, stands_at}
 use Rattle.gi_rule_refines.proofs.Known.{Moment, TellsAll, ahead, result_widths, tells_all, whole}
 use Rattle.gi_rule_refines.proofs.Shown.{all_pure, all_show, one_pure, shows_one, wide_kind}
 

@@ -1,23 +1,21 @@
 -- The root and what is made show the operations of a rewrite on values.
-use Rattle.std.proofs.Common.{◌≡◌, ℕ, zero, suc, ◌+◌, ◌≤◌, ◌<◌, Bool, true, false, cond, ◌&&◌, ◌||◌, ◌==◌, nat_lt, List, [], ◌∷◌, ◌++◌, Option, Some, None, length, map, slice_get, refl, sym, ap, ap₂, ◌∙◌, subst, arith, ltb-true}
+use Rattle.std.proofs.Common.{◌≡◌, ℕ, zero, suc, ◌+◌, ◌<◌, Bool, true, false, cond, ◌==◌, nat_lt, List, [], ◌∷◌, ◌++◌, Some, None, length, map, slice_get, refl, sym, ap, ap₂, ◌∙◌, subst, arith, ltb-true}
 use Rattle.std.proofs.lemmas.Bool.{and_parts, and_from}
 use Rattle.std.specs.List.{list_all}
 use Rattle.std.specs.Option.{option_map_or}
 use Rattle.std.specs.Prelude.{pos}
 use Rattle.gi_llt.specs.Llt.{width_of}
 use Rattle.gi_llt.specs.declared.Llt.{Llt}
-use Rattle.gi_mir.specs.Data.{InstrData, FunctionData, reg_of}
 use Rattle.gi_mir.specs.declared.operand.Kind.{Kind}
 use Rattle.gi_mir.specs.declared.operand.Operand.{Operand}
 use Rattle.gi_mir.specs.declared.operand.Operand.TheVariants as operand
-use Rattle.gi_meaning.specs.Argument.{Argument, Number, Value}
+use Rattle.gi_meaning.specs.Argument.{Number, Value}
 use Rattle.gi_meaning.specs.Meaning.{Meaning, Copying, Generic, Machine, meaning_of}
 use Rattle.gi_meaning.specs.Runs.{Setting, width_of_kind}
 use Rattle.gi_meaning.specs.State.{World}
 use Rattle.gi_refine.specs.Agreement.{setting}
-use Rattle.gi_refine.specs.Lifting.{AllShow, Shows, ShowsOperands, ShowsSlot, ShowsSlots, fixed_argument, grown}
-use Rattle.gi_refine.specs.RuleUse.{width_in}
-use Rattle.gi_refine.specs.Values.{Operation, Slot as Place, Fixed, are_pure, is_pure}
+use Rattle.gi_refine.specs.Lifting.{AllShow, Shows, ShowsOperands, ShowsSlot, ShowsSlots, grown}
+use Rattle.gi_refine.specs.Values.{Slot as Place, Fixed, are_pure, is_pure}
 use Rattle.gi_pattern.specs.InPlace.{with_ids}
 use Rattle.gi_pattern.specs.Making.{kind_with}
 use Rattle.gi_valid.specs.Facts.{is_computing}
