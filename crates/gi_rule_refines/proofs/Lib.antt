@@ -1,0 +1,4 @@
+pub mod Fresh
+pub mod Known
+pub mod Refined
+pub mod Shown

@@ -1,0 +1,4 @@
+//! Rewrites that are sound, used wherever they fit in functions.
+#![tactic(auto)]
+
+pub mod laws;
