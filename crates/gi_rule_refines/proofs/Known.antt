@@ -264,8 +264,8 @@ tells_all x names f w state t inputs count many known (d ∷ ds) places defined 
     let there = found_there (defines (register_at inputs first.place)) (all_instrs f.blocks) (defined.0.id, i) is in
     let available = here first.place first.inside in
     let holds = definition_holds x names f w t.is_world (orderly x t.phase f t.valid) t.place t.body t.before t.back t.there t.splits (register_at inputs first.place) (defined.0.id, i)
-        (record { extent = great_of f (register_at inputs first.place); contained = ((known_of x t.phase f t.valid).greatest (register_at inputs first.place)).contained; holds = available })
-        is (steady_for (kind_in f) inputs rs d.operation defined.0.line count pure each.0 asks.slots) state t.reached in
+    (record { extent = great_of f (register_at inputs first.place); contained = ((known_of x t.phase f t.valid).greatest (register_at inputs first.place)).contained; holds = available })
+    is (steady_for (kind_in f) inputs rs d.operation defined.0.line count pure each.0 asks.slots) state t.reached in
     let one = tells_one x names f w state t inputs count many d defined.0.id defined.0.line each.0 asks.slots asks.many asks.below there.0 holds in
     let next : (p : ℕ) → is_in p (places_taken d.operation.slots) ≡ true → IsHere x names f w state t (register_at inputs p) =
     λ p inside. origin_here f (great_of f) (known_of x t.phase f t.valid) (register_at inputs first.place) (register_at inputs p) (record {
@@ -273,7 +273,7 @@ tells_all x names f w state t inputs count many known (d ∷ ds) places defined 
       over = ap (λ found. uses_purely found (register_at inputs p)) is ∙ and_from (is_pure i) _ pure (is_used (kind_in f) inputs rs d.operation defined.0.line p inside);
     }) t.place t.body t.there (ahead x names f w state t) t.back (whole x names f w state t) available in
     let rest = tells_all x names f w state t inputs count many (known ++ places_taken d.operation.slots) ds places defined.1 asks.rest each.1
-        (λ p inside. ⊎_elim (λ old. here p old) (λ new. next p new) (in_first_or_rest p known (places_taken d.operation.slots) inside)) in
+    (λ p inside. ⊎_elim (λ old. here p old) (λ new. next p new) (in_first_or_rest p known (places_taken d.operation.slots) inside)) in
     record {
       facts = λ outside env reads. (one.fact outside env reads, rest.facts outside env reads);
       there = λ p inside. ⊎_elim (λ old. ⊎_elim (λ k. inl k) (λ new. inr (one.there p new)) (in_first_or_rest p known (places_taken d.operation.slots) old)) (λ has. inr has) (rest.there p inside);

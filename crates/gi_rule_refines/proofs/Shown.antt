@@ -92,11 +92,10 @@ all_show x names width w kind line targets registers place next id [] many place
 all_show x names width w kind line targets registers place next id (o ∷ os) many placed wide =
     let one = placed_one place o os placed in
     let rs : List ℕ = registers_for targets place next o.types in
-    let each = split_widths x width rs (flat (all_registers targets (place_for place o.types) (next_for targets place next o.types) os)) o.types (flat_types os) (as_many targets place next o.types) wide in
-    (
+    let each = split_widths x width rs (flat (all_registers targets (place_for place o.types) (next_for targets place next o.types) os)) o.types (flat_types os) (as_many targets place next o.types) wide in (
       shows_one x names width w kind registers rs place o line many (as_many targets place next o.types) one.taken each.0,
       all_show x names width w kind line targets (grown registers rs) (place_for place o.types) (next_for targets place next o.types) (id + 1) os
-      (ap length (grown_is registers rs) ∙ length_of registers rs ∙ ap₂ (λ a b. a + b) many (as_many targets place next o.types) ∙ sym (place_is place o.types)) one.rest each.1,
+          (ap length (grown_is registers rs) ∙ length_of registers rs ∙ ap₂ (λ a b. a + b) many (as_many targets place next o.types) ∙ sym (place_is place o.types)) one.rest each.1,
     )
 
 -- ══ Purity ══

@@ -197,10 +197,10 @@ pub root_sources : (f : FunctionData) → ((r : ℕ) → times r (definitions (a
     → IsOneOf (id, instr_for kind inputs rs o line) (all_instrs f.blocks) → is_pure (instr_for kind inputs rs o line) ≡ true → AreSources f (id, instr_for kind inputs rs o line) inputs (places_taken o.slots)
 root_sources f once id kind inputs rs o line there pure = record {
   by = λ p inside d own. record {
-      others = 0;
-      over = ap (λ found. uses_purely found (register_at inputs p)) (is_definition f once d (id, instr_for kind inputs rs o line) there own)
-          ∙ and_from (is_pure (instr_for kind inputs rs o line)) (uses (register_at inputs p) (id, instr_for kind inputs rs o line)) pure (is_used kind inputs rs o line p inside);
-    };
+    others = 0;
+    over = ap (λ found. uses_purely found (register_at inputs p)) (is_definition f once d (id, instr_for kind inputs rs o line) there own)
+        ∙ and_from (is_pure (instr_for kind inputs rs o line)) (uses (register_at inputs p) (id, instr_for kind inputs rs o line)) pure (is_used kind inputs rs o line p inside);
+  };
 }
 
 places_in : (types : List Llt) (place p : ℕ) → place ≤ p → p < place + length types → is_in p (places_from place types) ≡ true
@@ -360,10 +360,9 @@ all_ready P kind line targets registers place next [] done h ready = tt
 all_ready P kind line targets registers place next (o ∷ os) done h ready =
     let one = placed_one place o os h in
     let rs : List ℕ = registers_for targets place next o.types in
-    let i : InstrData = instr_for kind registers rs o line in
-    (
+    let i : InstrData = instr_for kind registers rs o line in (
       λ r used. let found = used_at kind registers rs o line place r one.taken used in
           subst (λ k. (list_any (has_def k) done ≡ true) ⊎ P k) found.is (ready.by found.place (taken_below place o.slots found.place one.taken found.inside)),
       all_ready P kind line targets (grown registers rs) (place_for place o.types) (next_for targets place next o.types) os (done ++ i ∷ []) one.rest
-      (ready_on P kind registers rs o line place done ready (as_many targets place next o.types) one.taken),
+          (ready_on P kind registers rs o line place done ready (as_many targets place next o.types) one.taken),
     )

@@ -33,18 +33,22 @@ pub widen_sub_sound : (x : ℕ) (flags : Flags) (n w : ℕ) → n < w → IsSoun
 widen_sub_sound x flags n w wider = record {
   by = λ names world is_world a a_fits b b_fits.
       let less : nat_lt n w ≡ true = grind arith in
-      rw less (λ p p_fits p_low. rw less (λ q q_fits q_low.
-      (refl, unless _ n (difference_of n a b) (wrapped n (difference_of w p q)) (cut_fits n (difference_of w p q))
-      (sym (unsigned_low w n (pos p -ℤ pos q) (omega (arith, wider)) ∙ low_difference n p q a b p_low q_low)))));
+      rw less (λ p p_fits p_low. rw less (λ q q_fits q_low. (
+        refl,
+        unless _ n (difference_of n a b) (wrapped n (difference_of w p q)) (cut_fits n (difference_of w p q))
+            (sym (unsigned_low w n (pos p -ℤ pos q) (omega (arith, wider)) ∙ low_difference n p q a b p_low q_low)),
+      )));
 }
 
 pub widen_mul_sound : (x : ℕ) (flags : Flags) (n w : ℕ) → n < w → IsSoundRewrite x (widen_mul flags n w)
 widen_mul_sound x flags n w wider = record {
   by = λ names world is_world a a_fits b b_fits.
       let less : nat_lt n w ≡ true = grind arith in
-      rw less (λ p p_fits p_low. rw less (λ q q_fits q_low.
-      (refl, unless _ n (wrapped n (a * b)) (wrapped n (wrapped w (p * q))) (cut_fits n (wrapped w (p * q)))
-      (sym (low_of_low n w (p * q) (omega (arith, wider)) ∙ low_product n p q a b p_low q_low)))));
+      rw less (λ p p_fits p_low. rw less (λ q q_fits q_low. (
+        refl,
+        unless _ n (wrapped n (a * b)) (wrapped n (wrapped w (p * q))) (cut_fits n (wrapped w (p * q)))
+            (sym (low_of_low n w (p * q) (omega (arith, wider)) ∙ low_product n p q a b p_low q_low)),
+      )));
 }
 
 -- ══ Logic ══
@@ -84,8 +88,11 @@ widen_shl_sound x flags n w wider = record {
       (λ (small : k < n).
       let within : nat_le n k ≡ false = grind arith in
       let below : nat_le w k ≡ false = grind arith in
-      rw (within, below) (refl, unless _ n (wrapped n (a * 2 ^ k)) (wrapped n (wrapped w (p * 2 ^ k))) (cut_fits n (wrapped w (p * 2 ^ k)))
-      (sym (low_of_low n w (p * 2 ^ k) (omega (arith, wider)) ∙ low_product n p (2 ^ k) a (2 ^ k) p_low refl))))
+      rw (within, below) (
+        refl,
+        unless _ n (wrapped n (a * 2 ^ k)) (wrapped n (wrapped w (p * 2 ^ k))) (cut_fits n (wrapped w (p * 2 ^ k)))
+            (sym (low_of_low n w (p * 2 ^ k) (omega (arith, wider)) ∙ low_product n p (2 ^ k) a (2 ^ k) p_low refl)),
+      ))
       (λ (great : n ≤ k).
       let beyond : nat_le n k ≡ true = grind arith in
       ⊎_elim
