@@ -1,10 +1,13 @@
 //! Does a kind of work of a size that is read from standard input, and prints counts alone.
-//! Each line of the input is a kind of work and a number of bytes, as `tokens 65536`, or of sums or blocks, as
+//! Each line of the input is a kind of work and a number of bytes, as `tokens 65536`, or of sums, blocks or instructions, as
 //! `verified-chain 65535`.
 #![tactic(auto)]
 
+mod edits;
+
 ghost use Rattle.std.specs.Prelude.{◌≡◌, ◌<◌, ◌≤◌, IfOk, vec_len};
 
+use edits::{replaced, rewritten};
 use gi_llt::Target;
 use gi_mir::module::Module;
 use gi_mir::stage::Stage;
@@ -192,6 +195,8 @@ fn work(alloc: Global, request: &str) -> Result<String, AllocError> {
             let text = chain_of(alloc, size.min(LONGEST) as u32)?;
             checked(alloc, text.as_str(), kind == "verified-chain")
         }
+        "rewritten" => rewritten(alloc, size.min(LONGEST) as u32),
+        "replaced" => replaced(alloc, size.min(LONGEST) as u32),
         _ => format!(in alloc; "no work in {request:?}"),
     }
 }
