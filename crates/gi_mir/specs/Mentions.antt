@@ -1,9 +1,10 @@
 -- Which instructions mention a register, and how the lists of them change.
-use Rattle.std.specs.Prelude.{◌≡◌, ◌≢◌, ℕ, ◌+◌, ◌*◌, Bool, true, false, not, List, [], ◌∷◌, Option, Some, None, ◌==◌, nat_eq, map, filter, slice_get, if◌then◌else◌}
+use Rattle.std.specs.Prelude.{◌≡◌, ◌≢◌, ℕ, ◌+◌, ◌*◌, Bool, true, false, not, List, [], ◌∷◌, Option, Some, None, ◌==◌, map, filter, slice_get, if◌then◌else◌}
 use Rattle.std.specs.List.{list_any}
 use Rattle.std.specs.List.Sorted.{IsPartitionedBy}
 use Rattle.std.specs.Option.{option_map_or}
-use Rattle.indexmap.specs.IndexMap.{get}
+use Rattle.std.specs.BTreeMap.{get}
+use Rattle.std.specs.Ordering.{nat_cmp}
 use Rattle.gi_mir.specs.Data.{InstrData, BlockData}
 use Rattle.gi_mir.specs.declared.block.InstrId.{InstrId}
 use Rattle.gi_mir.specs.declared.mentions.Mentions.{Mentions}
@@ -70,7 +71,7 @@ without id ids = filter (λ x. not (x.0 == id.0)) ids
 
 -- the ids that are listed under a key
 abbrev pub listed : Mentions → ℕ → List InstrId
-listed m key = option_map_or (λ v. v.items) (get nat_eq m.lists key) []
+listed m key = option_map_or (λ v. v.items) (get nat_cmp m.lists key) []
 
 -- the lists before and after a change
 pub record HasSameLists (old new : Mentions) : Type 0 where

@@ -9,14 +9,15 @@ use crate::block::InstrId;
 use crate::operand::{Operand, Reg};
 use crate::place::Place;
 use gi_llt::Memory;
-use indexmap::IndexMap;
 use std::alloc::Global;
+use std::collections::BTreeMap;
 
 /// The instructions that mention each register, in layout order, each once. A register's definitions and its
 /// uses have a key each.
 #[derive(Drop)]
 pub(crate) struct Mentions {
-    lists: IndexMap<u64, Vec<InstrId>>,
+    alloc: Global,
+    lists: BTreeMap<u64, Vec<InstrId>>,
 }
 
 /// The key of the definitions of a register.
@@ -135,7 +136,8 @@ impl Mentions {
         ensures { (key : ℕ) → listed result key ≡ [] }
     {
         Mentions {
-            lists: IndexMap::new(alloc),
+            alloc,
+            lists: BTreeMap::new(alloc),
         }
     }
 
@@ -155,7 +157,7 @@ impl Mentions {
         ensures ok { OnOk result (IsListed self.old self.new key (id ∷ [])) }
         ensures err { OnErr result (HasSameLists self.old self.new) }
     {
-        let mut ids = Vec::new(*self.lists.allocator());
+        let mut ids = Vec::new(self.alloc);
         ids.push(id).map_err(|_| Memory)?;
         self.lists.insert(key, ids).map_err(|_| Memory)?;
         Ok(())
