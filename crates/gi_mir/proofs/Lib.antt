@@ -12,6 +12,7 @@ pub mod Noted
 pub mod NumberingLaws
 pub mod OrLemmas
 pub mod Places
+pub mod Ranks
 pub mod Replaced
 pub mod Replacing
 pub mod Tabled

@@ -111,7 +111,7 @@ pub record IsSplit (p : InstrId → Bool) (id : InstrId) (front back : List (ℕ
   pub last : Each (λ e. (p (instr_id e) ≡ false) × ((e.0 == id.0) ≡ false)) back
   pub own : p id ≡ false
 
-abbrev one_if : Bool → InstrId → List InstrId
+abbrev pub one_if : Bool → InstrId → List InstrId
 one_if b id = cond b (id ∷ []) []
 
 noted-back : (p : InstrId → Bool) (id : InstrId) (ys : List InstrId) → Each (λ x. (p x ≡ false) × ((x.0 == id.0) ≡ false)) ys → noted p id ys ≡ id ∷ ys
@@ -224,7 +224,7 @@ IsListedAs-forgotten p id front back old new between operands split as_so gone =
 
 -- ---- the lists are in order
 
-Each-get_or : {X : Type 0} (P : X → Type 0) (xs : List X) (k : ℕ) (d : X) → k < length xs → Each P xs → P (get_or xs k d)
+pub Each-get_or : {X : Type 0} (P : X → Type 0) (xs : List X) (k : ℕ) (d : X) → k < length xs → Each P xs → P (get_or xs k d)
 Each-get_or P [] k d h e = absurd (omega arith)
 Each-get_or P (x ∷ xs) zero d h e = e.0
 Each-get_or P (x ∷ xs) (suc k) d h e = Each-get_or P xs k d (omega arith) e.1

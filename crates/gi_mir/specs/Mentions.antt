@@ -1,7 +1,7 @@
 -- Which instructions mention a register, and how the lists of them change.
 use Rattle.std.specs.Prelude.{◌≡◌, ◌≢◌, ℕ, ◌+◌, ◌*◌, Bool, true, false, not, List, [], ◌∷◌, Option, Some, None, ◌==◌, map, filter, slice_get, if◌then◌else◌}
 use Rattle.std.specs.List.{list_any}
-use Rattle.std.specs.List.Sorted.{IsPartitionedBy}
+use Rattle.std.specs.List.Sorted.{IsPartitionedBy, IsPartitionPoint}
 use Rattle.std.specs.Option.{option_map_or}
 use Rattle.std.specs.BTreeMap.{get}
 use Rattle.std.specs.Ordering.{nat_cmp}
@@ -69,6 +69,11 @@ noted before id (x ∷ xs) =
 abbrev pub without : InstrId → List InstrId → List InstrId
 without id ids = filter (λ x. not (x.0 == id.0)) ids
 
+-- a list has the ids before some place first, and wherever it has a given one, that stands right behind these
+pub record IsInRank (before : InstrId → Bool) (id : InstrId) (ids : List InstrId) : Type 0 where
+  pub sorted : IsPartitionedBy before ids
+  pub ranked : (at : ℕ) → has_at ids at id ≡ true → IsPartitionPoint (λ x. before x ≡ true) (λ x. before x ≡ false) ids at
+
 -- the ids that are listed under a key
 abbrev pub listed : Mentions → ℕ → List InstrId
 listed m key = option_map_or (λ v. v.items) (get nat_cmp m.lists key) []
@@ -84,6 +89,10 @@ pub record IsListed (old new : Mentions) (key : ℕ) (ids : List InstrId) : Type
 -- each list has the ids that precede a place first
 pub record IsSorted (places : List Place) (spot : Place) (m : Mentions) : Type 0 where
   pub sorted : (key : ℕ) → IsPartitionedBy (precedes places spot) (listed m key)
+
+-- and an id right behind these, where it has it
+pub record AreInRank (places : List Place) (spot : Place) (id : InstrId) (m : Mentions) : Type 0 where
+  pub ranks : (key : ℕ) → IsInRank (precedes places spot) id (listed m key)
 
 -- no list has an id
 pub record Lacks (m : Mentions) (id : InstrId) : Type 0 where

@@ -181,7 +181,8 @@ impl Layout {
     {
         let body = &mut self.blocks[spot.block as usize];
         let instr = body.take(spot.at);
-        self.mentions.forget_all(instr.operands.as_slice(), id);
+        self.mentions
+            .forget_all(self.places.as_slice(), instr.operands.as_slice(), id, spot);
         self.renumber(spot);
         instr
     }
@@ -208,7 +209,8 @@ impl Layout {
         let body = &mut self.blocks[spot.block as usize];
         let old = body.set_operand(spot.at, k, new);
         if !body.mentions(spot.at, old) {
-            self.mentions.forget_operand(old, id);
+            self.mentions
+                .forget_operand(self.places.as_slice(), old, id, spot);
         }
         Ok(())
     }
@@ -240,7 +242,8 @@ impl Layout {
             .note_operand(self.places.as_slice(), Operand::Use(new), id, spot)?;
         let body = &mut self.blocks[spot.block as usize];
         body.replace_reg(spot.at, old, new);
-        self.mentions.forget_operand(Operand::Use(old), id);
+        self.mentions
+            .forget_operand(self.places.as_slice(), Operand::Use(old), id, spot);
         Ok(())
     }
 

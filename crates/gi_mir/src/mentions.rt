@@ -3,7 +3,7 @@
 ghost use Rattle.std.specs.Prelude.{◌≡◌, ℕ, [], ◌∷◌, ◌≤◌, length, insert, slice_get, true, false, OnOk, OnErr};
 ghost use Rattle.std.specs.List.{list_any};
 ghost use Rattle.std.specs.List.Sorted.{IsPartitionedBy, IsPartitionPoint};
-ghost use Rattle.gi_mir.specs.Mentions.{definition_key, use_key, mention_of, is_mention, precedes, has_at, noted, without, listed, IsListed, HasSameLists, IsSorted, Lacks, IsNoted, IsForgotten};
+ghost use Rattle.gi_mir.specs.Mentions.{definition_key, use_key, mention_of, is_mention, precedes, has_at, noted, without, listed, IsInRank, IsListed, HasSameLists, IsSorted, AreInRank, Lacks, IsNoted, IsForgotten};
 
 use crate::block::InstrId;
 use crate::operand::{Operand, Reg};
@@ -123,11 +123,15 @@ fn put(ids: &mut Vec<InstrId>, places: &[Place], id: InstrId, spot: Place) -> Re
     }
 }
 
-/// Takes an instruction out of a list.
-fn take_out(ids: &mut Vec<InstrId>, id: InstrId)
+/// Takes an instruction, which stands at this place, out of a list if it is there.
+fn take_out(ids: &mut Vec<InstrId>, places: &[Place], id: InstrId, spot: Place)
+    requires { IsInRank (precedes places.now spot) id ids.old.items }
     ensures { ids.new.items ≡ without id ids.old.items }
 {
-    ids.retain(|x| x.0 != id.0);
+    let at = rank(places, ids.as_slice(), spot);
+    if has_at(ids.as_slice(), at, id) {
+        ids.remove(at);
+    }
 }
 
 impl Mentions {
@@ -175,12 +179,13 @@ impl Mentions {
         }
     }
 
-    /// Takes an instruction out of the list under a key.
-    fn forget(&mut self, key: u64, id: InstrId)
+    /// Takes an instruction, which stands at this place, out of the list under a key.
+    fn forget(&mut self, places: &[Place], key: u64, id: InstrId, spot: Place)
+        requires { IsInRank (precedes places.now spot) id (listed self.old key) }
         ensures { IsListed self.old self.new key (without id (listed self.old key)) }
     {
         if let Some(ids) = self.lists.get_mut(&key) {
-            take_out(ids, id);
+            take_out(ids, places, id, spot);
         }
     }
 
@@ -202,12 +207,19 @@ impl Mentions {
         }
     }
 
-    /// Takes an instruction out of the list under the key that an operand mentions.
-    pub(crate) fn forget_operand(&mut self, operand: Operand, id: InstrId)
+    /// Takes an instruction, which stands at this place, out of the list under the key that an operand mentions.
+    pub(crate) fn forget_operand(
+        &mut self,
+        places: &[Place],
+        operand: Operand,
+        id: InstrId,
+        spot: Place,
+    )
+        requires { AreInRank places.now spot id self.old }
         ensures { IsForgotten self.old self.new (operand ∷ []) id }
     {
         if let Some(key) = operand.mention() {
-            self.forget(key, id);
+            self.forget(places, key, id, spot);
         }
     }
 
@@ -230,7 +242,7 @@ impl Mentions {
             match self.note_operand(places, *x, id, spot) {
                 Ok(()) => {}
                 Err(_) => {
-                    self.forget_all(operands, id);
+                    self.forget_all(places, operands, id, spot);
                     return Err(Memory);
                 }
             }
@@ -238,12 +250,19 @@ impl Mentions {
         Ok(())
     }
 
-    /// Takes an instruction out of the lists under the keys that its operands mention.
-    pub(crate) fn forget_all(&mut self, operands: &[Operand], id: InstrId)
+    /// Takes an instruction, which stands at this place, out of the lists under the keys that its operands mention.
+    pub(crate) fn forget_all(
+        &mut self,
+        places: &[Place],
+        operands: &[Operand],
+        id: InstrId,
+        spot: Place,
+    )
+        requires { AreInRank places.now spot id self.old }
         ensures { IsForgotten self.old self.new operands.now id }
     {
         for x in operands {
-            self.forget_operand(*x, id);
+            self.forget_operand(places, *x, id, spot);
         }
     }
 }
