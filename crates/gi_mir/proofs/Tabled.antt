@@ -14,7 +14,7 @@ use Rattle.gi_mir.specs.declared.place.Place.{Place}
 use Rattle.gi_mir.specs.Data.{InstrData, BlockData}
 use Rattle.gi_mir.specs.Edit.{empty_block, all_instrs, block_changed_at, changed_at, of_kind, with_kind, with_operand}
 use Rattle.gi_mir.specs.Ids.{AreOwnIds}
-use Rattle.gi_mir.specs.Mentions.{is_mention, is_mentioned, mention_of, operands_of, operands_at, mentions, mentioning, precedes, listed, HasSameLists, IsNoted, IsForgotten, IsSorted, Lacks}
+use Rattle.gi_mir.specs.Mentions.{is_mention, is_mentioned, mention_of, operands_of, operands_at, mentions, mentioning, precedes, listed, HasSameLists, IsNoted, IsForgotten, IsSorted, AreInRank, Lacks}
 use Rattle.gi_mir.specs.Places.{place, comes_before, body_at, id_in, with_inserted, with_removed, HasPlaces, IsRenumbered}
 use Rattle.gi_mir.specs.Tables.{IsTabled}
 use Rattle.gi_mir.proofs.OrLemmas.{or_right}
@@ -22,6 +22,7 @@ use Rattle.gi_mir.proofs.FormedLemmas.{changed_at-suc}
 use Rattle.gi_mir.proofs.IdsLemmas.{AreOwnIds-set, AreOwnIds-inserted, AreOwnIds-removed, uses_among-changed_at}
 use Rattle.gi_mir.proofs.Located.{get_or-within, HasPlaces-inserted, HasPlaces-removed, HasPlaces-changed, HasPlaces-push, uses_of-id_in}
 use Rattle.gi_mir.proofs.Mentioned.{IsSplit, IsListedAs, IsSplit-new, IsSplit-at, IsListedAs-with, IsListedAs-without, IsListedAs-noted, IsListedAs-forgotten, IsSorted-as, Lacks-as, mentions-with, mentions-without, ahead, behind, all-split, all-split-at, all-inserted, all-removed, all-changed}
+use Rattle.gi_mir.proofs.Ranks.{AreInRank-as}
 
 -- ---- lists that say the same
 
@@ -339,3 +340,17 @@ IsTabled-set_operand-more places blocks spot body changed id k x new lists noted
     rw is (IsTabled-changed places blocks spot.block spot.at body (λ j. with_operand j k new) id i lists noted (λ key. mentions key (id.0, i) || list_any (is_mention key) (new ∷ [])) within same h
     (after_note places blocks spot id i new lists noted within stands h noted_so has)
     (λ key. operand-kept key i.operands k x new around.0 around.1) has))
+
+-- an instruction stands in the lists at its rank, also with another operand noted
+pub AreInRank-at : (places : List Place) (blocks : List BlockData) (spot : Place) (id : InstrId) (m : Mentions) → spot.block < length blocks → id_in blocks spot.block spot.at ≡ Some id.0 → IsTabled blocks places m → AreInRank places spot id m
+AreInRank-at places blocks spot id m within stands has =
+    entry_of (AreInRank places spot id m) blocks spot.block spot.at id.0 stands
+    (λ i h. AreInRank-as places spot id (ahead blocks spot.block spot.at) (behind blocks spot.block (suc spot.at)) m (λ key. mentions key (id.0, i)) (IsSplit-at places blocks spot.block spot.at id has.has_places stands)
+    (IsListedAs-with m (ahead blocks spot.block spot.at) (behind blocks spot.block (suc spot.at)) (id.0, i) (all_instrs blocks) (all-split-at blocks spot.block spot.at (id.0, i) within h) has.has_mentions))
+
+pub AreInRank-after_note : (places : List Place) (blocks : List BlockData) (spot : Place) (id : InstrId) (new : Operand) (lists noted : Mentions) → spot.block < length blocks → id_in blocks spot.block spot.at ≡ Some id.0
+    → IsNoted lists noted (precedes places spot) (new ∷ []) id → IsTabled blocks places lists → AreInRank places spot id noted
+AreInRank-after_note places blocks spot id new lists noted within stands noted_so has =
+    entry_of (AreInRank places spot id noted) blocks spot.block spot.at id.0 stands
+    (λ i h. AreInRank-as places spot id (ahead blocks spot.block spot.at) (behind blocks spot.block (suc spot.at)) noted (λ key. mentions key (id.0, i) || list_any (is_mention key) (new ∷ [])) (IsSplit-at places blocks spot.block spot.at id has.has_places stands)
+    (after_note places blocks spot id i new lists noted within stands h noted_so has))

@@ -4,7 +4,7 @@ use Rattle.gi_mir.specs.Data.{InstrData, BlockData}
 use Rattle.gi_mir.specs.Edit.{empty_block, with_operand, block_changed_at}
 use Rattle.gi_mir.specs.Places.{body_at, nth_id}
 use Rattle.gi_mir.proofs.Located.{get_or-within, nth_id-changed_at, nth_id-within}
-use Rattle.gi_mir.proofs.Tabled.{IsSorted-at, IsTabled-set_operand-last, IsTabled-set_operand-more}
+use Rattle.gi_mir.proofs.Tabled.{IsSorted-at, AreInRank-after_note, IsTabled-set_operand-last, IsTabled-set_operand-more}
 use Rattle.gi_mir.proofs.layout.Layout.set_operand.Goals as goal
 
 pub note_operand-requires : goal.note_operand-requires
@@ -24,6 +24,11 @@ mentions-requires c =
     let here = c.index_mut-body.ensures.value ∙ get_or-within blocks c.args.spot.block old empty_block c.requires.within in
     let stands = nth_id-changed_at edit old.instrs c.args.spot.at c.args.spot.at ∙ ap (λ (b : BlockData). nth_id b.instrs c.args.spot.at) here ∙ c.requires.stands in
     rw c.set_operand-old.ensures.changed (nth_id-within c.args.id.0 (block_changed_at edit c.args.spot.at old).instrs c.args.spot.at stands)
+
+pub forget_operand-requires : goal.forget_operand-requires
+forget_operand-requires c =
+    let noted = rw c.as_slice.ensures.value at c.in_ok-note_operand.ensures.ok in
+    rw c.as_slice-then-not-mentions.ensures.value (AreInRank-after_note c.args.self.now.places.items c.args.self.now.blocks.items c.args.spot c.args.id c.args.new c.args.self.now.mentions c.note_operand.new.self c.requires.within c.requires.stands noted c.requires.tabled)
 
 pub returns-then-not-mentions-clause-tabled : goal.returns-then-not-mentions-clause-tabled
 returns-then-not-mentions-clause-tabled c =
