@@ -7,6 +7,7 @@ pub mod LettersLemmas
 pub mod Lists
 pub mod Located
 pub mod Mentioned
+pub mod Merging
 pub mod NamesLemmas
 pub mod Noted
 pub mod NumberingLaws

@@ -259,13 +259,13 @@ Lacks-as p id front back m split as_so = record {
 
 -- ---- a function is split at a place
 
-comes_first : (c k b at : ℕ) → (c < b) ⊎ ((c ≡ b) × (k < at)) → comes_before (place c k) (place b at) ≡ true
+pub comes_first : (c k b at : ℕ) → (c < b) ⊎ ((c ≡ b) × (k < at)) → comes_before (place c k) (place b at) ≡ true
 comes_first c k b at h = grind (arith, nat_tests)
 
-comes_later : (c k b at : ℕ) → (b < c) ⊎ ((c ≡ b) × (at ≤ k)) → comes_before (place c k) (place b at) ≡ false
+pub comes_later : (c k b at : ℕ) → (b < c) ⊎ ((c ≡ b) × (at ≤ k)) → comes_before (place c k) (place b at) ≡ false
 comes_later c k b at h = grind (arith, nat_tests)
 
-apart_test : (a b : ℕ) → a ≢ b → (a == b) ≡ false
+pub apart_test : (a b : ℕ) → a ≢ b → (a == b) ≡ false
 apart_test a b ne = ⊎_elim (λ (h : ((a == b) ≡ true) × (a ≡ b)). absurd (ne h.1)) (λ (h : ((a == b) ≡ false) × (a ≢ b)). h.0) (eqb_tells a b)
 
 -- around a place where an instruction may be put in

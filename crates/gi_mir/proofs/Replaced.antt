@@ -161,7 +161,7 @@ none_old : (old new key : ℕ) (xs : List Operand) → (use_key old == key) ≡ 
 none_old old new key [] e u = refl
 none_old old new key (x ∷ xs) e u = rw (old_gone old new key x e u) (none_old old new key xs e u)
 
-same_others : (old new key : ℕ) (xs : List Operand) → (use_key old == key) ≡ false → (use_key new == key) ≡ false → list_any (is_mention key) (map (operand_replaced old new) xs) ≡ list_any (is_mention key) xs
+pub same_others : (old new key : ℕ) (xs : List Operand) → (use_key old == key) ≡ false → (use_key new == key) ≡ false → list_any (is_mention key) (map (operand_replaced old new) xs) ≡ list_any (is_mention key) xs
 same_others old new key [] e u = refl
 same_others old new key (x ∷ xs) e u =
     ap₂ (λ a b. a || b) (others_same old new key x e u) (same_others old new key xs e u)

@@ -127,7 +127,7 @@ pub record IsReplacing (old new : ℕ) (before after : List BlockData) : Type 0 
   pub partly : ArePartlyReplaced old new before after
   pub whole : map (block_replaced old new) after ≡ map (block_replaced old new) before
 
-all_instrs-replaced : (old new : ℕ) (blocks : List BlockData) → all_instrs (map (block_replaced old new) blocks) ≡ map (entry_replaced old new) (all_instrs blocks)
+pub all_instrs-replaced : (old new : ℕ) (blocks : List BlockData) → all_instrs (map (block_replaced old new) blocks) ≡ map (entry_replaced old new) (all_instrs blocks)
 all_instrs-replaced old new [] = refl
 all_instrs-replaced old new (b ∷ bs) =
     ap (λ (xs : List (ℕ × InstrData)). map (entry_replaced old new) b.instrs ++ xs) (all_instrs-replaced old new bs) ∙ sym (map-append (entry_replaced old new) b.instrs (all_instrs bs))
