@@ -4,6 +4,7 @@ use Rattle.std.specs.Prelude.{slice_get, option_map, ◌==◌, map, filter}
 use Rattle.std.specs.List.{list_any}
 use Rattle.std.specs.Option.{option_map_or}
 use Rattle.std.proofs.lemmas.Bool.Decides.{nat_tests}
+use Rattle.std.proofs.lemmas.List.Sums.{sum_by-cons}
 use Rattle.gi_mir.specs.declared.block.InstrId.{InstrId}
 use Rattle.gi_mir.specs.declared.mentions.Mentions.{Mentions}
 use Rattle.gi_mir.specs.declared.operand.Operand.{Operand}
@@ -12,12 +13,14 @@ use Rattle.gi_mir.specs.declared.place.Place.{Place}
 use Rattle.gi_mir.specs.Data.{InstrData, BlockData}
 use Rattle.gi_mir.specs.Edit.{empty_block, all_instrs, is_use_of, uses}
 use Rattle.gi_mir.specs.Mentions.{use_key, is_mention, mentions, instr_id, mentioning, stands_before, merged, listed, IsListed, AreUsersMoved}
-use Rattle.gi_mir.specs.Places.{place, comes_before, HasPlaces}
+use Rattle.gi_mir.specs.Ids.{uses_among, uses_in, uses_of}
+use Rattle.gi_mir.specs.Places.{place, comes_before, nth_id, id_in, HasPlaces}
+use Rattle.gi_mir.specs.Tables.{IsTabled}
 use Rattle.gi_mir.specs.Uses.{operand_replaced, entry_replaced, block_replaced}
 use Rattle.gi_mir.proofs.Keys.{is_mention-use, mentions-use}
 use Rattle.gi_mir.proofs.Mentioned.{Each, Each-append, Each-from_slice_get, Each-all_instrs, Each-mentioning, Each-weaker, comes_first, comes_later, apart_test}
 use Rattle.gi_mir.proofs.Replaced.{uses-replaced, same_others}
-use Rattle.gi_mir.proofs.Replacing.{all_instrs-replaced}
+use Rattle.gi_mir.proofs.Replacing.{all_instrs-replaced, drop-end}
 
 -- ---- one step of a merge
 
@@ -53,12 +56,6 @@ drop-left before xs ys i j d hi hj early apart =
     ∙ step-left before (get_or xs i d) (get_or ys j d) (drop (suc i) xs) (drop (suc j) ys) early apart
     ∙ ap (λ (zs : List InstrId). get_or xs i d ∷ merged before (drop (suc i) xs) zs) (sym (drop-cons ys j d hj))
 
-drop-end : {X : Type 0} (xs : List X) (i : ℕ) → length xs ≤ i → drop i xs ≡ []
-drop-end [] zero h = refl
-drop-end [] (suc i) h = refl
-drop-end (x ∷ xs) zero h = absurd (omega arith)
-drop-end (x ∷ xs) (suc i) h = drop-end xs i (omega arith)
-
 append-none : {X : Type 0} (xs : List X) → xs ++ [] ≡ xs
 append-none [] = refl
 append-none (x ∷ xs) = ap (λ ys. x ∷ ys) (append-none xs)
@@ -84,6 +81,11 @@ pub merged-end : (before : InstrId → InstrId → Bool) (xs ys ids left all : L
 merged-end before xs ys ids left all i j c first last so_far =
     last ∙ ap₂ (λ (zs ws : List InstrId). zs ++ ws) (first ∙ ap (λ (zs : List InstrId). ids ++ zs) (rest-drop xs i)) (rest-drop ys j) ∙ append_assoc ids (drop i xs) (drop j ys)
     ∙ ap (λ (zs : List InstrId). ids ++ zs) (sym (merged-rest before xs ys i j c)) ∙ so_far
+
+-- a slice written back over all of a list
+pub written-back : {X : Type 0} (n : ℕ) (xs ys : List X) → length xs ≡ length ys → length ys ≡ n → take n (xs ++ drop (length xs) ys) ≡ xs
+written-back {X = X} n xs ys same count =
+    ap (λ (zs : List X). take n (xs ++ zs)) (drop-end ys (length xs) (omega arith)) ∙ ap (take n) (append-none xs) ∙ take-full xs n (omega arith)
 
 -- ---- lists of those that mention a key
 
@@ -272,3 +274,39 @@ moved-lists places blocks old new m moved apart has is_moved lists key =
         let not_old : key ≢ use_key old = λ same. absurd (cc (eq-eqb key (use_key old) same)) in
         let not_new : key ≢ use_key new = λ same. absurd (cc (eq-eqb key (use_key new) same)) in
         is_moved.others key not_old not_new ∙ lists key ∙ sym (mentioning-replaced old new key (mentions key) (λ e. mentions-other old new key e not_old not_new) (all_instrs blocks))
+
+-- ---- what is written down beside the blocks after the users are moved
+
+uses_among-replaced : (old new id : ℕ) (es : List (ℕ × InstrData)) → uses_among id (map (entry_replaced old new) es) ≡ uses_among id es
+uses_among-replaced old new id [] = refl
+uses_among-replaced old new id (e ∷ es) =
+    sum_by-cons (λ p. cond (p.0 == id) 1 0) (entry_replaced old new e) (map (entry_replaced old new) es)
+    ∙ ap (λ (n : ℕ). cond (e.0 == id) 1 0 + n) (uses_among-replaced old new id es)
+    ∙ sym (sum_by-cons (λ p. cond (p.0 == id) 1 0) e es)
+
+uses_of-replaced : (old new id : ℕ) (blocks : List BlockData) → uses_of id (map (block_replaced old new) blocks) ≡ uses_of id blocks
+uses_of-replaced old new id [] = refl
+uses_of-replaced old new id (b ∷ bs) =
+    sum_by-cons (uses_in id) (block_replaced old new b) (map (block_replaced old new) bs)
+    ∙ ap₂ ◌+◌ (uses_among-replaced old new id b.instrs) (uses_of-replaced old new id bs)
+    ∙ sym (sum_by-cons (uses_in id) b bs)
+
+nth_id-replaced : (old new : ℕ) (es : List (ℕ × InstrData)) (k : ℕ) → nth_id (map (entry_replaced old new) es) k ≡ nth_id es k
+nth_id-replaced old new [] k = refl
+nth_id-replaced old new (e ∷ es) zero = refl
+nth_id-replaced old new (e ∷ es) (suc k) = nth_id-replaced old new es k
+
+id_in-replaced : (old new : ℕ) (blocks : List BlockData) (b k : ℕ) → id_in (map (block_replaced old new) blocks) b k ≡ id_in blocks b k
+id_in-replaced old new [] b k = refl
+id_in-replaced old new (c ∷ cs) zero k = nth_id-replaced old new c.instrs k
+id_in-replaced old new (c ∷ cs) (suc b) k = id_in-replaced old new cs b k
+
+pub IsTabled-moved : (places : List Place) (blocks : List BlockData) (old new : ℕ) (m moved : Mentions) → old ≢ new → AreUsersMoved m moved places old new → IsTabled blocks places m → IsTabled (map (block_replaced old new) blocks) places moved
+IsTabled-moved places blocks old new m moved apart is_moved has = record {
+  own = record {
+    once = λ id. rw (uses_of-replaced old new id blocks) (has.own.once id);
+    given = λ id h. uses_of-replaced old new id blocks ∙ has.own.given id h;
+  };
+  has_places = record { located = λ id b k h. has.has_places.located id b k (sym (id_in-replaced old new blocks b k) ∙ h) };
+  has_mentions = moved-lists places blocks old new m moved apart has.has_places is_moved has.has_mentions;
+}

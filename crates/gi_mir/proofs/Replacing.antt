@@ -1,9 +1,10 @@
 -- Uses that are replaced one instruction after another, in layout order.
-use Rattle.std.proofs.Common.{◌≡◌, ◌≢◌, ℕ, zero, suc, ◌+◌, ◌-◌, ◌<◌, ◌≤◌, Bool, true, false, not, ◌&&◌, ◌||◌, cond, List, [], ◌∷◌, ◌++◌, Option, Some, ◌⊎◌, inl, inr, ⊎_elim, length, take, drop, get_or, set, refl, sym, ap, ap₂, ◌∙◌, arith, eq-eqb, eqb-true, max, true≢false}
+use Rattle.std.proofs.Common.{◌≡◌, ◌≢◌, ℕ, zero, suc, ◌+◌, ◌-◌, ◌<◌, ◌≤◌, Bool, true, false, not, ◌&&◌, ◌||◌, cond, List, [], ◌∷◌, ◌++◌, Option, Some, ◌⊎◌, inl, inr, ⊎_elim, length, take, drop, get_or, set, drop-cons, add-one, refl, sym, subst, ap, ap₂, ◌∙◌, arith, eq-eqb, eqb-true, max, true≢false}
 use Rattle.std.proofs.lemmas.Bool.Decides.{nat_tests}
 use Rattle.std.specs.Prelude.{slice_get, option_map, ◌==◌, map, filter}
 use Rattle.std.specs.List.{list_any}
-use Rattle.std.proofs.lemmas.List.{map-append, take-map, length-append}
+use Rattle.std.proofs.lemmas.List.{map-append}
+use Rattle.std.proofs.lemmas.Option.{slice_get_within}
 use Rattle.std.proofs.Math.Seq.{map-set_same}
 use Rattle.gi_mir.specs.declared.block.InstrId.{InstrId}
 use Rattle.gi_mir.specs.declared.mentions.Mentions.{Mentions}
@@ -14,33 +15,22 @@ use Rattle.gi_mir.specs.Data.{InstrData, BlockData, FunctionData}
 use Rattle.gi_mir.specs.Edit.{empty_block, all_instrs, changed_at, block_changed_at, is_use_of, uses}
 use Rattle.gi_mir.specs.Mentions.{use_key, is_mention, mentions, instr_id, mentioning, operands_of, operands_at, precedes, listed, IsNoted, IsForgotten}
 use Rattle.gi_mir.specs.Places.{place, id_in, HasPlaces, with_changed_at}
-use Rattle.gi_mir.specs.Tables.{IsTabled, IsFirstMention}
-use Rattle.gi_mir.specs.Uses.{operand_replaced, with_reg_replaced, instr_replaced, entry_replaced, block_replaced, frame_of, ArePartlyReplaced}
+use Rattle.gi_mir.specs.Uses.{operand_replaced, with_reg_replaced, instr_replaced, entry_replaced, block_replaced}
 use Rattle.gi_mir.proofs.FormedLemmas.{changed_at-suc}
 use Rattle.gi_mir.proofs.Keys.{mentions-use}
-use Rattle.gi_mir.proofs.Located.{id_in-within}
-use Rattle.gi_mir.proofs.Mentioned.{Each, Each-weaker, IsSplit, IsSplit-at, IsListedAs-forgotten, mentioning-parts, mentioning-append, ahead, behind, all-split-at, all-changed, Each-mentioning}
+use Rattle.gi_mir.proofs.Located.{get_or-within, id_in-within, nth_id-within, HasPlaces-changed}
+use Rattle.gi_mir.proofs.Mentioned.{Each, Each-weaker, one_if, IsSplit, IsSplit-at, IsListedAs-forgotten, mentioning-parts, mentioning-append, ahead, behind, all-split-at, all-changed, Each-mentioning}
 use Rattle.gi_mir.proofs.Replaced.{mentions-replaced, entry_replaced-without, uses-replaced, replaced-twice}
 use Rattle.gi_mir.proofs.Tabled.{entry_of, after_note, IsTabled-changed}
 
--- ---- the tables after one instruction
-
-pub IsTabled-replace_at : (places : List Place) (blocks : List BlockData) (spot : Place) (body changed : BlockData) (id : InstrId) (old new : ℕ) (lists noted final : Mentions) → spot.block < length blocks → body ≡ get_or blocks spot.block body → id_in blocks spot.block spot.at ≡ Some id.0
-    → list_any (is_use_of old) (operands_at blocks spot) ≡ true → old ≢ new → changed ≡ block_changed_at (instr_replaced old new) spot.at body → IsNoted lists noted (precedes places spot) (operand.Use (record { 0 = new }) ∷ []) id
-    → IsForgotten noted final (operand.Use (record { 0 = old }) ∷ []) id → IsTabled blocks places lists → IsTabled (set blocks spot.block changed) places final
-IsTabled-replace_at places blocks spot body changed id old new lists noted final within same stands there apart is noted_so gone has =
-    entry_of (IsTabled (set blocks spot.block changed) places final) blocks spot.block spot.at id.0 stands
-    (λ i h.
-    let front = ahead blocks spot.block spot.at in
-    let back = behind blocks spot.block (suc spot.at) in
-    let now = operand.Use (record { 0 = new }) in
-    let was = operand.Use (record { 0 = old }) in
-    rw is (IsTabled-changed places blocks spot.block spot.at body (instr_replaced old new) id i lists final (λ key. (mentions key (id.0, i) || list_any (is_mention key) (now ∷ [])) && not (list_any (is_mention key) (was ∷ []))) within same h
-    (IsListedAs-forgotten (precedes places spot) id front back noted final (λ key. mentions key (id.0, i) || list_any (is_mention key) (now ∷ [])) (was ∷ []) (IsSplit-at places blocks spot.block spot.at id has.has_places stands)
-    (after_note places blocks spot id i now lists noted within stands h noted_so has) gone)
-    (λ key. mentions-replaced old new key i.operands apart (rw h at there)) has))
-
 -- ---- the first that mentions a key
+
+-- an instruction with its place, the first in layout order that mentions a key
+pub record IsFirstMention (blocks : List BlockData) (key : ℕ) (id : InstrId) (spot : Place) : Type 0 where
+  pub within : spot.block < length blocks
+  pub stands : id_in blocks spot.block spot.at ≡ Some id.0
+  pub there : list_any (is_mention key) (operands_at blocks spot) ≡ true
+  pub first : slice_get (mentioning key (all_instrs blocks)) 0 ≡ Some id
 
 -- an entry that is listed stands somewhere
 find_entry : (key : ℕ) (id : InstrId) (ps : List (ℕ × InstrData)) → slice_get (mentioning key ps) 0 ≡ Some id → (k : ℕ) × (i : InstrData) × (slice_get ps k ≡ Some (id.0, i)) × (mentions key (id.0, i) ≡ true)
@@ -123,62 +113,16 @@ blocks_without old new (b ∷ bs) h =
 
 -- ---- how far the replacement has come
 
-pub record IsReplacing (old new : ℕ) (before after : List BlockData) : Type 0 where
-  pub partly : ArePartlyReplaced old new before after
+-- the instructions of some ids are left
+pub record IsReplacing (old new : ℕ) (places : List Place) (left : List InstrId) (before after : List BlockData) : Type 0 where
+  pub has_places : HasPlaces places after
+  pub users : mentioning (use_key old) (all_instrs after) ≡ left
   pub whole : map (block_replaced old new) after ≡ map (block_replaced old new) before
 
 pub all_instrs-replaced : (old new : ℕ) (blocks : List BlockData) → all_instrs (map (block_replaced old new) blocks) ≡ map (entry_replaced old new) (all_instrs blocks)
 all_instrs-replaced old new [] = refl
 all_instrs-replaced old new (b ∷ bs) =
     ap (λ (xs : List (ℕ × InstrData)). map (entry_replaced old new) b.instrs ++ xs) (all_instrs-replaced old new bs) ∙ sym (map-append (entry_replaced old new) b.instrs (all_instrs bs))
-
-take-seam : {X : Type 0} (xs : List X) (x : X) (ys : List X) → take (suc (length xs)) (xs ++ (x ∷ ys)) ≡ xs ++ (x ∷ [])
-take-seam [] x ys = refl
-take-seam (y ∷ zs) x ys = ap (λ ws. y ∷ ws) (take-seam zs x ys)
-
-drop-seam : {X : Type 0} (xs : List X) (x : X) (ys : List X) → drop (suc (length xs)) (xs ++ (x ∷ ys)) ≡ ys
-drop-seam [] x ys = refl
-drop-seam (y ∷ zs) x ys = drop-seam zs x ys
-
-slice_get-seam : {X : Type 0} (xs : List X) (x : X) (ys : List X) → slice_get (xs ++ (x ∷ ys)) (length xs) ≡ Some x
-slice_get-seam [] x ys = refl
-slice_get-seam (y ∷ zs) x ys = slice_get-seam zs x ys
-
-drop-nil : {X : Type 0} (k : ℕ) (xs : List X) → xs ≡ [] → drop k xs ≡ []
-drop-nil zero xs h = h
-drop-nil (suc k) [] h = refl
-drop-nil (suc k) (x ∷ xs) h = cc
-
-drop-add : {X : Type 0} (m k : ℕ) (xs : List X) → drop (m + k) xs ≡ drop k (drop m xs)
-drop-add zero k xs = let z : 0 + k ≡ k = omega arith in rw z refl
-drop-add (suc m) k [] = drop-nil (suc m + k) [] refl ∙ sym (drop-nil k [] refl)
-drop-add (suc m) k (x ∷ xs) = let z : suc m + k ≡ suc (m + k) = omega arith in rw z (drop-add m k xs)
-
-drop-more : {X : Type 0} (m n : ℕ) (xs ys : List X) → m ≤ n → drop m xs ≡ drop m ys → drop n xs ≡ drop n ys
-drop-more m n xs ys le h =
-    let e : n ≡ m + (n - m) = omega arith in
-    ap (λ (k : ℕ). drop k xs) e ∙ drop-add m (n - m) xs ∙ ap (drop (n - m)) h ∙ sym (drop-add m (n - m) ys) ∙ sym (ap (λ (k : ℕ). drop k ys) e)
-
-slice_get-take-below : {X : Type 0} (xs : List X) (n k : ℕ) → k < n → slice_get (take n xs) k ≡ slice_get xs k
-slice_get-take-below xs zero k h = absurd (omega arith)
-slice_get-take-below [] (suc n) k h = refl
-slice_get-take-below (x ∷ xs) (suc n) zero h = refl
-slice_get-take-below (x ∷ xs) (suc n) (suc k) h = slice_get-take-below xs n k (omega arith)
-
--- what is replaced already has no use
-no_use : (old new : ℕ) (ps : List (ℕ × InstrData)) (k : ℕ) (e : ℕ × InstrData) → old ≢ new → slice_get (map (entry_replaced old new) ps) k ≡ Some e → uses old e ≡ false
-no_use old new [] k e apart h = cc
-no_use old new (p ∷ ps) zero e apart h = let same : entry_replaced old new p ≡ e = some_same (entry_replaced old new p) h in sym (ap (uses old) same) ∙ uses-replaced old new p apart
-  where
-    some_same : (x : ℕ × InstrData) → Some x ≡ Some e → x ≡ e
-    some_same x s = cc
-no_use old new (p ∷ ps) (suc k) e apart h = no_use old new ps k e apart h
-
-ids-changed_at : (edit : InstrData → InstrData) (ps : List (ℕ × InstrData)) (at : ℕ) → map (λ (p : ℕ × InstrData). p.0) (changed_at (λ (p : ℕ × InstrData). (p.0, edit p.1)) at ps) ≡ map (λ (p : ℕ × InstrData). p.0) ps
-ids-changed_at edit [] at = refl
-ids-changed_at edit (p ∷ ps) zero = refl
-ids-changed_at edit (p ∷ ps) (suc at) =
-    rw (changed_at-suc (λ (q : ℕ × InstrData). (q.0, edit q.1)) at p ps) (ap (λ (ns : List ℕ). p.0 ∷ ns) (ids-changed_at edit ps at))
 
 replaced-changed_at : (old new : ℕ) (ps : List (ℕ × InstrData)) (at : ℕ) → old ≢ new → map (entry_replaced old new) (changed_at (entry_replaced old new) at ps) ≡ map (entry_replaced old new) ps
 replaced-changed_at old new [] at apart = refl
@@ -187,78 +131,84 @@ replaced-changed_at old new (p ∷ ps) zero apart =
 replaced-changed_at old new (p ∷ ps) (suc at) apart =
     rw (changed_at-suc (entry_replaced old new) at p ps) (ap (λ (qs : List (ℕ × InstrData)). entry_replaced old new p ∷ qs) (replaced-changed_at old new ps at apart))
 
--- one more instruction
-pub IsReplacing-step : (old new : ℕ) (places : List Place) (before cur : List BlockData) (id : InstrId) (spot : Place) → old ≢ new → HasPlaces places cur → IsFirstMention cur (use_key old) id spot → IsReplacing old new before cur
-    → IsReplacing old new before (with_changed_at (instr_replaced old new) cur spot)
-IsReplacing-step old new places before cur id spot apart has found so_far =
-    entry_of (IsReplacing old new before (with_changed_at (instr_replaced old new) cur spot)) cur spot.block spot.at id.0 found.stands
-    (λ i h. by i h (all-split-at cur spot.block spot.at (id.0, i) found.within h) (all-changed cur spot.block spot.at (get_or cur spot.block empty_block) (instr_replaced old new) (id.0, i) found.within refl h)
-    (IsSplit-at places cur spot.block spot.at id has found.stands))
-  where
-    keeps_frame : frame_of (block_changed_at (instr_replaced old new) spot.at (get_or cur spot.block empty_block)) ≡ frame_of (get_or cur spot.block empty_block)
-    keeps_frame = ap (λ (ids : List ℕ). (record { successors = (get_or cur spot.block empty_block).successors; liveins = (get_or cur spot.block empty_block).liveins }, ids)) (ids-changed_at (instr_replaced old new) (get_or cur spot.block empty_block).instrs spot.at)
+-- the first of those that are left
+pub found-first : (old new : ℕ) (places : List Place) (id : InstrId) (left : List InstrId) (before cur : List BlockData) → IsReplacing old new places (id ∷ left) before cur → (spot : Place) × (slice_get places id.0 ≡ Some spot) × IsFirstMention cur (use_key old) id spot
+found-first old new places id left before cur so_far =
+    first_mention places cur (use_key old) id so_far.has_places (ap (λ (ids : List InstrId). slice_get ids 0) so_far.users)
 
+-- what is left once it is replaced
+others-left : (id : InstrId) (left xs ys : List InstrId) (p q : Bool) → xs ≡ [] → p ≡ true → q ≡ false → xs ++ (one_if p id ++ ys) ≡ id ∷ left → xs ++ (one_if q id ++ ys) ≡ left
+others-left id left xs ys p q hx hp hq h = let g = rw (hx, hp) at h in rw (hx, hq) (cc)
+
+-- one more instruction
+pub IsReplacing-step : (old new : ℕ) (places : List Place) (id : InstrId) (left : List InstrId) (before cur : List BlockData) (spot : Place) → old ≢ new → IsReplacing old new places (id ∷ left) before cur → IsFirstMention cur (use_key old) id spot
+    → IsReplacing old new places left before (with_changed_at (instr_replaced old new) cur spot)
+IsReplacing-step old new places id left before cur spot apart so_far found =
+    entry_of (IsReplacing old new places left before (with_changed_at (instr_replaced old new) cur spot)) cur spot.block spot.at id.0 found.stands
+    (λ i h. record {
+      has_places = HasPlaces-changed places cur spot.block spot.at (get_or cur spot.block empty_block) (instr_replaced old new) found.within (get_or-within cur spot.block empty_block (get_or cur spot.block empty_block) found.within) so_far.has_places;
+      users = users i h (IsSplit-at places cur spot.block spot.at id so_far.has_places found.stands);
+      whole = map-set_same (block_replaced old new) cur spot.block (block_changed_at (instr_replaced old new) spot.at (get_or cur spot.block empty_block)) empty_block keeps_whole ∙ so_far.whole;
+    })
+  where
     keeps_whole : block_replaced old new (block_changed_at (instr_replaced old new) spot.at (get_or cur spot.block empty_block)) ≡ block_replaced old new (get_or cur spot.block empty_block)
     keeps_whole = ap (λ (is : List (ℕ × InstrData)). record (get_or cur spot.block empty_block) { instrs = is }) (replaced-changed_at old new (get_or cur spot.block empty_block).instrs spot.at apart)
 
-    whole : map (block_replaced old new) (with_changed_at (instr_replaced old new) cur spot) ≡ map (block_replaced old new) before
-    whole = map-set_same (block_replaced old new) cur spot.block (block_changed_at (instr_replaced old new) spot.at (get_or cur spot.block empty_block)) empty_block keeps_whole ∙ so_far.whole
+    users : (i : InstrData) → slice_get (get_or cur spot.block empty_block).instrs spot.at ≡ Some (id.0, i) → IsSplit (precedes places (place spot.block spot.at)) id (ahead cur spot.block spot.at) (behind cur spot.block (suc spot.at))
+        → mentioning (use_key old) (all_instrs (with_changed_at (instr_replaced old new) cur spot)) ≡ left
+    users i h parts =
+        let key = use_key old in
+        let front = ahead cur spot.block spot.at in
+        let back = behind cur spot.block (suc spot.at) in
+        let split = sym (ap (mentioning key) (all-split-at cur spot.block spot.at (id.0, i) found.within h) ∙ mentioning-parts key front (id.0, i) back) ∙ so_far.users in
+        let none = none_first key id front _ (Each-weaker _ _ (λ e g. g.1) front parts.first) (ap (λ (ids : List InstrId). slice_get ids 0) split) in
+        ap (mentioning key) (all-changed cur spot.block spot.at (get_or cur spot.block empty_block) (instr_replaced old new) (id.0, i) found.within refl h)
+        ∙ mentioning-parts key front (id.0, instr_replaced old new i) back
+        ∙ others-left id left (mentioning key front) (mentioning key back) (mentions key (id.0, i)) (mentions key (id.0, instr_replaced old new i)) none (rw h at found.there) (mentions-use old (id.0, instr_replaced old new i) ∙ uses-replaced old new (id.0, i) apart) split
 
-    same_entries : map (entry_replaced old new) (all_instrs cur) ≡ map (entry_replaced old new) (all_instrs before)
-    same_entries = sym (all_instrs-replaced old new cur) ∙ ap all_instrs so_far.whole ∙ all_instrs-replaced old new before
+-- ---- in the words of the loop
 
-    by : (i : InstrData) → slice_get (get_or cur spot.block empty_block).instrs spot.at ≡ Some (id.0, i) → all_instrs cur ≡ (ahead cur spot.block spot.at) ++ ((id.0, i) ∷ (behind cur spot.block (suc spot.at))) → all_instrs (with_changed_at (instr_replaced old new) cur spot) ≡ (ahead cur spot.block spot.at) ++ ((id.0, instr_replaced old new i) ∷ (behind cur spot.block (suc spot.at))) → IsSplit (precedes places (place spot.block spot.at)) id (ahead cur spot.block spot.at) (behind cur spot.block (suc spot.at))
-        → IsReplacing old new before (with_changed_at (instr_replaced old new) cur spot)
-    by i h split after parts = record {
-      partly = record {
-        done = (suc (length (ahead cur spot.block spot.at)));
-        frames = map-set_same frame_of cur spot.block (block_changed_at (instr_replaced old new) spot.at (get_or cur spot.block empty_block)) empty_block keeps_frame ∙ so_far.partly.frames;
-        replaced = ap (take (suc (length (ahead cur spot.block spot.at)))) after ∙ take-seam (ahead cur spot.block spot.at) (id.0, instr_replaced old new i) (behind cur spot.block (suc spot.at))
-            ∙ sym (take-seam_mapped)
-            ∙ ap (λ (xs : List (ℕ × InstrData)). take (suc (length (ahead cur spot.block spot.at))) (map (entry_replaced old new) xs)) (sym split) ∙ ap (take (suc (length (ahead cur spot.block spot.at)))) same_entries ∙ take-map (entry_replaced old new) (suc (length (ahead cur spot.block spot.at))) (all_instrs before);
-        left = ap (drop (suc (length (ahead cur spot.block spot.at)))) after ∙ drop-seam (ahead cur spot.block spot.at) (id.0, instr_replaced old new i) (behind cur spot.block (suc spot.at)) ∙ sym (ap (drop (suc (length (ahead cur spot.block spot.at)))) split ∙ drop-seam (ahead cur spot.block spot.at) (id.0, i) (behind cur spot.block (suc spot.at)))
-            ∙ drop-more so_far.partly.done (suc (length (ahead cur spot.block spot.at))) (all_instrs cur) (all_instrs before) not_past so_far.partly.left;
-      };
-      whole = whole;
-    }
-      where
-        none : mentioning (use_key old) (ahead cur spot.block spot.at) ≡ []
-        none = none_first (use_key old) id (ahead cur spot.block spot.at) _ (Each-weaker _ _ (λ e g. g.1) (ahead cur spot.block spot.at) parts.first)
-            (ap (λ (ids : List InstrId). slice_get ids 0) (sym (ap (mentioning (use_key old)) split ∙ mentioning-append (use_key old) (ahead cur spot.block spot.at) ((id.0, i) ∷ (behind cur spot.block (suc spot.at))))) ∙ found.first)
+turn : (old new : ℕ) (places : List Place) (ids : List InstrId) (k : ℕ) (d : InstrId) (before cur : List BlockData) → k < length ids → IsReplacing old new places (drop k ids) before cur → IsReplacing old new places (get_or ids k d ∷ drop (suc k) ids) before cur
+turn old new places ids k d before cur within so_far =
+    subst (λ (xs : List InstrId). IsReplacing old new places xs before cur) (drop-cons ids k d within) so_far
 
-        take-seam_mapped : take (suc (length (ahead cur spot.block spot.at))) (map (entry_replaced old new) ((ahead cur spot.block spot.at) ++ ((id.0, i) ∷ (behind cur spot.block (suc spot.at))))) ≡ (ahead cur spot.block spot.at) ++ ((id.0, instr_replaced old new i) ∷ [])
-        take-seam_mapped =
-            ap (take (suc (length (ahead cur spot.block spot.at)))) (map-append (entry_replaced old new) (ahead cur spot.block spot.at) ((id.0, i) ∷ (behind cur spot.block (suc spot.at))) ∙ ap (λ (xs : List (ℕ × InstrData)). xs ++ ((id.0, instr_replaced old new i) ∷ map (entry_replaced old new) (behind cur spot.block (suc spot.at)))) (entries_without old new (ahead cur spot.block spot.at) none))
-            ∙ take-seam (ahead cur spot.block spot.at) (id.0, instr_replaced old new i) (map (entry_replaced old new) (behind cur spot.block (suc spot.at)))
+-- the place of an id is written down
+pub turn-within : (old new : ℕ) (places : List Place) (ids : List InstrId) (k : ℕ) (d : InstrId) (before cur : List BlockData) → k < length ids → IsReplacing old new places (drop k ids) before cur → (get_or ids k d).0 < length places
+turn-within old new places ids k d before cur within so_far =
+    let (spot, at, found) = found-first old new places (get_or ids k d) (drop (suc k) ids) before cur (turn old new places ids k d before cur within so_far) in
+    slice_get_within places (get_or ids k d).0 spot at
 
-        used : uses old (id.0, i) ≡ true
-        used = sym (mentions-use old (id.0, i)) ∙ rw h at found.there
+-- and its instruction is the first that uses the register
+pub turn-first : (old new : ℕ) (places : List Place) (ids : List InstrId) (k : ℕ) (d : InstrId) (e : Place) (before cur : List BlockData) → k < length ids → IsReplacing old new places (drop k ids) before cur → IsFirstMention cur (use_key old) (get_or ids k d) (get_or places (get_or ids k d).0 e)
+turn-first old new places ids k d e before cur within so_far =
+    let (spot, at, found) = found-first old new places (get_or ids k d) (drop (suc k) ids) before cur (turn old new places ids k d before cur within so_far) in
+    subst (λ (p : Place). IsFirstMention cur (use_key old) (get_or ids k d) p) (same places (get_or ids k d).0 spot at) found
+  where
+    same : (ps : List Place) (n : ℕ) (spot : Place) → slice_get ps n ≡ Some spot → spot ≡ get_or ps n e
+    same [] n spot h = cc
+    same (p ∷ ps) zero spot h = cc
+    same (p ∷ ps) (suc n) spot h = same ps n spot h
 
-        -- what is replaced ends before this instruction, which has a use
-        not_past : so_far.partly.done ≤ (suc (length (ahead cur spot.block spot.at)))
-        not_past = ⊎_elim
-            (λ (le : so_far.partly.done ≤ length (ahead cur spot.block spot.at)). omega arith)
-            (λ (past : length (ahead cur spot.block spot.at) < so_far.partly.done).
-            let here = slice_get-take-below (all_instrs cur) so_far.partly.done (length (ahead cur spot.block spot.at)) past ∙ ap (λ (xs : List (ℕ × InstrData)). slice_get xs (length (ahead cur spot.block spot.at))) split ∙ slice_get-seam (ahead cur spot.block spot.at) (id.0, i) (behind cur spot.block (suc spot.at)) in
-            absurd (true≢false (sym used ∙ no_use old new (take so_far.partly.done (all_instrs before)) (length (ahead cur spot.block spot.at)) (id.0, i) apart (ap (λ (xs : List (ℕ × InstrData)). slice_get xs (length (ahead cur spot.block spot.at))) (sym so_far.partly.replaced) ∙ here))))
-            (cases so_far.partly.done (length (ahead cur spot.block spot.at)))
-          where
-            cases : (m n : ℕ) → (m ≤ n) ⊎ (n < m)
-            cases m n = grind arith
+pub turn-bound : (old : ℕ) (id : InstrId) (cur : List BlockData) (spot : Place) (body : BlockData) → IsFirstMention cur (use_key old) id spot → spot.at < length (get_or cur spot.block body).instrs
+turn-bound old id cur spot body found =
+    rw (get_or-within cur spot.block body empty_block found.within) (nth_id-within id.0 (get_or cur spot.block empty_block).instrs spot.at found.stands)
 
--- fewer uses are left
-pub replaced-smaller : (old new : ℕ) (places later : List Place) (cur : List BlockData) (id : InstrId) (spot : Place) (m less : Mentions) → old ≢ new → IsTabled cur places m → IsFirstMention cur (use_key old) id spot → IsTabled (with_changed_at (instr_replaced old new) cur spot) later less
-    → length (listed less (use_key old)) < length (listed m (use_key old))
-replaced-smaller old new places later cur id spot m less apart has found after =
-    entry_of (length (listed less (use_key old)) < length (listed m (use_key old))) cur spot.block spot.at id.0 found.stands
-    (λ i h.
-    let front = ahead cur spot.block spot.at in
-    let back = behind cur spot.block (suc spot.at) in
-    let was = has.has_mentions (use_key old) ∙ ap (mentioning (use_key old)) (all-split-at cur spot.block spot.at (id.0, i) found.within h) ∙ mentioning-parts (use_key old) front (id.0, i) back in
-    let now = after.has_mentions (use_key old) ∙ ap (mentioning (use_key old)) (all-changed cur spot.block spot.at (get_or cur spot.block empty_block) (instr_replaced old new) (id.0, i) found.within refl h) ∙ mentioning-parts (use_key old) front (id.0, instr_replaced old new i) back in
-    let used : mentions (use_key old) (id.0, i) ≡ true = rw h at found.there in
-    let gone : mentions (use_key old) (id.0, instr_replaced old new i) ≡ false = mentions-use old (id.0, instr_replaced old new i) ∙ uses-replaced old new (id.0, i) apart in
-    rw (was, now, used, gone) (simp length-append (omega arith)))
+pub turn-done : (old new : ℕ) (places : List Place) (ids : List InstrId) (k : ℕ) (d : InstrId) (before cur : List BlockData) (spot : Place) (body changed : BlockData) → k < length ids → old ≢ new → IsReplacing old new places (drop k ids) before cur → IsFirstMention cur (use_key old) (get_or ids k d) spot
+    → changed ≡ block_changed_at (instr_replaced old new) spot.at (get_or cur spot.block body) → IsReplacing old new places (drop (k + 1) ids) before (set cur spot.block changed)
+turn-done old new places ids k d before cur spot body changed within apart so_far found is =
+    rw (add-one, is, get_or-within cur spot.block body empty_block found.within)
+    (IsReplacing-step old new places (get_or ids k d) (drop (suc k) ids) before cur spot apart (turn old new places ids k d before cur within so_far) found)
+
+pub drop-end : {X : Type 0} (xs : List X) (i : ℕ) → length xs ≤ i → drop i xs ≡ []
+drop-end [] zero h = refl
+drop-end [] (suc i) h = refl
+drop-end (x ∷ xs) zero h = absurd (omega arith)
+drop-end (x ∷ xs) (suc i) h = drop-end xs i (omega arith)
+
+-- when all are done
+pub turns-end : (old new : ℕ) (places : List Place) (ids : List InstrId) (k : ℕ) (before cur : List BlockData) → length ids ≤ k → IsReplacing old new places (drop k ids) before cur → cur ≡ map (block_replaced old new) before
+turns-end old new places ids k before cur past so_far =
+    sym (blocks_without old new cur (so_far.users ∙ drop-end ids k past)) ∙ so_far.whole
 
 -- ---- a function whose register is replaced
 

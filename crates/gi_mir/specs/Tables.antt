@@ -1,12 +1,10 @@
 -- What is written down beside the blocks of a function.
-use Rattle.std.specs.Prelude.{◌≡◌, ℕ, ◌<◌, true, List, [], Option, Some, None, length, slice_get}
-use Rattle.std.specs.List.{list_any}
+use Rattle.std.specs.Prelude.{◌≡◌, ℕ, List, length}
 use Rattle.gi_mir.specs.Data.{BlockData}
 use Rattle.gi_mir.specs.Edit.{all_instrs}
 use Rattle.gi_mir.specs.Ids.{AreOwnIds}
-use Rattle.gi_mir.specs.Mentions.{is_mention, listed, mentioning, operands_at}
-use Rattle.gi_mir.specs.Places.{HasPlaces, id_in}
-use Rattle.gi_mir.specs.declared.block.InstrId.{InstrId}
+use Rattle.gi_mir.specs.Mentions.{listed, mentioning}
+use Rattle.gi_mir.specs.Places.{HasPlaces}
 use Rattle.gi_mir.specs.declared.mentions.Mentions.{Mentions}
 use Rattle.gi_mir.specs.declared.place.Place.{Place}
 
@@ -15,14 +13,3 @@ pub record IsTabled (blocks : List BlockData) (places : List Place) (m : Mention
   pub own : AreOwnIds blocks (length places)
   pub has_places : HasPlaces places blocks
   pub has_mentions : (key : ℕ) → listed m key ≡ mentioning key (all_instrs blocks)
-
--- an instruction with its place, the first in layout order that mentions a key
-pub record IsFirstMention (blocks : List BlockData) (key : ℕ) (id : InstrId) (spot : Place) : Type 0 where
-  pub within : spot.block < length blocks
-  pub stands : id_in blocks spot.block spot.at ≡ Some id.0
-  pub there : list_any (is_mention key) (operands_at blocks spot) ≡ true
-  pub first : slice_get (mentioning key (all_instrs blocks)) 0 ≡ Some id
-
-abbrev pub IsFirstOf : List BlockData → ℕ → Option (InstrId × Place) → Type 0
-IsFirstOf blocks key None = mentioning key (all_instrs blocks) ≡ []
-IsFirstOf blocks key (Some found) = IsFirstMention blocks key found.0 found.1

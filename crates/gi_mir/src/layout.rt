@@ -4,18 +4,17 @@
 //! insertion and a removal number anew those behind them in their block alone. A use list is searched by halving,
 //! as its ids are in layout order.
 
-ghost use Rattle.std.specs.List.{list_any};
 ghost use Rattle.std.specs.Prelude.{◌≡◌, ◌≢◌, map, ◌<◌, ◌≤◌, ◌+◌, ◌-◌, true, false, ◌++◌, ◌∷◌, [], length, insert, remove, slice_set, OnOk, OnErr, IfOk, IfSome, Some, option_map, slice_get, slice_index_or};
-ghost use Rattle.gi_mir.specs.Edit.{block_with, empty_block, has_at, entry_at, with_operand, with_kind, block_changed_at, HasDefAt, is_use_of};
+ghost use Rattle.gi_mir.specs.Edit.{block_with, empty_block, has_at, entry_at, with_operand, with_kind, block_changed_at, HasDefAt, all_instrs};
 ghost use Rattle.gi_mir.specs.Formed.{is_formed};
-ghost use Rattle.gi_mir.specs.Mentions.{HasSameLists, IsNoted, IsSorted, Lacks, operands_at, precedes};
-ghost use Rattle.gi_mir.specs.Tables.{IsTabled, IsFirstOf};
-ghost use Rattle.gi_mir.specs.Uses.{instr_replaced, block_replaced, ArePartlyReplaced};
-ghost use Rattle.gi_mir.specs.Places.{HasGivenIds, id_in, HasDistinctIds, IsRenumbered, body_at, with_inserted, with_removed, with_changed_at};
+ghost use Rattle.gi_mir.specs.Mentions.{use_key, mentioning, HasSameLists, IsNoted, IsSorted, Lacks, operands_at, precedes};
+ghost use Rattle.gi_mir.specs.Tables.{IsTabled};
+ghost use Rattle.gi_mir.specs.Uses.{block_replaced};
+ghost use Rattle.gi_mir.specs.Places.{HasPlaces, HasGivenIds, id_in, HasDistinctIds, IsRenumbered, body_at, with_inserted, with_removed, with_changed_at};
 
 use crate::block::{Block, Body, InstrId, Numbered};
 use crate::instr::Instr;
-use crate::mentions::{Mentions, first, use_key};
+use crate::mentions::Mentions;
 use crate::operand::{Kind, Operand, Reg};
 use crate::place::Place;
 use gi_llt::Memory;
@@ -57,6 +56,20 @@ fn renumber(places: &mut [Place], from: Place, instrs: &[Numbered])
         let n = &instrs[at];
         let block = from.block;
         places[n.id.0] = Place { block, at };
+    }
+}
+
+/// Makes each use of a register one of another, given the ids of all instructions that use it.
+fn replace_among(blocks: &mut [Body], places: &[Place], users: &[InstrId], old: Reg, new: Reg)
+    requires located { HasPlaces places.now blocks.old }
+    requires users { users.now ≡ mentioning (use_key old.0) (all_instrs blocks.old) }
+    requires apart { old.0 ≢ new.0 }
+    ensures { blocks.new ≡ map (block_replaced old.0 new.0) blocks.old }
+{
+    for id in users {
+        let spot = places[id.0];
+        let body = &mut blocks[spot.block as usize];
+        body.replace_reg(spot.at, old, new);
     }
 }
 
@@ -215,51 +228,25 @@ impl Layout {
         Ok(())
     }
 
-    /// The first instruction that is listed under a key, and its place.
-    fn first_of(&self, key: u64) -> Option<(InstrId, Place)>
-        requires { IsTabled self.now.blocks.items self.now.places.items self.now.mentions }
-        ensures { IsFirstOf self.now.blocks.items key result }
-    {
-        match first(self.mentions.of(key)) {
-            Some(id) => Some((id, self.places[id.0])),
-            None => None,
-        }
-    }
-
-    /// Makes each use of a register in the instruction at a place one of another.
-    fn replace_at(&mut self, spot: Place, id: InstrId, old: Reg, new: Reg) -> Result<(), Memory>
-        requires tabled { IsTabled self.old.blocks.items self.old.places.items self.old.mentions }
-        requires within { spot.block < length self.old.blocks.items }
-        requires stands { id_in self.old.blocks.items spot.block spot.at ≡ Some id.0 }
-        requires there { list_any (is_use_of old.0) (operands_at self.old.blocks.items spot) ≡ true }
-        requires apart { old.0 ≢ new.0 }
-        ensures ok { OnOk result (self.new.blocks.items ≡ with_changed_at (instr_replaced old.0 new.0) self.old.blocks.items spot) }
+    /// Makes each use of a register one of another. Where memory runs out, nothing is changed.
+    pub(crate) fn replace_reg(&mut self, old: Reg, new: Reg) -> Result<(), Memory>
+        requires { IsTabled self.old.blocks.items self.old.places.items self.old.mentions }
+        ensures ok { OnOk result (self.new.blocks.items ≡ map (block_replaced old.0 new.0) self.old.blocks.items) }
         ensures err { OnErr result (self.new.blocks.items ≡ self.old.blocks.items) }
         ensures given { length self.new.places.items ≡ length self.old.places.items }
         ensures tabled { IsTabled self.new.blocks.items self.new.places.items self.new.mentions }
     {
-        self.mentions
-            .note_operand(self.places.as_slice(), Operand::Use(new), id, spot)?;
-        let body = &mut self.blocks[spot.block as usize];
-        body.replace_reg(spot.at, old, new);
-        self.mentions
-            .forget_operand(self.places.as_slice(), Operand::Use(old), id, spot);
-        Ok(())
-    }
-
-    /// Makes each use of a register one of another. Where memory runs out, those up to some place in layout
-    /// are replaced.
-    pub(crate) fn replace_reg(&mut self, old: Reg, new: Reg) -> Result<(), Memory>
-        requires tabled { IsTabled self.old.blocks.items self.old.places.items self.old.mentions }
-        requires apart { old.0 ≢ new.0 }
-        ensures ok { OnOk result (self.new.blocks.items ≡ map (block_replaced old.0 new.0) self.old.blocks.items) }
-        ensures err { OnErr result (ArePartlyReplaced old.0 new.0 self.old.blocks.items self.new.blocks.items) }
-        ensures given { length self.new.places.items ≡ length self.old.places.items }
-        ensures tabled { IsTabled self.new.blocks.items self.new.places.items self.new.mentions }
-    {
-        while let Some((id, spot)) = self.first_of(use_key(old)) {
-            self.replace_at(spot, id, old, new)?;
+        if old.0 == new.0 {
+            return Ok(());
         }
+        let users = self.mentions.replace(self.places.as_slice(), old, new)?;
+        replace_among(
+            self.blocks.as_mut_slice(),
+            self.places.as_slice(),
+            users.as_slice(),
+            old,
+            new,
+        );
         Ok(())
     }
 

@@ -1,26 +1,23 @@
--- One more instruction is replaced each time, until there is no use.
-use Rattle.std.proofs.Common.{◌∙◌, sym, subst, List}
-use Rattle.gi_mir.specs.Data.{BlockData}
-use Rattle.gi_mir.specs.Tables.{IsTabled}
-use Rattle.gi_mir.proofs.Replacing.{IsReplacing-step, replaced-smaller, blocks_without}
+-- The lists are merged first, and then the users changed.
+use Rattle.std.proofs.Common.{◌≡◌, ◌∙◌, ◌++◌, take, drop, length, ap, sym, arith}
+use Rattle.std.specs.Prelude.{map}
+use Rattle.std.proofs.lemmas.List.{length-map}
+use Rattle.gi_mir.specs.Uses.{block_replaced}
+use Rattle.gi_mir.proofs.Merging.{IsTabled-moved, written-back}
+use Rattle.gi_mir.proofs.Replacing.{blocks_same}
 use Rattle.gi_mir.proofs.layout.Layout.replace_reg.Goals as goal
 
-pub loop-id-smaller : goal.loop-id-smaller
-loop-id-smaller c =
-    let now = c.replace_at.new.self in
-    let found = rw (c.use_key.ensures, ← c.in-Some.id-is, ← c.in-Some.spot-is) at c.in-Some.ensures in
-    let tabled = subst (λ (bs : List BlockData). IsTabled bs now.places.items now.mentions) c.in_ok-replace_at.ensures.ok c.in_ok-replace_at.ensures.tabled in
-    replaced-smaller c.args.old.0 c.args.new.0 c.loop-id.self.places.items now.places.items c.loop-id.self.blocks.items c.in-Some.id c.in-Some.spot c.loop-id.self.mentions now.mentions c.requires.apart c.loop-id.invariant.tabled found tabled
+pub returns-then-old-new-clause-ok : goal.returns-then-old-new-clause-ok
+returns-then-old-new-clause-ok c =
+    sym (blocks_same c.args.old.0 c.args.self.now.blocks.items) ∙ ap (λ n. map (block_replaced c.args.old.0 n) c.args.self.now.blocks.items) c.if-old-new.true
 
-pub loop-id-preserved : goal.loop-id-preserved
-loop-id-preserved c =
-    let found = rw (c.use_key.ensures, ← c.in-Some.id-is, ← c.in-Some.spot-is) at c.in-Some.ensures in
-    record {
-      tabled = c.in_ok-replace_at.ensures.tabled;
-      replacing = rw c.in_ok-replace_at.ensures.ok (IsReplacing-step c.args.old.0 c.args.new.0 c.loop-id.self.places.items c.args.self.now.blocks.items c.loop-id.self.blocks.items c.in-Some.id c.in-Some.spot c.requires.apart c.loop-id.invariant.tabled.has_places found c.loop-id.invariant.replacing);
-      given = c.in_ok-replace_at.ensures.given ∙ c.loop-id.invariant.given;
-    }
-
-pub returns-clause-ok : goal.returns-clause-ok
-returns-clause-ok c =
-    sym (blocks_without c.args.old.0 c.args.new.0 c.loop-id.self.blocks.items (rw c.use_key.ensures at c.in_default.ensures)) ∙ c.loop-id.invariant.replacing.whole
+pub returns-clause-tabled : goal.returns-clause-tabled
+returns-clause-tabled c =
+    let blocks = c.args.self.now.blocks.items in
+    let edited = c.replace_among.new.blocks in
+    let done : edited ≡ map (block_replaced c.args.old.0 c.args.new.0) blocks = c.replace_among.ensures ∙ ap (map (block_replaced c.args.old.0 c.args.new.0)) c.as_mut_slice.ensures.value in
+    let same : length edited ≡ length blocks = ap length done ∙ length-map blocks (block_replaced c.args.old.0 c.args.new.0) in
+    let count : length blocks ≡ c.args.self.now.blocks.len = omega (arith, ap length c.as_mut_slice.ensures.value) in
+    let joined = rw c.as_slice.ensures.value at c.in_ok-users.ensures.ok in
+    rw (written-back c.args.self.now.blocks.len edited blocks same count, done)
+    (IsTabled-moved c.args.self.now.places.items blocks c.args.old.0 c.args.new.0 c.args.self.now.mentions c.replace.new.self c.if-old-new.false joined c.requires)
