@@ -168,7 +168,7 @@ blocks-ascending places (b ∷ bs) c at =
     (block-ascending places b.instrs (c + 0) 0 (λ k e h. at 0 k e h ∙ ap (λ (n : ℕ). Some (place (c + 0) n)) (none k)))
     (blocks-ascending places bs (suc c) (λ n k e h. at (suc n) k e h ∙ ap (λ (m : ℕ). Some (place m k)) (next n)))
     (Each-from_slice_get (λ e. Each (IsAhead (stands_before places) e) (all_instrs bs)) b.instrs (λ k e h.
-      Each-all_instrs (IsAhead (stands_before places) e) bs (λ n m d g. IsAhead-at places e d (c + 0) k (c + suc n) m (at 0 k e h) (at (suc n) m d g) (inl (omega arith)))))
+    Each-all_instrs (IsAhead (stands_before places) e) bs (λ n m d g. IsAhead-at places e d (c + 0) k (c + suc n) m (at 0 k e h) (at (suc n) m d g) (inl (omega arith)))))
   where
     none : (k : ℕ) → k ≡ 0 + k
     none k = omega arith

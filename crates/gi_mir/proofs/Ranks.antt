@@ -100,9 +100,9 @@ rank-late : (p : InstrId → Bool) (id : InstrId) (xs : List InstrId) → Each (
 rank-late p id xs late only = record {
   sorted = λ i j d le lt passes. cc (Each-get_or (λ x. p x ≡ false) xs j d lt late);
   ranked = λ at found. let z = only at found in (
-      (λ k d ge lt. absurd (omega arith)),
-      (λ k d ge lt. Each-get_or (λ x. p x ≡ false) xs k d lt late),
-    );
+    (λ k d ge lt. absurd (omega arith)),
+    (λ k d ge lt. Each-get_or (λ x. p x ≡ false) xs k d lt late),
+  );
 }
 
 rank-late-absent : (p : InstrId → Bool) (id : InstrId) (ys : List InstrId) → Each (λ x. (p x ≡ false) × ((x.0 == id.0) ≡ false)) ys → IsInRank p id ys

@@ -194,8 +194,7 @@ impl Layout {
     {
         let body = &mut self.blocks[spot.block as usize];
         let instr = body.take(spot.at);
-        self.mentions
-            .forget_all(self.places.as_slice(), instr.operands.as_slice(), id, spot);
+        self.mentions.forget_all(self.places.as_slice(), instr.operands.as_slice(), id, spot);
         self.renumber(spot);
         instr
     }

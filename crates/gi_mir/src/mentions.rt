@@ -151,13 +151,17 @@ struct Heads {
     right: usize,
 }
 
+impl Heads {
+    fn new(left: usize, right: usize) -> Heads
+        ensures left { result.left ≡ left }
+        ensures right { result.right ≡ right }
+    {
+        Heads { left, right }
+    }
+}
+
 /// The next id of a merge of two lists, and how far it has come then.
-fn next_merged(
-    places: &[Place],
-    xs: &[InstrId],
-    ys: &[InstrId],
-    at: Heads,
-) -> (InstrId, Heads)
+fn next_merged(places: &[Place], xs: &[InstrId], ys: &[InstrId], at: Heads) -> (InstrId, Heads)
     requires left { at.left < length xs.now }
     requires right { at.right < length ys.now }
     ensures next { merged (stands_before places.now) (drop at.left xs.now) (drop at.right ys.now) ≡ result.0 ∷ merged (stands_before places.now) (drop result.1.left xs.now) (drop result.1.right ys.now) }
@@ -168,11 +172,11 @@ fn next_merged(
     let x = xs[left];
     let y = ys[right];
     if stands_before(places, y, x) {
-        (y, Heads { left, right: right + 1 })
+        (y, Heads::new(left, right + 1))
     } else if y.0 == x.0 {
-        (x, Heads { left: left + 1, right: right + 1 })
+        (x, Heads::new(left + 1, right + 1))
     } else {
-        (x, Heads { left: left + 1, right })
+        (x, Heads::new(left + 1, right))
     }
 }
 
@@ -193,7 +197,7 @@ fn merge(
     ensures { IfOk result (λ ids. ids.items ≡ merged (stands_before places.now) xs.now ys.now) }
 {
     let mut ids = Vec::new(alloc);
-    let mut at = Heads { left: 0, right: 0 };
+    let mut at = Heads::new(0, 0);
     while at.left < xs.len() && at.right < ys.len() {
         let (id, next) = next_merged(places, xs, ys, at);
         ids.push(id).map_err(|_| Memory)?;
