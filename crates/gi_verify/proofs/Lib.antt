@@ -1,5 +1,6 @@
 pub mod Adding
 pub mod Backwards
+pub mod Bits
 pub mod Climbing
 pub mod Counting
 pub mod Finding

@@ -3,5 +3,6 @@ pub mod Masks
 pub mod Named
 pub mod Passed
 pub mod Refusal
+pub mod Rounds
 pub mod Sets
 pub mod Settled

@@ -2,6 +2,7 @@
 
 ghost use Rattle.std.specs.Prelude.{◌≡◌, ◌∷◌, ◌++◌, ◌<◌, [], false, length, get_or, OnOk};
 ghost use Rattle.gi_meaning.specs.Runs.{is_among};
+ghost use Rattle.gi_verify.specs.Rounds.{place_of};
 
 use gi_llt::Memory;
 use indexmap::IndexSet;
@@ -57,6 +58,13 @@ impl Listed {
         ensures { result ≡ length self.now }
     {
         self.set.len()
+    }
+
+    /// The place of a number.
+    pub(crate) fn place(&self, k: u32) -> Option<usize>
+        ensures { result ≡ place_of self.now k }
+    {
+        self.set.get_index_of(&k)
     }
 
     /// The number at a place.
