@@ -1,10 +1,13 @@
 pub mod Adding
 pub mod Backwards
 pub mod Bits
+pub mod Changing
 pub mod Climbing
+pub mod Closing
 pub mod Counting
 pub mod Finding
 pub mod Front
+pub mod Gathering
 pub mod Growing
 pub mod Kept
 pub mod Letters
@@ -18,6 +21,7 @@ pub mod Passing
 pub mod Placing
 pub mod Rising
 pub mod Same
+pub mod Roles
 pub mod Sooner
 pub mod Told
 pub mod Unmet

@@ -126,7 +126,7 @@ pub record AreSureEntries (f : FunctionData) (round : RoundData) (operands : Lis
 
 -- what an instruction uses of the round's registers is available
 pub record IsSure (f : FunctionData) (round : RoundData) (b : ℕ) (front : List (ℕ × InstrData)) (p : ℕ × InstrData) : Type 0 where
-  pub use : is_phi p.1 ≡ false → (n x : ℕ) → n < 64 → is_named round n x ≡ true → uses x p ≡ true → IsAnswer f x b front true
+  pub body : is_phi p.1 ≡ false → (n x : ℕ) → n < 64 → is_named round n x ≡ true → uses x p ≡ true → IsAnswer f x b front true
   pub entries : is_phi p.1 ≡ true → AreSureEntries f round p.1.operands
 
 -- the marked ones of a block up to a place do
@@ -155,7 +155,7 @@ abbrev pub is_before : List ℕ → (limit x : ℕ) → Bool
 is_before keys limit x = option_map_or (λ i. nat_lt i limit) (place_of keys x) false
 
 pub record IsCovered (f : FunctionData) (keys : List ℕ) (limit b : ℕ) (front : List (ℕ × InstrData)) (p : ℕ × InstrData) : Type 0 where
-  pub use : is_phi p.1 ≡ false → (x : ℕ) → is_before keys limit x ≡ true → uses x p ≡ true → IsAnswer f x b front true
+  pub body : is_phi p.1 ≡ false → (x : ℕ) → is_before keys limit x ≡ true → uses x p ≡ true → IsAnswer f x b front true
   pub entries : is_phi p.1 ≡ true → (k x a : ℕ) → k < length p.1.operands → entry_of (drop k p.1.operands) ≡ Some (x, a) → is_before keys limit x ≡ true → a < length f.blocks → IsAnswer f x a (body_at f.blocks a).instrs true
 
 pub record IsCoverOf (f : FunctionData) (cover : CoverData) : Type 0 where

@@ -20,6 +20,7 @@ pub(crate) struct Change {
 }
 
 /// In front of all instructions.
+#[tactic(auto, using(crate::proofs::Changing::none_changed, crate::proofs::Bits::none_in, crate::proofs::Bits::all_in))]
 pub(crate) fn unchanged(round: &Round) -> Change
     ensures { IsChange round.now [] result }
 {
@@ -59,6 +60,7 @@ fn with_other(change: Change, seen: Seen) -> Change
 }
 
 /// Behind one more instruction.
+#[tactic(auto, using(crate::proofs::Changing::phi_changed, crate::proofs::Changing::other_changed))]
 pub(crate) fn change_with(round: &Round, change: Change, seen: Seen, numbered: &Numbered) -> Change
     requires { IsSeen round.now ((numbered.now).1).operands seen }
     ensures { (front : List (ℕ × InstrData)) → IsChange round.now front change → IsChange round.now (front ++ numbered.now ∷ []) result }

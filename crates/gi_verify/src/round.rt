@@ -35,6 +35,7 @@ pub(crate) struct Role {
 }
 
 /// A word of one register of a round, by its place in the order.
+#[tactic(auto, using(crate::proofs::Roles::no_place, crate::proofs::Roles::own_place))]
 fn named_at(first: usize, place: usize) -> u64
     ensures { IsWordOf (λ n. place == first + n) result }
 {

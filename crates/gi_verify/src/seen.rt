@@ -4,7 +4,7 @@ ghost use Rattle.std.specs.Prelude.{◌≡◌, ◌||◌, not};
 ghost use Rattle.gi_verify.specs.Rounds.{IsSeen, IsSeenOn, IsWordOf, has, is_named, is_taken};
 
 use crate::round::Round;
-use crate::words::{ALL, either, without};
+use crate::words::{either, others};
 use gi_mir::operand::Operand;
 
 /// What operands define, what these definitions take away, what they use, and what isn't computed from all that they use.
@@ -31,13 +31,6 @@ fn with_definition(round: &Round, seen: Seen, r: u32) -> Seen
     }
 }
 
-/// The bits that aren't set.
-fn others(word: u64) -> u64
-    ensures { IsWordOf (λ n. not (has word n)) result }
-{
-    without(ALL, word)
-}
-
 /// The same with a use.
 fn with_use(round: &Round, seen: Seen, r: u32) -> Seen
     ensures made { result.made ≡ seen.made }
@@ -54,6 +47,7 @@ fn with_use(round: &Round, seen: Seen, r: u32) -> Seen
 }
 
 /// The same with an operand.
+#[tactic(auto, using(crate::proofs::Roles::seen_definition, crate::proofs::Roles::seen_use, crate::proofs::Roles::seen_nothing))]
 fn with_operand(round: &Round, seen: Seen, operand: Operand) -> Seen
     ensures { IsSeenOn round.now seen operand result }
 {
@@ -65,6 +59,7 @@ fn with_operand(round: &Round, seen: Seen, operand: Operand) -> Seen
 }
 
 /// What operands do.
+#[tactic(auto, using(crate::proofs::Roles::seen_none, crate::proofs::Roles::seen_all))]
 pub(crate) fn seen_in(round: &Round, operands: &[Operand]) -> Seen
     ensures { IsSeen round.now operands.now result }
 {

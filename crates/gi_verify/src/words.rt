@@ -1,6 +1,6 @@
 //! Words of 64 bits, each a set of the registers of a round.
 
-ghost use Rattle.std.specs.Prelude.{◌≡◌, ◌<◌, ◌-◌, ◌||◌, ◌&&◌, ◌==◌, ℕ, true, false, not, get_or};
+ghost use Rattle.std.specs.Prelude.{◌≡◌, ◌<◌, ◌-◌, ◌||◌, ◌&&◌, ◌==◌, ℕ, true, not, get_or};
 ghost use Rattle.std.specs.Int.{bit_at};
 ghost use Rattle.gi_verify.specs.Rounds.{IsWordOf, has};
 
@@ -11,16 +11,14 @@ pub(crate) const WIDTH: usize = 64;
 pub(crate) const ALL: u64 = u64::MAX;
 
 /// The one at a place.
-#[tactic(auto, using(crate::proofs::Bits::one_set))]
 pub(crate) fn one(n: usize) -> u64
     requires { n < 64 }
     ensures { IsWordOf (λ q. n == q) result }
 {
-    0 | 1 << n
+    1 << n
 }
 
 /// Those in either of two words.
-#[tactic(auto, using(crate::proofs::Bits::either_in))]
 pub(crate) fn either(a: u64, b: u64) -> u64
     ensures { IsWordOf (λ n. has a n || has b n) result }
 {
@@ -28,7 +26,6 @@ pub(crate) fn either(a: u64, b: u64) -> u64
 }
 
 /// Those in both of two words.
-#[tactic(auto, using(crate::proofs::Bits::both_in))]
 pub(crate) fn both(a: u64, b: u64) -> u64
     ensures { IsWordOf (λ n. has a n && has b n) result }
 {
@@ -43,8 +40,14 @@ fn turned(bits: u64) -> u64
     !bits
 }
 
+/// Those that aren't in a word.
+pub(crate) fn others(word: u64) -> u64
+    ensures { IsWordOf (λ n. not (has word n)) result }
+{
+    turned(word)
+}
+
 /// Those in one word and not in another.
-#[tactic(auto, using(crate::proofs::Bits::without_in))]
 pub(crate) fn without(a: u64, b: u64) -> u64
     ensures { IsWordOf (λ n. not (has b n) && has a n) result }
 {
