@@ -72,3 +72,6 @@ ones_turned n h = bit_at_not w64 0 n (omega arith) h ∙ ap (λ k. 1 - k) (bit_a
 
 pub all_in : (n : ℕ) → n < 64 → has 18446744073709551615 n ≡ true
 all_in n h = ap (λ k. k == 1) (ones_turned n h)
+
+pub none_shared : (a b word : ℕ) → IsWordOf (λ n. has a n && has b n) word → word ≡ 0 → (n : ℕ) → n < 64 → has a n ≡ true → has b n ≡ true → ⊥
+none_shared a b word are empty n h one other = true≢false (sym (sym (none_in n) ∙ ap (λ w. has w n) (sym empty) ∙ are.by n h ∙ ap₂ (λ s t. s && t) one other))

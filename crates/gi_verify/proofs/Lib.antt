@@ -5,6 +5,7 @@ pub mod Changing
 pub mod Climbing
 pub mod Closing
 pub mod Counting
+pub mod Covering
 pub mod Finding
 pub mod Front
 pub mod Gathering
@@ -25,3 +26,4 @@ pub mod Roles
 pub mod Sooner
 pub mod Told
 pub mod Unmet
+pub mod Using

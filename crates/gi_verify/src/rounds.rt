@@ -1,15 +1,15 @@
 //! A round: what the blocks of a function make of its registers, and whether guesses at it are right.
 
-ghost use Rattle.std.specs.Prelude.{◌≡◌, ◌<◌, ◌++◌, ◌∷◌, ℕ, List, true, IfOk, IfSome, OnOk, length};
+ghost use Rattle.std.specs.Prelude.{◌≡◌, ◌<◌, ◌++◌, ◌∷◌, [], ℕ, List, true, IfOk, IfSome, OnOk, length};
 ghost use Rattle.gi_mir.specs.Data.{InstrData};
 ghost use Rattle.gi_mir.specs.Edit.{block_at};
-ghost use Rattle.gi_verify.specs.Rounds.{AreChanges, AreMadeInReach, AreWithin, IsApartAt, IsClosed, IsComputedAt, IsJoinedAt, IsPassedOver, IsSeen};
+ghost use Rattle.gi_verify.specs.Rounds.{AreChanges, AreMadeInReach, AreWithin, IsApartAt, IsClosed, IsComputedAt, IsJoinedAt, IsPassedOver, IsSeen, has};
 ghost use Rattle.gi_verify.specs.Sets.{AreReachedBlocks};
 
 use crate::change::{Change, change_with, there_with, unchanged};
 use crate::operands::is_pure;
 use crate::round::Round;
-use crate::seen::{Seen, seen_in};
+use crate::seen::{Seen, seen_at};
 use crate::words::{both, either, is_within, word_at};
 use gi_llt::Memory;
 use gi_mir::block::Numbered;
@@ -24,21 +24,39 @@ struct Block {
     is_computed: bool,
 }
 
+/// Whether two words have nothing in common.
+#[tactic(auto, using(crate::proofs::Bits::none_shared))]
+fn is_apart(a: u64, b: u64) -> bool
+    ensures { result ≡ true → (n : ℕ) → n < 64 → has a n ≡ true → has b n ≡ true → ⊥ }
+{
+    both(a, b) == 0
+}
+
 /// Whether what an instruction uses is known to be what its registers are computed from, where it is pure.
+#[tactic(auto, using(crate::proofs::Using::computed_at, crate::proofs::Using::never_pure))]
 fn is_computed_at(round: &Round, numbered: &Numbered, seen: Seen) -> bool
     requires { IsSeen round.now ((numbered.now).1).operands seen }
     ensures { result ≡ true → IsComputedAt round.now numbered.now }
 {
     let _ = round;
-    both(either(seen.made, seen.taken), seen.strange) == 0 || !is_pure(&numbered.instr)
+    is_apart(either(seen.made, seen.taken), seen.strange) || !is_pure(&numbered.instr)
+}
+
+/// Whether it is known of the instructions in front, and of one more.
+fn is_computed_with(round: &Round, before: bool, numbered: &Numbered, seen: Seen) -> bool
+    requires { IsSeen round.now ((numbered.now).1).operands seen }
+    ensures before { result ≡ true → before ≡ true }
+    ensures here { result ≡ true → IsComputedAt round.now numbered.now }
+{
+    before && is_computed_at(round, numbered, seen)
 }
 
 /// Behind one more instruction.
 fn passed_with(round: &Round, passed: Block, numbered: &Numbered) -> Block
     ensures { (front : List (ℕ × InstrData)) → IsPassedOver round.now front passed → IsPassedOver round.now (front ++ numbered.now ∷ []) result }
 {
-    let seen = seen_in(round, numbered.instr.operands.as_slice());
-    let is_computed = passed.is_computed && is_computed_at(round, numbered, seen);
+    let seen = seen_at(round, numbered);
+    let is_computed = is_computed_with(round, passed.is_computed, numbered, seen);
     Block {
         change: change_with(round, passed.change, seen, numbered),
         is_computed,
@@ -46,6 +64,7 @@ fn passed_with(round: &Round, passed: Block, numbered: &Numbered) -> Block
 }
 
 /// What a block makes.
+#[tactic(auto, using(crate::proofs::Gathering::over_none, crate::proofs::Gathering::over_all))]
 fn passed_in(round: &Round, function: &Function, b: u32) -> Block
     requires { b < length function.now.blocks }
     ensures { IsPassedOver round.now (block_at function.now b).instrs result }
@@ -90,6 +109,7 @@ pub(crate) fn changes_of(
 }
 
 /// Whether a block loses nothing that is available at the start of a successor, where it is reached.
+#[tactic(auto, using(crate::proofs::Gathering::joined_at, crate::proofs::Gathering::joined_out))]
 fn is_joined_at(
     function: &Function,
     reached: &[bool],
@@ -111,6 +131,7 @@ fn is_joined_at(
 }
 
 /// Whether all that is available at the start of these blocks is in a word.
+#[tactic(auto, using(crate::proofs::Gathering::within_none, crate::proofs::Gathering::within_all))]
 fn are_within(starts: &[u64], blocks: &[u32], end: u64) -> bool
     ensures { result ≡ true → AreWithin starts.now blocks.now end }
 {
@@ -137,6 +158,7 @@ fn are_joined(function: &Function, reached: &[bool], changes: &[Change], starts:
 }
 
 /// What is made in reached blocks.
+#[tactic(auto, using(crate::proofs::Gathering::made_none))]
 fn made_in_reach(
     round: &Round,
     function: &Function,
@@ -171,6 +193,7 @@ fn are_apart(function: &Function, reached: &[bool], starts: &[u64], made: u64) -
 }
 
 /// Whether registers are available at the start of blocks where this is said of them.
+#[tactic(auto, using(crate::proofs::Closing::closed))]
 pub(crate) fn is_closed(
     round: &Round,
     function: &Function,

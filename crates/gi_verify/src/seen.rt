@@ -5,6 +5,7 @@ ghost use Rattle.gi_verify.specs.Rounds.{IsSeen, IsSeenOn, IsWordOf, has, is_nam
 
 use crate::round::Round;
 use crate::words::{either, others};
+use gi_mir::block::Numbered;
 use gi_mir::operand::Operand;
 
 /// What operands define, what these definitions take away, what they use, and what isn't computed from all that they use.
@@ -60,7 +61,7 @@ fn with_operand(round: &Round, seen: Seen, operand: Operand) -> Seen
 
 /// What operands do.
 #[tactic(auto, using(crate::proofs::Roles::seen_none, crate::proofs::Roles::seen_all))]
-pub(crate) fn seen_in(round: &Round, operands: &[Operand]) -> Seen
+fn seen_in(round: &Round, operands: &[Operand]) -> Seen
     ensures { IsSeen round.now operands.now result }
 {
     let mut seen = Seen {
@@ -73,4 +74,18 @@ pub(crate) fn seen_in(round: &Round, operands: &[Operand]) -> Seen
         seen = with_operand(round, seen, *operand);
     }
     seen
+}
+
+/// The operands of an instruction.
+fn operands_of(numbered: &Numbered) -> &[Operand]
+    ensures { result.now ≡ ((numbered.now).1).operands }
+{
+    numbered.instr.operands.as_slice()
+}
+
+/// What an instruction does.
+pub(crate) fn seen_at(round: &Round, numbered: &Numbered) -> Seen
+    ensures { IsSeen round.now ((numbered.now).1).operands result }
+{
+    seen_in(round, operands_of(numbered))
 }

@@ -12,7 +12,7 @@ use crate::change::{Change, change_with, there_with, unchanged};
 use crate::ends::is_phi;
 use crate::round::Round;
 use crate::rounds::{changes_of, is_closed};
-use crate::seen::{Seen, seen_in};
+use crate::seen::{Seen, seen_at};
 use crate::spread::starts_of;
 use crate::words::{is_within, word_at};
 use gi_llt::Memory;
@@ -154,7 +154,7 @@ fn look_in(
 {
     let mut change = unchanged(round);
     for numbered in function.instrs(b) {
-        let seen = seen_in(round, numbered.instr.operands.as_slice());
+        let seen = seen_at(round, numbered);
         look_at(round, function, changes, starts, b, change, seen, numbered, fine);
         change = change_with(round, change, seen, numbered);
     }
