@@ -82,7 +82,8 @@ fn is_covered(
 {
     let _ = function;
     let _ = front;
-    order.cover.covers(r, numbered.id)
+    let id = id_of(numbered);
+    order.cover.covers(r, id)
 }
 
 /// Whether what an operand uses is available.
