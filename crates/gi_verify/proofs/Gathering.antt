@@ -1,5 +1,5 @@
 -- Blocks of a round, one after the other.
-use Rattle.std.proofs.Common.{◌≡◌, ℕ, zero, suc, ◌+◌, ◌<◌, ◌≤◌, Bool, true, false, not, ◌&&◌, ◌||◌, ◌==◌, List, [], ◌∷◌, ◌++◌, Option, Some, None, length, take, get_or, inl, inr, ⊎_elim, refl, sym, ap, ap₂, ◌∙◌, subst, true≢false, arith, add-one, take-suc, take_all, append-nil}
+use Rattle.std.proofs.Common.{◌≡◌, ℕ, zero, suc, ◌+◌, ◌<◌, ◌≤◌, Bool, true, false, not, ◌&&◌, ◌||◌, ◌==◌, List, [], ◌∷◌, ◌++◌, Option, Some, None, length, take, get_or, ◌⊎◌, inl, inr, ⊎_elim, refl, sym, ap, ap₂, ◌∙◌, subst, true≢false, arith, add-one, take-suc, take_all, append-nil}
 use Rattle.std.specs.Prelude.{slice_get}
 use Rattle.std.proofs.lemmas.Bool.{or_cases, and_parts, eqb-true}
 use Rattle.std.proofs.lemmas.Option.{same_Some, slice_get-get_or}
@@ -59,7 +59,10 @@ pub record AreChangesTo (f : FunctionData) (round : RoundData) (changes : List C
 
 length_with : {X : Type 0} (xs : List X) (x : X) → length (xs ++ x ∷ []) ≡ length xs + 1
 length_with [] x = refl
-length_with (y ∷ xs) x = ap suc (length_with xs x)
+length_with (y ∷ xs) x = more (length (xs ++ x ∷ [])) (length xs) (length_with xs x)
+  where
+    more : (m n : ℕ) → m ≡ n + 1 → suc m ≡ suc n + 1
+    more m n h = omega (arith, h)
 
 pub no_changes : (f : FunctionData) (round : RoundData) → AreChangesTo f round [] 0
 no_changes f round = record { count = refl; by = λ b c h. absurd (nothing b c h); computed = λ b k p h at. absurd (never b h) }

@@ -1,6 +1,6 @@
 //! A round: what the blocks of a function make of its registers, and whether guesses at it are right.
 
-ghost use Rattle.std.specs.Prelude.{◌≡◌, ◌<◌, ◌++◌, ◌∷◌, [], ℕ, List, true, IfOk, IfSome, OnOk, length};
+ghost use Rattle.std.specs.Prelude.{◌≡◌, ◌<◌, ◌++◌, ◌∷◌, [], ℕ, List, true, IfOk, IfSome, OnOk, length, get_or};
 ghost use Rattle.gi_mir.specs.Data.{InstrData};
 ghost use Rattle.gi_mir.specs.Edit.{block_at};
 ghost use Rattle.gi_verify.specs.Rounds.{AreChanges, AreMadeInReach, AreWithin, IsApartAt, IsClosed, IsComputedAt, IsJoinedAt, IsPassedOver, IsSeen, has};
@@ -157,6 +157,31 @@ fn are_joined(function: &Function, reached: &[bool], changes: &[Change], starts:
     true
 }
 
+/// What is made in reached blocks, with what one more block makes, where it is one.
+#[tactic(auto, using(crate::proofs::Gathering::made_on))]
+fn made_with(
+    round: &Round,
+    function: &Function,
+    reached: &[bool],
+    changes: &[Change],
+    made: u64,
+    a: u32,
+) -> u64
+    requires reached { length reached.now ≡ length function.now.blocks }
+    requires changes { AreChanges function.now round.now changes.now }
+    requires within { a < length function.now.blocks }
+    requires made { AreMadeInReach function.now round.now reached.now made }
+    ensures { AreMadeInReach function.now round.now reached.now result }
+{
+    let _ = round;
+    let _ = function;
+    if reached[a as usize] {
+        either(made, changes[a as usize].made)
+    } else {
+        made
+    }
+}
+
 /// What is made in reached blocks.
 #[tactic(auto, using(crate::proofs::Gathering::made_none))]
 fn made_in_reach(
@@ -169,31 +194,44 @@ fn made_in_reach(
     requires changes { AreChanges function.now round.now changes.now }
     ensures { AreMadeInReach function.now round.now reached.now result }
 {
-    let _ = round;
     let mut made = 0;
     for a in 0..function.block_count() {
-        if reached[a as usize] {
-            made = either(made, changes[a as usize].made);
-        }
+        made = made_with(round, function, reached, changes, made, a);
     }
     made
 }
 
-/// Whether at the start of blocks that aren't reached only what is made in reached ones is available.
+/// Whether at the start of a block only what is made in reached ones is available, where it isn't one.
+#[tactic(auto, using(crate::proofs::Gathering::apart_at, crate::proofs::Gathering::apart_in))]
+fn is_apart_at(reached: &[bool], starts: &[u64], made: u64, b: u32) -> bool
+    requires { b < length reached.now }
+    ensures { result ≡ true → IsApartAt reached.now starts.now made b }
+{
+    reached[b as usize] || is_within(word_at(starts, b as usize), made)
+}
+
+/// Whether it is so of all blocks.
 fn are_apart(function: &Function, reached: &[bool], starts: &[u64], made: u64) -> bool
-    requires reached { length reached.now ≡ length function.now.blocks }
+    requires { length reached.now ≡ length function.now.blocks }
     ensures { result ≡ true → (b : ℕ) → b < length function.now.blocks → IsApartAt reached.now starts.now made b }
 {
     for b in 0..function.block_count() {
-        if !reached[b as usize] && !is_within(word_at(starts, b as usize), made) {
+        if !is_apart_at(reached, starts, made, b) {
             return false;
         }
     }
     true
 }
 
+/// Whether there is a word for each block, and nothing is available at the function's start.
+fn is_begun(function: &Function, starts: &[u64]) -> bool
+    ensures count { result ≡ true → length starts.now ≡ length function.now.blocks }
+    ensures first { result ≡ true → get_or starts.now 0 0 ≡ 0 }
+{
+    starts.len() == function.block_count() as usize && word_at(starts, 0) == 0
+}
+
 /// Whether registers are available at the start of blocks where this is said of them.
-#[tactic(auto, using(crate::proofs::Closing::closed))]
 pub(crate) fn is_closed(
     round: &Round,
     function: &Function,
@@ -205,10 +243,9 @@ pub(crate) fn is_closed(
     requires changes { AreChanges function.now round.now changes.now }
     ensures { result ≡ true → IsClosed function.now round.now starts.now }
 {
-    function.own_ids();
     let made = made_in_reach(round, function, reached, changes);
-    starts.len() == function.block_count() as usize
-        && word_at(starts, 0) == 0
-        && are_joined(function, reached, changes, starts)
-        && are_apart(function, reached, starts, made)
+    if !is_begun(function, starts) || !are_joined(function, reached, changes, starts) {
+        return false;
+    }
+    are_apart(function, reached, starts, made)
 }
