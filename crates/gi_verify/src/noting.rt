@@ -138,7 +138,7 @@ pub(crate) fn with_cover(
     order: Order,
     reached: &[bool],
 ) -> Result<Order, Memory>
-    requires order { IsOrderOf function.now order.now }
+    requires order { IsOrderOf function.now order }
     requires reached { AreReachedBlocks function.now reached.now }
     ensures { IfOk result (λ order. IsOrderOf function.now order) }
 {
