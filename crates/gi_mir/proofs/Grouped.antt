@@ -1,11 +1,10 @@
 -- Each word is found in its group.
-use Rattle.std.proofs.Common.{◌≡◌, ℕ, ◌+◌, ◌-◌, ◌%◌, ◌<◌, arith, Bor, IfSome, Bool, true, false, cond, List, [], ◌∷◌, length, get_or, map, Option, Some, None, find, bytes_eq, slice_get, Decides, refl, sym, ap, subst, ◌∙◌}
+use Rattle.std.proofs.Common.{◌≡◌, ℕ, ◌+◌, ◌-◌, ◌%◌, IfSome, Bool, true, false, cond, List, [], ◌∷◌, length, get_or, Option, Some, None, find, bytes_eq, slice_get, Decides, refl, sym, ap, subst, ◌∙◌}
 use Rattle.std.proofs.lemmas.Slice.Eq.{bytes_eq-Decides}
-use Rattle.std.proofs.lemmas.List.{get_or-map, length-map}
 use Rattle.std.proofs.lemmas.Option.{get_or_from_slice_get, same_Some}
 use Rattle.gi_mir.specs.declared.opcode.Opcode.{Opcode}
 use Rattle.gi_mir.specs.declared.opcode.Opcode.TheVariants.{Copy}
-use Rattle.gi_mir.specs.declared.row.TheConstants.{GROUPS}
+use Rattle.gi_mir.specs.Groups.{group_at}
 use Rattle.gi_mir.specs.Row.{word_of, opcode_of, opcodes}
 use Rattle.gi_mir.proofs.Words.{opcode_of-word_of}
 
@@ -15,9 +14,10 @@ among ops w = find (λ op. bytes_eq (word_of op) w) ops
 
 -- the opcodes of a word's group
 abbrev pub group : List ℕ → List Opcode
-group w = get_or (map (λ ops. ops.now) GROUPS) ((length w % 32 + get_or w (length w - 1) 0) % 32) []
+group w = group_at ((length w % 32 + get_or w (length w - 1) 0) % 32)
 
 in_its_group : (op : Opcode) → among (group (word_of op)) (word_of op) ≡ Some op
+unfolding group_at
 in_its_group Copy = refl
 in_its_group _ = refl
 
@@ -41,16 +41,11 @@ among_group w = by (among (group w) w) (opcode_of w) refl refl
     by None None e h = refl
     by None (Some op) e h = sym e ∙ subst (λ v. among (group v) v ≡ Some op) (opcode_has_the_word w op h) (in_its_group op)
 
--- the opcode of a word, among those that stand at the place of its group
-pub at_group : (rows : List (Bor (List Opcode))) (row : Bor (List Opcode)) (w : List ℕ) (last i : ℕ) → map (λ ops. ops.now) rows ≡ map (λ ops. ops.now) GROUPS → Some last ≡ slice_get w (length w - 1) → i ≡ (length w % 32 + last) % 32 → among (get_or rows i row).now w ≡ opcode_of w
-at_group rows row w last i same read at =
+-- the opcode of a word, by its last byte
+pub among_at : (w : List ℕ) (last : ℕ) → Some last ≡ slice_get w (length w - 1) → among (group_at ((length w % 32 + last) % 32)) w ≡ opcode_of w
+among_at w last read =
     let is : get_or w (length w - 1) 0 ≡ last = get_or_from_slice_get w (length w - 1) last 0 (sym read) in
-    let place : i ≡ (length w % 32 + get_or w (length w - 1) 0) % 32 = at ∙ ap (λ l. (length w % 32 + l) % 32) (sym is) in
-    let long : length rows ≡ 32 = sym (length-map (λ ops. ops.now) rows) ∙ ap length same in
-    ap (λ ops. among ops w) (sym (get_or-map (λ ops. ops.now) rows i row [] (omega (arith, long, at))))
-    ∙ ap (λ all. among (get_or all i []) w) same
-    ∙ ap (λ j. among (get_or (map (λ ops. ops.now) GROUPS) j []) w) place
-    ∙ among_group w
+    ap (λ l. among (group_at ((length w % 32 + l) % 32)) w) (sym is) ∙ among_group w
 
 pub IfSome-opcode_of : (r : Option Opcode) (w : List ℕ) → r ≡ opcode_of w → IfSome r (λ op. word_of op ≡ w)
 IfSome-opcode_of None w h = tt

@@ -1,6 +1,7 @@
 //! The table of opcodes. All that is asked of an opcode is read from it.
 
-ghost use Rattle.std.specs.Prelude.{◌≡◌, ◌≢◌, bytes_eq, find, map, option_map, IfSome, IfNone};
+ghost use Rattle.std.specs.Prelude.{◌≡◌, ◌≢◌, ◌<◌, [], bytes_eq, find, length, map, slice_index_or, option_map, IfSome, IfNone};
+ghost use Rattle.gi_mir.specs.Groups.{group_at};
 ghost use Rattle.gi_mir.specs.Typings.{typing_by};
 ghost use Rattle.gi_mir.specs.Row.{word_of, rows_of, access_of, memory_of, role_of, standing_of, typing_of, is_commutative_op, routine_call_of, is_generic_op, is_terminator_op, is_unconditional_op, is_branch_op, is_call_op, is_phi_op, is_wide_op, opcode_of};
 ghost use Rattle.gi_mir.specs.declared.opcode.Opcode.{Opcode};
@@ -725,13 +726,29 @@ fn first_among(ops: &[Opcode], word: &[u8]) -> Option<Opcode>
     ops.iter().copied().find(|op| op.word().as_bytes() == word)
 }
 
+/// The opcodes at a place of a table.
+fn opcodes_at<'a>(table: &[&'a [Opcode]], place: usize) -> &'a [Opcode]
+    requires { place < length table.now }
+    ensures { result.now ≡ slice_index_or (map (λ ops. ops.now) table.now) place [] }
+{
+    table[place]
+}
+
+/// The opcodes of a group.
+fn group(number: usize) -> &'static [Opcode]
+    requires { number < 32 }
+    ensures { result.now ≡ group_at number }
+{
+    opcodes_at(&GROUPS, number)
+}
+
 /// The opcode that has this word, which stands in the word's group.
 fn first_with_word(word: &[u8]) -> Option<Opcode>
     ensures exact { result ≡ opcode_of word.now }
     ensures found { IfSome result (λ op. word_of op ≡ word.now) }
 {
     let last = usize::from(*word.last()?);
-    first_among(GROUPS[(word.len() % 32 + last) % 32], word)
+    first_among(group((word.len() % 32 + last) % 32), word)
 }
 
 /// Two opcodes with one word are one opcode.
