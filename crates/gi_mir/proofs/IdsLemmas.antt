@@ -1,11 +1,12 @@
 -- Each edit keeps each id with one instruction.
-use Rattle.std.proofs.Common.{◌≡◌, ℕ, zero, suc, ◌+◌, ◌<◌, ◌≤◌, List, [], ◌∷◌, length, get_or, set, refl, sym, ap, ◌∙◌, arith}
-use Rattle.std.specs.Prelude.{insert, remove, ◌==◌, if◌then◌else◌}
+use Rattle.std.proofs.Common.{◌≡◌, ℕ, zero, suc, ◌+◌, ◌<◌, ◌≤◌, List, [], ◌∷◌, ◌⊎◌, ⊎_elim, length, get_or, set, refl, sym, ap, ◌∙◌, arith}
+use Rattle.std.specs.Prelude.{insert, remove, ◌==◌, if◌then◌else◌, nat_lt}
 use Rattle.std.proofs.lemmas.Bool.Decides.{nat_tests}
-use Rattle.std.proofs.lemmas.List.Sums.{sum_by-set, sum_by-cons}
+use Rattle.std.proofs.lemmas.List.Sums.{get_or-le-sum_by, sum_by-set, sum_by-cons}
 use Rattle.std.proofs.lemmas.List.Sorted.{IsPermutation-insert, sum_by-IsPermutation}
 use Rattle.gi_mir.specs.Data.{InstrData, BlockData}
 use Rattle.gi_mir.specs.Edit.{changed_at}
+use Rattle.gi_mir.proofs.Edits.{less_or_not}
 use Rattle.gi_mir.proofs.FormedLemmas.{changed_at-suc}
 use Rattle.gi_mir.specs.Ids.{uses_among, uses_in, uses_of, AreOwnIds}
 
@@ -79,3 +80,52 @@ uses_among-changed_at id edit (p ∷ ps) (suc k) =
     (uses_among-cons id p (changed_at (λ q. (q.0, edit q.1)) k ps)
     ∙ ap (λ n. one_if p.0 id + n) (uses_among-changed_at id edit ps k)
     ∙ sym (uses_among-cons id p ps))
+
+-- ---- a block has no more instructions than there are ids
+
+-- how many instructions have an id below a number
+abbrev below : ℕ → List (ℕ × InstrData) → ℕ
+below zero instrs = 0
+below (suc n) instrs = uses_among n instrs + below n instrs
+
+below-few : (n : ℕ) (instrs : List (ℕ × InstrData)) → ((id : ℕ) → uses_among id instrs ≤ 1) → below n instrs ≤ n
+below-few zero instrs once = omega arith
+below-few (suc n) instrs once = omega (arith, once n, below-few n instrs once)
+
+-- 1 where a number is below another
+abbrev one_below : ℕ → ℕ → ℕ
+one_below a n = if nat_lt a n then 1 else 0
+
+one_below-zero : (a : ℕ) → one_below a 0 ≡ 0
+one_below-zero a = grind (arith, nat_tests)
+
+one_below-suc : (a n : ℕ) → one_if a n + one_below a n ≡ one_below a (suc n)
+one_below-suc a n = grind (arith, nat_tests)
+
+one_below-is : (a n : ℕ) → a < n → one_below a n ≡ 1
+one_below-is a n lt = grind (arith, nat_tests)
+
+below-cons : (n : ℕ) (p : ℕ × InstrData) (ps : List (ℕ × InstrData)) → below n (p ∷ ps) ≡ below n ps + one_below p.0 n
+below-cons zero p ps = omega (arith, one_below-zero p.0)
+below-cons (suc n) p ps = omega (arith, below-cons n p ps, uses_among-cons n p ps, one_below-suc p.0 n)
+
+one_if-same : (a : ℕ) → one_if a a ≡ 1
+one_if-same a = grind (arith, nat_tests)
+
+small_id : (n : ℕ) (p : ℕ × InstrData) (ps : List (ℕ × InstrData)) → ((id : ℕ) → n ≤ id → uses_among id (p ∷ ps) ≡ 0) → (p.0 < n) ⊎ (n ≤ p.0) → p.0 < n
+small_id n p ps given c =
+    ⊎_elim (λ (lt : p.0 < n). lt) (λ (ge : n ≤ p.0). absurd (omega (arith, given p.0 ge, uses_among-cons p.0 p ps, one_if-same p.0))) c
+
+below-all : (n : ℕ) (instrs : List (ℕ × InstrData)) → ((id : ℕ) → n ≤ id → uses_among id instrs ≡ 0) → length instrs ≤ below n instrs
+below-all n [] given = omega arith
+below-all n (p ∷ ps) given =
+    let small = small_id n p ps given (less_or_not p.0 n) in
+    omega (arith, below-cons n p ps, one_below-is p.0 n small, below-all n ps (λ id ge. rest id (given id ge)))
+  where
+    rest : (id : ℕ) → uses_among id (p ∷ ps) ≡ 0 → uses_among id ps ≡ 0
+    rest id none = omega (arith, uses_among-cons id p ps)
+
+pub few-instrs : (blocks : List BlockData) (n b : ℕ) (d : BlockData) → b < length blocks → AreOwnIds blocks n → length (get_or blocks b d).instrs ≤ n
+few-instrs blocks n b d within own =
+    omega (arith, below-all n (get_or blocks b d).instrs (λ id ge. omega (arith, own.given id ge, get_or-le-sum_by (uses_in id) blocks b d within)),
+    below-few n (get_or blocks b d).instrs (λ id. omega (arith, own.once id, get_or-le-sum_by (uses_in id) blocks b d within)))

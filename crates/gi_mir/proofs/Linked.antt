@@ -4,16 +4,17 @@ use Rattle.std.specs.Prelude.{slice_get, option_map, is_some, ◌==◌, Contains
 use Rattle.std.specs.List.{list_any, position_or_len}
 use Rattle.std.proofs.lemmas.Bool.Decides.{nat_tests}
 use Rattle.std.proofs.lemmas.List.{get_or-map, length-map}
-use Rattle.std.proofs.lemmas.Option.{slice_get_within, get_or_from_slice_get}
+use Rattle.std.proofs.lemmas.Option.{slice_get_past, slice_get_within, get_or_from_slice_get}
 use Rattle.gi_mir.specs.declared.block.Body.{Body}
 use Rattle.gi_mir.specs.declared.block.InstrId.{InstrId}
 use Rattle.gi_mir.specs.declared.block.Slot.{Slot}
 use Rattle.gi_mir.specs.declared.place.Place.{Place}
+use Rattle.gi_mir.specs.declared.room.Gap.{Gap}
 use Rattle.gi_mir.specs.Data.{InstrData, BlockData}
 use Rattle.gi_mir.specs.Edit.{empty_block, has_instr, ids_of, place_of}
 use Rattle.gi_mir.specs.Ids.{AreOwnIds}
 use Rattle.gi_mir.specs.Places.{body_at, comes_before, id_in, nth_id, place}
-use Rattle.gi_mir.specs.Arena.{HasOrder, IsLinked, body_of, id_ahead, id_named, is_in, nth_instr_id, slot_at, spot_of}
+use Rattle.gi_mir.specs.Arena.{HasOrder, IsLinked, body_of, gap_at, id_ahead, id_named, is_in, nth_instr_id, slot_at, spot_of}
 use Rattle.gi_mir.proofs.Located.{HasDistinctIds-in, has_instr-Contains, id_in-once, id_in-within, is_live-id_in, nth_id-place_of, nth_id-within}
 use Rattle.gi_mir.proofs.Places.{position_or_len-passes}
 
@@ -145,3 +146,24 @@ ahead-named instrs (suc k) =
     let one : suc k - 1 ≡ k = omega arith in
     let some : (suc k == 0) ≡ false = grind (arith, nat_tests) in
     rw (some, one) (same_named (nth_id instrs k))
+
+-- ---- the gap before an instruction, and at a block's end
+
+pub gap-named : (bodies : List Body) (slots : List Slot) (blocks : List BlockData) (b : ℕ) (id : InstrId) (s : Slot) → IsLinked bodies slots blocks → Contains (ids_of (body_at blocks b)) id.0 → s ≡ get_or slots id.0 s
+    → ◌≡◌ {A = Gap} (record { block = b; previous = s.previous; next = Some id }) (gap_at blocks (place b (place_of id.0 (body_at blocks b).instrs)))
+gap-named bodies slots blocks b id s linked named is =
+    let stands = id_in-named blocks b id.0 named in
+    let slot : s ≡ slot_at (body_at blocks b).instrs (place_of id.0 (body_at blocks b).instrs) = is ∙ get_or_from_slice_get slots id.0 _ s (linked.linked id.0 b (place_of id.0 (body_at blocks b).instrs) stands) in
+    gap_same b _ _ _ _ (ap (λ (t : Slot). t.previous) slot) (sym (ap (option_map id_named) stands))
+  where
+    gap_same : (b : ℕ) (p q n m : Option InstrId) → p ≡ q → n ≡ m → ◌≡◌ {A = Gap} (record { block = b; previous = p; next = n }) (record { block = b; previous = q; next = m })
+    gap_same b p q n m x y = rw (x, y) refl
+
+pub gap-last : (bodies : List Body) (slots : List Slot) (blocks : List BlockData) (b : ℕ) (x : Body) → IsLinked bodies slots blocks → b < length blocks → x ≡ get_or bodies b x
+    → ◌≡◌ {A = Gap} (record { block = b; previous = x.last; next = None }) (gap_at blocks (place b (length (body_at blocks b).instrs)))
+gap-last bodies slots blocks b x linked within is =
+    gap_same b _ _ _ _ (ap (λ (y : Body). y.last) (linked-body bodies slots blocks b x linked within is))
+    (sym (ap (λ (o : Option (ℕ × InstrData)). option_map id_named (option_map (λ p. p.0) o)) (slice_get_past (body_at blocks b).instrs (length (body_at blocks b).instrs) (omega arith))))
+  where
+    gap_same : (b : ℕ) (p q n m : Option InstrId) → p ≡ q → n ≡ m → ◌≡◌ {A = Gap} (record { block = b; previous = p; next = n }) (record { block = b; previous = q; next = m })
+    gap_same b p q n m x y = rw (x, y) refl

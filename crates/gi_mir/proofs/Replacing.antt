@@ -1,11 +1,13 @@
 -- Uses that are replaced one instruction after another, in layout order.
-use Rattle.std.proofs.Common.{◌≡◌, ◌≢◌, ℕ, zero, suc, ◌+◌, ◌-◌, ◌<◌, ◌≤◌, Bool, true, false, not, ◌&&◌, ◌||◌, cond, List, [], ◌∷◌, ◌++◌, Option, Some, ◌⊎◌, inl, inr, ⊎_elim, length, take, drop, get_or, set, refl, sym, ap, ap₂, ◌∙◌, arith, eq-eqb, eqb-true, max, true≢false}
+use Rattle.std.proofs.Common.{◌≡◌, ◌≢◌, ℕ, zero, suc, ◌+◌, ◌-◌, ◌<◌, ◌≤◌, Bool, true, false, not, ◌&&◌, ◌||◌, cond, List, [], ◌∷◌, ◌++◌, Option, Some, ◌⊎◌, inl, inr, ⊎_elim, length, take, drop, get_or, set, refl, sym, subst, ap, ap₂, ◌∙◌, arith, eq-eqb, eqb-true, max, true≢false}
 use Rattle.std.proofs.lemmas.Bool.Decides.{nat_tests}
 use Rattle.std.specs.Prelude.{slice_get, option_map, ◌==◌, map, filter}
 use Rattle.std.specs.List.{list_any}
 use Rattle.std.proofs.lemmas.List.{map-append, take-map, length-append}
 use Rattle.std.proofs.Math.Seq.{map-set_same}
+use Rattle.gi_mir.specs.declared.block.Body.{Body}
 use Rattle.gi_mir.specs.declared.block.InstrId.{InstrId}
+use Rattle.gi_mir.specs.declared.block.Slot.{Slot}
 use Rattle.gi_mir.specs.declared.mentions.Mentions.{Mentions}
 use Rattle.gi_mir.specs.declared.operand.Operand.{Operand}
 use Rattle.gi_mir.specs.declared.operand.Operand.TheVariants as operand
@@ -13,32 +15,36 @@ use Rattle.gi_mir.specs.declared.place.Place.{Place}
 use Rattle.gi_mir.specs.Data.{InstrData, BlockData, FunctionData}
 use Rattle.gi_mir.specs.Edit.{empty_block, all_instrs, changed_at, block_changed_at, is_use_of, uses}
 use Rattle.gi_mir.specs.Mentions.{use_key, is_mention, mentions, instr_id, mentioning, operands_of, operands_at, precedes, listed, IsNoted, IsForgotten}
-use Rattle.gi_mir.specs.Places.{place, id_in, HasPlaces, with_changed_at}
-use Rattle.gi_mir.specs.Tables.{IsTabled, IsFirstMention}
+use Rattle.gi_mir.specs.Arena.{HasOrder, slot_changed, spot_of}
+use Rattle.gi_mir.specs.Ids.{AreOwnIds}
+use Rattle.gi_mir.specs.Places.{place, id_in, with_changed_at}
+use Rattle.gi_mir.specs.Tables.{IsFirstMention}
 use Rattle.gi_mir.specs.Uses.{operand_replaced, with_reg_replaced, instr_replaced, entry_replaced, block_replaced, frame_of, ArePartlyReplaced}
 use Rattle.gi_mir.proofs.FormedLemmas.{changed_at-suc}
 use Rattle.gi_mir.proofs.Keys.{mentions-use}
+use Rattle.gi_mir.proofs.Linked.{order-place, spot_of-once}
 use Rattle.gi_mir.proofs.Located.{id_in-within}
 use Rattle.gi_mir.proofs.Mentioned.{Each, Each-weaker, IsSplit, IsSplit-at, IsListedAs-forgotten, mentioning-parts, mentioning-append, ahead, behind, all-split-at, all-changed, Each-mentioning}
 use Rattle.gi_mir.proofs.Replaced.{mentions-replaced, entry_replaced-without, uses-replaced, replaced-twice}
-use Rattle.gi_mir.proofs.Tabled.{entry_of, after_note, IsTabled-changed}
+use Rattle.gi_mir.proofs.Stored.{IsSpelled, entry_of, after_note, spelled-changed}
 
--- ---- the tables after one instruction
+-- ---- the arena after one instruction
 
-pub IsTabled-replace_at : (places : List Place) (blocks : List BlockData) (spot : Place) (body changed : BlockData) (id : InstrId) (old new : ℕ) (lists noted final : Mentions) → spot.block < length blocks → body ≡ get_or blocks spot.block body → id_in blocks spot.block spot.at ≡ Some id.0
-    → list_any (is_use_of old) (operands_at blocks spot) ≡ true → old ≢ new → changed ≡ block_changed_at (instr_replaced old new) spot.at body → IsNoted lists noted (precedes places spot) (operand.Use (record { 0 = new }) ∷ []) id
-    → IsForgotten noted final (operand.Use (record { 0 = old }) ∷ []) id → IsTabled blocks places lists → IsTabled (set blocks spot.block changed) places final
-IsTabled-replace_at places blocks spot body changed id old new lists noted final within same stands there apart is noted_so gone has =
-    entry_of (IsTabled (set blocks spot.block changed) places final) blocks spot.block spot.at id.0 stands
+pub spelled-replaced_at : (bodies : List Body) (slots after : List Slot) (places : List Place) (lists noted final : Mentions) (blocks : List BlockData) (b at : ℕ) (id : InstrId) (spot : Place) (old new : ℕ)
+    → id_in blocks b at ≡ Some id.0 → slice_get places id.0 ≡ Some spot → list_any (is_use_of old) (operands_at blocks (place b at)) ≡ true → old ≢ new → after ≡ changed_at (slot_changed (instr_replaced old new)) id.0 slots
+    → IsNoted lists noted (precedes places spot) (operand.Use (record { 0 = new }) ∷ []) id → IsForgotten noted final (operand.Use (record { 0 = old }) ∷ []) id
+    → IsSpelled bodies slots places lists blocks → IsSpelled bodies after places final (with_changed_at (instr_replaced old new) blocks (place b at))
+spelled-replaced_at bodies slots after places lists noted final blocks b at id spot old new stands written there apart is noted_so gone spelled =
+    entry_of (IsSpelled bodies after places final (with_changed_at (instr_replaced old new) blocks (place b at))) blocks b at id.0 stands
     (λ i h.
-    let front = ahead blocks spot.block spot.at in
-    let back = behind blocks spot.block (suc spot.at) in
+    let front = ahead blocks b at in
+    let back = behind blocks b (suc at) in
     let now = operand.Use (record { 0 = new }) in
     let was = operand.Use (record { 0 = old }) in
-    rw is (IsTabled-changed places blocks spot.block spot.at body (instr_replaced old new) id i lists final (λ key. (mentions key (id.0, i) || list_any (is_mention key) (now ∷ [])) && not (list_any (is_mention key) (was ∷ []))) within same h
-    (IsListedAs-forgotten (precedes places spot) id front back noted final (λ key. mentions key (id.0, i) || list_any (is_mention key) (now ∷ [])) (was ∷ []) (IsSplit-at places blocks spot.block spot.at id has.has_places stands)
-    (after_note places blocks spot id i now lists noted within stands h noted_so has) gone)
-    (λ key. mentions-replaced old new key i.operands apart (rw h at there)) has))
+    spelled-changed bodies slots after places lists final blocks b at (instr_replaced old new) id i (λ key. (mentions key (id.0, i) || list_any (is_mention key) (now ∷ [])) && not (list_any (is_mention key) (was ∷ []))) stands h is
+    (IsListedAs-forgotten (precedes places spot) id front back noted final (λ key. mentions key (id.0, i) || list_any (is_mention key) (now ∷ [])) (was ∷ []) (IsSplit-at places blocks b at id spot spelled.order stands written)
+    (after_note bodies slots places lists noted blocks b at id spot i now stands written h noted_so spelled) gone)
+    (λ key. mentions-replaced old new key i.operands apart (rw h at there)) spelled)
 
 -- ---- the first that mentions a key
 
@@ -72,21 +78,19 @@ find_place (b ∷ bs) m e h = by (in_parts b.instrs (all_instrs bs) m e h) (λ n
         (λ (r : (k : ℕ) × (slice_get (all_instrs bs) k ≡ Some e)). let (c, k, at) = more r.0 r.1 in (suc c, k, at))
         c
 
--- the place that is written down for the first id that is listed
-pub first_mention : (places : List Place) (blocks : List BlockData) (key : ℕ) (id : InstrId) → HasPlaces places blocks → slice_get (mentioning key (all_instrs blocks)) 0 ≡ Some id → (spot : Place) × (slice_get places id.0 ≡ Some spot) × IsFirstMention blocks key id spot
-first_mention places blocks key id has h =
+-- the place of the first id that is listed
+pub first_mention : (blocks : List BlockData) (n key : ℕ) (id : InstrId) → AreOwnIds blocks n → slice_get (mentioning key (all_instrs blocks)) 0 ≡ Some id → IsFirstMention blocks key id (spot_of blocks id.0)
+first_mention blocks n key id own h =
     let (m, i, at, there) = find_entry key id (all_instrs blocks) h in
     let (c, k, stands) = find_place blocks m (id.0, i) at in
-    let here : id_in blocks c k ≡ Some id.0 = ap (option_map (λ (p : ℕ × InstrData). p.0)) stands in (
-      place c k,
-      has.located id.0 c k here,
-      record {
-        within = id_in-within id.0 blocks c k here;
-        stands = here;
-        there = ap (λ (o : Option (ℕ × InstrData)). list_any (is_mention key) (operands_of o)) stands ∙ there;
-        first = h;
-      },
-    )
+    let here : id_in blocks c k ≡ Some id.0 = ap (option_map (λ (p : ℕ × InstrData). p.0)) stands in
+    let found : IsFirstMention blocks key id (place c k) = record {
+      within = id_in-within id.0 blocks c k here;
+      stands = here;
+      there = ap (λ (o : Option (ℕ × InstrData)). list_any (is_mention key) (operands_of o)) stands ∙ there;
+      first = h;
+    } in
+    subst (λ (p : Place). IsFirstMention blocks key id p) (sym (spot_of-once blocks n c k id.0 own here)) found
 
 -- nothing ahead of it mentions the key
 none_first : (key : ℕ) (id : InstrId) (front : List (ℕ × InstrData)) (rest : List InstrId) → Each (λ e. (e.0 == id.0) ≡ false) front → slice_get (mentioning key front ++ rest) 0 ≡ Some id → mentioning key front ≡ []
@@ -188,12 +192,13 @@ replaced-changed_at old new (p ∷ ps) (suc at) apart =
     rw (changed_at-suc (entry_replaced old new) at p ps) (ap (λ (qs : List (ℕ × InstrData)). entry_replaced old new p ∷ qs) (replaced-changed_at old new ps at apart))
 
 -- one more instruction
-pub IsReplacing-step : (old new : ℕ) (places : List Place) (before cur : List BlockData) (id : InstrId) (spot : Place) → old ≢ new → HasPlaces places cur → IsFirstMention cur (use_key old) id spot → IsReplacing old new before cur
+pub IsReplacing-step : (old new : ℕ) (places : List Place) (before cur : List BlockData) (id : InstrId) (spot : Place) → old ≢ new → HasOrder places cur → IsFirstMention cur (use_key old) id spot → IsReplacing old new before cur
     → IsReplacing old new before (with_changed_at (instr_replaced old new) cur spot)
 IsReplacing-step old new places before cur id spot apart has found so_far =
     entry_of (IsReplacing old new before (with_changed_at (instr_replaced old new) cur spot)) cur spot.block spot.at id.0 found.stands
-    (λ i h. by i h (all-split-at cur spot.block spot.at (id.0, i) found.within h) (all-changed cur spot.block spot.at (get_or cur spot.block empty_block) (instr_replaced old new) (id.0, i) found.within refl h)
-    (IsSplit-at places cur spot.block spot.at id has found.stands))
+    (λ i h. order-place (IsReplacing old new before (with_changed_at (instr_replaced old new) cur spot)) places cur spot.block spot.at id.0 has found.stands
+    (λ q written home. by (precedes places q) i h (all-split-at cur spot.block spot.at (id.0, i) found.within h) (all-changed cur spot.block spot.at (get_or cur spot.block empty_block) (instr_replaced old new) (id.0, i) found.within refl h)
+    (IsSplit-at places cur spot.block spot.at id q has found.stands written)))
   where
     keeps_frame : frame_of (block_changed_at (instr_replaced old new) spot.at (get_or cur spot.block empty_block)) ≡ frame_of (get_or cur spot.block empty_block)
     keeps_frame = ap (λ (ids : List ℕ). (record { successors = (get_or cur spot.block empty_block).successors; liveins = (get_or cur spot.block empty_block).liveins }, ids)) (ids-changed_at (instr_replaced old new) (get_or cur spot.block empty_block).instrs spot.at)
@@ -207,9 +212,9 @@ IsReplacing-step old new places before cur id spot apart has found so_far =
     same_entries : map (entry_replaced old new) (all_instrs cur) ≡ map (entry_replaced old new) (all_instrs before)
     same_entries = sym (all_instrs-replaced old new cur) ∙ ap all_instrs so_far.whole ∙ all_instrs-replaced old new before
 
-    by : (i : InstrData) → slice_get (get_or cur spot.block empty_block).instrs spot.at ≡ Some (id.0, i) → all_instrs cur ≡ (ahead cur spot.block spot.at) ++ ((id.0, i) ∷ (behind cur spot.block (suc spot.at))) → all_instrs (with_changed_at (instr_replaced old new) cur spot) ≡ (ahead cur spot.block spot.at) ++ ((id.0, instr_replaced old new i) ∷ (behind cur spot.block (suc spot.at))) → IsSplit (precedes places (place spot.block spot.at)) id (ahead cur spot.block spot.at) (behind cur spot.block (suc spot.at))
+    by : (test : InstrId → Bool) (i : InstrData) → slice_get (get_or cur spot.block empty_block).instrs spot.at ≡ Some (id.0, i) → all_instrs cur ≡ (ahead cur spot.block spot.at) ++ ((id.0, i) ∷ (behind cur spot.block (suc spot.at))) → all_instrs (with_changed_at (instr_replaced old new) cur spot) ≡ (ahead cur spot.block spot.at) ++ ((id.0, instr_replaced old new i) ∷ (behind cur spot.block (suc spot.at))) → IsSplit test id (ahead cur spot.block spot.at) (behind cur spot.block (suc spot.at))
         → IsReplacing old new before (with_changed_at (instr_replaced old new) cur spot)
-    by i h split after parts = record {
+    by test i h split after parts = record {
       partly = record {
         done = (suc (length (ahead cur spot.block spot.at)));
         frames = map-set_same frame_of cur spot.block (block_changed_at (instr_replaced old new) spot.at (get_or cur spot.block empty_block)) empty_block keeps_frame ∙ so_far.partly.frames;
@@ -247,15 +252,15 @@ IsReplacing-step old new places before cur id spot apart has found so_far =
             cases m n = grind arith
 
 -- fewer uses are left
-pub replaced-smaller : (old new : ℕ) (places later : List Place) (cur : List BlockData) (id : InstrId) (spot : Place) (m less : Mentions) → old ≢ new → IsTabled cur places m → IsFirstMention cur (use_key old) id spot → IsTabled (with_changed_at (instr_replaced old new) cur spot) later less
-    → length (listed less (use_key old)) < length (listed m (use_key old))
-replaced-smaller old new places later cur id spot m less apart has found after =
+pub replaced-smaller : (old new : ℕ) (cur : List BlockData) (id : InstrId) (spot : Place) (m less : Mentions) → old ≢ new → ((key : ℕ) → listed m key ≡ mentioning key (all_instrs cur)) → IsFirstMention cur (use_key old) id spot
+    → ((key : ℕ) → listed less key ≡ mentioning key (all_instrs (with_changed_at (instr_replaced old new) cur spot))) → length (listed less (use_key old)) < length (listed m (use_key old))
+replaced-smaller old new cur id spot m less apart has found after =
     entry_of (length (listed less (use_key old)) < length (listed m (use_key old))) cur spot.block spot.at id.0 found.stands
     (λ i h.
     let front = ahead cur spot.block spot.at in
     let back = behind cur spot.block (suc spot.at) in
-    let was = has.has_mentions (use_key old) ∙ ap (mentioning (use_key old)) (all-split-at cur spot.block spot.at (id.0, i) found.within h) ∙ mentioning-parts (use_key old) front (id.0, i) back in
-    let now = after.has_mentions (use_key old) ∙ ap (mentioning (use_key old)) (all-changed cur spot.block spot.at (get_or cur spot.block empty_block) (instr_replaced old new) (id.0, i) found.within refl h) ∙ mentioning-parts (use_key old) front (id.0, instr_replaced old new i) back in
+    let was = has (use_key old) ∙ ap (mentioning (use_key old)) (all-split-at cur spot.block spot.at (id.0, i) found.within h) ∙ mentioning-parts (use_key old) front (id.0, i) back in
+    let now = after (use_key old) ∙ ap (mentioning (use_key old)) (all-changed cur spot.block spot.at (get_or cur spot.block empty_block) (instr_replaced old new) (id.0, i) found.within refl h) ∙ mentioning-parts (use_key old) front (id.0, instr_replaced old new i) back in
     let used : mentions (use_key old) (id.0, i) ≡ true = rw h at found.there in
     let gone : mentions (use_key old) (id.0, instr_replaced old new i) ≡ false = mentions-use old (id.0, instr_replaced old new i) ∙ uses-replaced old new (id.0, i) apart in
     rw (was, now, used, gone) (simp length-append (omega arith)))

@@ -1,10 +1,12 @@
 -- An arena that spells blocks, with all that is written down beside it, stays so under each edit.
 use Rattle.std.proofs.Common.{◌≡◌, ◌≢◌, ℕ, zero, suc, ◌+◌, ◌^◌, ◌<◌, ◌≤◌, Bool, true, false, not, ◌&&◌, ◌||◌, List, [], ◌∷◌, ◌++◌, Option, Some, None, ◌⊎◌, inl, inr, ⊎_elim, length, get_or, set, refl, sym, subst, ap, ◌∙◌, arith, eqb-true}
-use Rattle.std.specs.Prelude.{insert, remove, slice_get, option_map, is_some}
+use Rattle.std.specs.Prelude.{Contains, IfSome, insert, remove, slice_get, option_map, is_some}
 use Rattle.std.specs.List.{list_any}
 use Rattle.std.specs.Option.{option_map_or}
 use Rattle.std.proofs.lemmas.Bool.Decides.{nat_tests}
-use Rattle.std.proofs.lemmas.List.{length-append}
+use Rattle.std.proofs.lemmas.List.{length-append, map-append}
+use Rattle.std.proofs.lemmas.List.Folds.{list_any-append}
+use Rattle.std.proofs.lemmas.List.Sums.{sum_by-append}
 use Rattle.std.proofs.lemmas.Option.{get_or_from_slice_get, slice_get_read, slice_get_within}
 use Rattle.gi_mir.specs.declared.block.Body.{Body}
 use Rattle.gi_mir.specs.declared.block.InstrId.{InstrId}
@@ -15,19 +17,19 @@ use Rattle.gi_mir.specs.declared.operand.Kind.{Kind}
 use Rattle.gi_mir.specs.declared.operand.Operand.{Operand}
 use Rattle.gi_mir.specs.declared.operand.Operand.TheVariants as operand
 use Rattle.gi_mir.specs.declared.place.Place.{Place}
-use Rattle.gi_mir.specs.Arena.{FitsGap, HasOrder, IsLinked, IsStored, blocks_in, blocks_of, body_of, gap_at, id_ahead, id_named, next_set, is_in, nth_instr_id, previous_set, slot_at, slot_between, slot_changed, spot_of}
+use Rattle.gi_mir.specs.Arena.{FitsGap, HasOrder, IsLinked, IsStored, blocks_in, blocks_of, body_gained, body_lost, body_of, body_with, gap_at, id_ahead, id_named, next_set, is_in, nth_instr_id, previous_set, slot_at, slot_between, slot_changed, spot_of}
 use Rattle.gi_mir.specs.Data.{InstrData, BlockData}
-use Rattle.gi_mir.specs.Edit.{empty_block, all_instrs, block_changed_at, changed_at, has_instr, of_kind, with_kind, with_operand}
-use Rattle.gi_mir.specs.Ids.{AreOwnIds}
+use Rattle.gi_mir.specs.Edit.{HeadData, empty_block, ids_of, spot_in, all_instrs, block_changed_at, block_with, changed_at, has_instr, of_kind, with_kind, with_operand}
+use Rattle.gi_mir.specs.Ids.{AreOwnIds, uses_in, uses_of}
 use Rattle.gi_mir.specs.Mentions.{is_mention, is_mentioned, mention_of, operands_of, mentions, mentioning, precedes, listed, HasSameLists, IsNoted, IsForgotten, IsSorted, Lacks}
 use Rattle.gi_mir.specs.Places.{place, comes_before, body_at, id_in, nth_id, with_changed_at, with_inserted, with_removed}
 use Rattle.gi_mir.proofs.ArenaLemmas.{blocks_in-linked}
 use Rattle.gi_mir.proofs.Edits.{length-changed_at, set-as_changed, slice_get-push, slice_get-pushed_before}
 use Rattle.gi_mir.proofs.FormedLemmas.{changed_at-suc}
 use Rattle.gi_mir.proofs.IdsLemmas.{AreOwnIds-set, AreOwnIds-inserted, AreOwnIds-removed, uses_among-changed_at}
-use Rattle.gi_mir.proofs.Linked.{id_in-spot, linked-slot, linked-tells, order-read, order-within}
-use Rattle.gi_mir.proofs.Linking.{IsLinked-set, IsRelinked-changed, IsRelinked-inserted, IsRelinked-removed, bodies-kept, body_of-changed, links-in}
-use Rattle.gi_mir.proofs.Located.{HasDistinctIds-in, get_or-within, id_in-within, nth_id-place_of, uses_of-id_in}
+use Rattle.gi_mir.proofs.Linked.{id_in-named, id_in-spot, linked-body, linked-slot, linked-tells, order-read, order-within}
+use Rattle.gi_mir.proofs.Linking.{IsLinked-set, IsRelinked-changed, IsRelinked-inserted, IsRelinked-removed, bodies-kept, body_of-changed, body_of-inserted, body_of-removed, links-in}
+use Rattle.gi_mir.proofs.Located.{HasDistinctIds-in, get_or-within, id_in-within, nth_id-place_of, nth_id-within, uses_of-id_in}
 use Rattle.gi_mir.proofs.Mentioned.{IsSplit, IsListedAs, IsSplit-new, IsSplit-at, IsListedAs-with, IsListedAs-without, IsListedAs-noted, IsListedAs-forgotten, IsSorted-as, Lacks-as, mentions-with, mentions-without, ahead, behind, all-split, all-split-at, all-inserted, all-removed, all-changed}
 use Rattle.gi_mir.proofs.OrLemmas.{or_right}
 use Rattle.gi_mir.proofs.Ordered.{HasOrder-changed, HasOrder-inserted, HasOrder-push, HasOrder-removed, IsBetween, IsBetween-fits}
@@ -369,3 +371,112 @@ spelled-operand-more bodies slots after places old noted blocks b at id spot i k
     spelled-changed bodies slots after places old noted blocks b at (λ j. with_operand j k new) id i (λ key. mentions key (id.0, i) || list_any (is_mention key) (new ∷ [])) stands here is
     (after_note bodies slots places old noted blocks b at id spot i new stands there here noted_so spelled)
     (λ key. operand-kept key i.operands k x new was some) spelled
+
+-- ---- a block that is added
+
+abbrev more_blocks : List BlockData → HeadData → List BlockData
+more_blocks blocks h = blocks ++ block_with h ∷ []
+
+instrs-added : (blocks : List BlockData) (h : HeadData) (b : ℕ) → (body_at (more_blocks blocks h) b).instrs ≡ (body_at blocks b).instrs
+instrs-added [] h zero = refl
+instrs-added [] h (suc b) = refl
+instrs-added (c ∷ cs) h zero = refl
+instrs-added (c ∷ cs) h (suc b) = instrs-added cs h b
+
+all_instrs-added : (blocks : List BlockData) (h : HeadData) → all_instrs (more_blocks blocks h) ≡ all_instrs blocks
+all_instrs-added [] h = refl
+all_instrs-added (c ∷ cs) h = ap (λ (xs : List (ℕ × InstrData)). c.instrs ++ xs) (all_instrs-added cs h)
+
+pub spelled-added : (bodies : List Body) (slots : List Slot) (places : List Place) (m : Mentions) (blocks : List BlockData) (h : HeadData) → IsSpelled bodies slots places m blocks → IsSpelled (bodies ++ body_with h ∷ []) slots places m (more_blocks blocks h)
+spelled-added bodies slots places m blocks h spelled = record {
+  given = spelled.given;
+  own = record {
+    once = λ id. rw (uses id) (spelled.own.once id);
+    given = λ id more. uses id ∙ spelled.own.given id more;
+  };
+  linked = record {
+    ends = ap (λ (xs : List Body). xs ++ body_with h ∷ []) spelled.linked.ends ∙ sym (map-append body_of blocks (block_with h ∷ []));
+    linked = λ id b k at. spelled.linked.linked id b k (there id b k at) ∙ ap (λ (xs : List (ℕ × InstrData)). Some (slot_at xs k)) (sym (instrs-added blocks h b));
+    empty = λ id s found none. spelled.linked.empty id s found (before (list_any (has_instr id) blocks) (list_any (has_instr id) (block_with h ∷ [])) (sym (list_any-append (has_instr id) blocks (block_with h ∷ [])) ∙ none));
+  };
+  order = record {
+    home = λ id b k at. spelled.order.home id b k (there id b k at);
+    inside = λ id b k p at. spelled.order.inside id b k p (there id b k at);
+    rising = λ b j k x y p q hx hy. spelled.order.rising b j k x y p q (there x b j hx) (there y b k hy);
+  };
+  has_mentions = λ key. spelled.has_mentions key ∙ ap (mentioning key) (sym (all_instrs-added blocks h));
+}
+  where
+    uses : (id : ℕ) → uses_of id (more_blocks blocks h) ≡ uses_of id blocks
+    uses id = omega (arith, sum_by-append (uses_in id) blocks (block_with h ∷ []))
+
+    there : (id b k : ℕ) → id_in (more_blocks blocks h) b k ≡ Some id → id_in blocks b k ≡ Some id
+    there id b k at = sym (ap (λ (xs : List (ℕ × InstrData)). nth_id xs k) (instrs-added blocks h b)) ∙ at
+
+    before : (a b : Bool) → (a || b) ≡ false → a ≡ false
+    before true b e = cc
+    before false b e = refl
+
+-- ---- in the words of the calls
+
+pub entry-is : (o : Option (ℕ × InstrData)) (id : ℕ) (i : InstrData) → option_map (λ p. p.0) o ≡ Some id → option_map (λ p. p.1) o ≡ Some i → o ≡ Some (id, i)
+entry-is None id i h g = cc
+entry-is (Some (n, j)) id i h g = let x : n ≡ id = cc in let y : j ≡ i = cc in rw (x, y) refl
+
+pub some-instr : (P : InstrData → Type 0) (o : Option (ℕ × InstrData)) → IfSome o (λ p. P p.1) → IfSome (option_map (λ p. p.1) o) P
+some-instr P None h = h
+some-instr P (Some p) h = h
+
+-- the operands of an instruction before one is set and after
+pub operands-around : (s t : Slot) (id k : ℕ) (i : InstrData) (x new : Operand) (answer : Bool) → s.entry ≡ Some (id, i) → t ≡ slot_changed (λ j. with_operand j k new) s → slice_get (operands_of s.entry) k ≡ Some x → is_mentioned x (operands_of t.entry) ≡ answer
+    → (slice_get i.operands k ≡ Some x) × (is_mentioned x (set i.operands k new) ≡ answer)
+operands-around s t id k i x new answer here is old test =
+    let now : operands_of t.entry ≡ set i.operands k new = ap (λ (y : Slot). operands_of y.entry) is ∙ ap (λ (o : Option (ℕ × InstrData)). operands_of (option_map (λ (p : ℕ × InstrData). (p.0, with_operand p.1 k new)) o)) here in
+    (sym (ap (λ (o : Option (ℕ × InstrData)). slice_get (operands_of o) k) here) ∙ old, sym (ap (is_mentioned x) now) ∙ test)
+
+-- neighbours are in the arena
+nth-given : (bodies : List Body) (slots : List Slot) (blocks : List BlockData) (b k : ℕ) → IsLinked bodies slots blocks → IfSome (nth_instr_id (body_at blocks b).instrs k) (λ there. there.0 < length slots)
+nth-given bodies slots blocks b k linked = by (nth_id (body_at blocks b).instrs k) refl
+  where
+    by : (o : Option ℕ) → nth_id (body_at blocks b).instrs k ≡ o → IfSome (option_map id_named o) (λ there. there.0 < length slots)
+    by None e = tt
+    by (Some i) e = slice_get_within slots i _ (linked.linked i b k e)
+
+ahead-given : (bodies : List Body) (slots : List Slot) (blocks : List BlockData) (b k : ℕ) → IsLinked bodies slots blocks → IfSome (id_ahead (body_at blocks b).instrs k) (λ there. there.0 < length slots)
+ahead-given bodies slots blocks b zero linked = tt
+ahead-given bodies slots blocks b (suc m) linked = nth-given bodies slots blocks b m linked
+
+pub previous-given : (l : Layout) (b k n : ℕ) (o : Option InstrId) → IsStored l → o ≡ id_ahead (body_at (blocks_of l) b).instrs k → n ≡ length l.slots.items → IfSome o (λ there. there.0 < n)
+previous-given l b k n o stored is count = rw (is, count) (ahead-given l.bodies.items l.slots.items (blocks_of l) b k stored.linked)
+
+pub next-given : (l : Layout) (b k n : ℕ) (o : Option InstrId) → IsStored l → o ≡ nth_instr_id (body_at (blocks_of l) b).instrs k → n ≡ length l.slots.items → IfSome o (λ there. there.0 < n)
+next-given l b k n o stored is count = rw (is, count) (nth-given l.bodies.items l.slots.items (blocks_of l) b k stored.linked)
+
+-- the block's ends after an instruction was taken out, and after one was put in
+pub ends-removed : (bodies : List Body) (slots : List Slot) (blocks : List BlockData) (b k block : ℕ) (x y : Body) (p n : Option InstrId) → IsLinked bodies slots blocks → b < length blocks → k < length (body_at blocks b).instrs → block ≡ b → x ≡ get_or bodies block x
+    → p ≡ id_ahead (body_at blocks b).instrs k → n ≡ nth_instr_id (body_at blocks b).instrs (suc k) → y ≡ body_lost p n x → set bodies block y ≡ set bodies b (body_of (record (body_at blocks b) { instrs = remove (body_at blocks b).instrs k }))
+ends-removed bodies slots blocks b k block x y p n linked within bound same is before behind done =
+    let body = linked-body bodies slots blocks b x linked within (is ∙ ap (λ (m : ℕ). get_or bodies m x) same) in
+    ap (λ (m : ℕ). set bodies m y) same ∙ ap (set bodies b) (done ∙ rw (before, behind, body) (body_of-removed (body_at blocks b) k bound))
+
+pub ends-inserted : (bodies : List Body) (slots : List Slot) (blocks : List BlockData) (b k : ℕ) (id : InstrId) (new : ℕ × InstrData) (x y : Body) (p n : Option InstrId) → IsLinked bodies slots blocks → b < length blocks → k ≤ length (body_at blocks b).instrs → x ≡ get_or bodies b x → id ≡ id_named new.0
+    → p ≡ id_ahead (body_at blocks b).instrs k → n ≡ nth_instr_id (body_at blocks b).instrs k → y ≡ body_gained p n id x → set bodies b y ≡ set bodies b (body_of (record (body_at blocks b) { instrs = insert (body_at blocks b).instrs k new }))
+ends-inserted bodies slots blocks b k id new x y p n linked within bound is same before behind done =
+    let body = linked-body bodies slots blocks b x linked within is in
+    ap (set bodies b) (done ∙ rw (same, before, behind, body) (body_of-inserted (body_at blocks b) k new bound))
+
+-- ---- an instruction that is put in, in the words of the calls
+
+pub spot-bound : (blocks : List BlockData) (b : ℕ) (before : Option InstrId) → IfSome before (λ id. Contains (ids_of (body_at blocks b)) id.0) → spot_in (body_at blocks b).instrs before ≤ length (body_at blocks b).instrs
+spot-bound blocks b None named = omega arith
+spot-bound blocks b (Some id) named = omega (arith, nth_id-within id.0 (body_at blocks b).instrs _ (id_in-named blocks b id.0 named))
+
+pub given-more : (o : Option InstrId) (n m : ℕ) → n ≤ m → IfSome o (λ there. there.0 < n) → IfSome o (λ there. there.0 < m)
+given-more None n m le h = tt
+given-more (Some x) n m le h = omega arith
+
+-- the same blocks with other labels
+pub relabelled : (l now : Layout) → now.bodies ≡ l.bodies → now.slots ≡ l.slots → IsStored now → IsSpelled now.bodies.items now.slots.items now.places.items now.mentions (blocks_of l)
+relabelled l now bodies slots stored =
+    let same : blocks_of now ≡ blocks_of l = rw (bodies, slots) refl in
+    subst (λ (bs : List BlockData). IsSpelled now.bodies.items now.slots.items now.places.items now.mentions bs) same (stored-spelled now stored)

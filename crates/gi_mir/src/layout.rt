@@ -61,7 +61,8 @@ impl Layout {
         ensures given { self.new.slots ≡ self.old.slots }
         ensures stored { IsStored self.new }
     {
-        self.bodies.push(Body::new(block)).map_err(|_| Memory)
+        self.bodies.push(Body::new(block)).map_err(|_| Memory)?;
+        Ok(())
     }
 
     /// The first instruction of a block.
