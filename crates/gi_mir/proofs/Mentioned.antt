@@ -312,8 +312,8 @@ IsSplit-at places blocks b at id spot order stands there = record {
     early : (c k i : ℕ) → id_in blocks c k ≡ Some i → (c < b) ⊎ ((c ≡ b) × (k < at)) → (precedes places spot (record { 0 = i }) ≡ true) × ((i == id.0) ≡ false)
     early c k i h w = order-place _ places blocks c k i order h (λ p found home.
         let comes : (p.block < spot.block) ⊎ ((p.block ≡ spot.block) × (p.at < spot.at)) = ⊎_elim
-            (λ (lt : c < b). inl (omega (arith, home_here)))
-            (λ (g : (c ≡ b) × (k < at)). inr (home ∙ g.0 ∙ sym home_here, order.rising b k at i id.0 p spot (sym (ap (λ (x : ℕ). id_in blocks x k) g.0) ∙ h) stands found there g.1)) w in
+        (λ (lt : c < b). inl (omega (arith, home_here)))
+        (λ (g : (c ≡ b) × (k < at)). inr (home ∙ g.0 ∙ sym home_here, order.rising b k at i id.0 p spot (sym (ap (λ (x : ℕ). id_in blocks x k) g.0) ∙ h) stands found there g.1)) w in
         (precedes_by places spot i p true found (comes_first p spot comes), apart_test i id.0 (λ e. apart p comes (same_place i p found e))))
       where
         apart : (p : Place) → (p.block < spot.block) ⊎ ((p.block ≡ spot.block) × (p.at < spot.at)) → p ≡ spot → ⊥
@@ -322,8 +322,8 @@ IsSplit-at places blocks b at id spot order stands there = record {
     late : (c k i : ℕ) → id_in blocks c k ≡ Some i → (b < c) ⊎ ((c ≡ b) × (suc at ≤ k)) → (precedes places spot (record { 0 = i }) ≡ false) × ((i == id.0) ≡ false)
     late c k i h w = order-place _ places blocks c k i order h (λ p found home.
         let comes : (spot.block < p.block) ⊎ ((p.block ≡ spot.block) × (spot.at < p.at)) = ⊎_elim
-            (λ (lt : b < c). inl (omega (arith, home_here)))
-            (λ (g : (c ≡ b) × (suc at ≤ k)). inr (home ∙ g.0 ∙ sym home_here, order.rising b at k id.0 i spot p stands (sym (ap (λ (x : ℕ). id_in blocks x k) g.0) ∙ h) there found (omega arith))) w in
+        (λ (lt : b < c). inl (omega (arith, home_here)))
+        (λ (g : (c ≡ b) × (suc at ≤ k)). inr (home ∙ g.0 ∙ sym home_here, order.rising b at k id.0 i spot p stands (sym (ap (λ (x : ℕ). id_in blocks x k) g.0) ∙ h) there found (omega arith))) w in
         (precedes_by places spot i p false found (comes_later p spot (weaker p comes)), apart_test i id.0 (λ e. apart p comes (same_place i p found e))))
       where
         weaker : (p : Place) → (spot.block < p.block) ⊎ ((p.block ≡ spot.block) × (spot.at < p.at)) → (spot.block < p.block) ⊎ ((p.block ≡ spot.block) × (spot.at ≤ p.at))

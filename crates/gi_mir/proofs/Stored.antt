@@ -239,11 +239,11 @@ spelled-removed bodies ends slots taken after places old new blocks b at id i sp
     let less = record body { instrs = remove body.instrs at } in
     let same : body ≡ get_or blocks b body = get_or-within blocks b empty_block body within in
     let own = AreOwnIds-removed blocks (length slots) b at body within same spelled.own in
-    let size : length after ≡ length slots = 
-        ap length is
-        ∙ length-previous_set (nth_instr_id body.instrs (suc at)) (id_ahead body.instrs at) (next_set (id_ahead body.instrs at) (nth_instr_id body.instrs (suc at)) taken)
-        ∙ length-next_set (id_ahead body.instrs at) (nth_instr_id body.instrs (suc at)) taken
-        ∙ count in
+    let size : length after ≡ length slots =
+    ap length is
+    ∙ length-previous_set (nth_instr_id body.instrs (suc at)) (id_ahead body.instrs at) (next_set (id_ahead body.instrs at) (nth_instr_id body.instrs (suc at)) taken)
+    ∙ length-next_set (id_ahead body.instrs at) (nth_instr_id body.instrs (suc at)) taken
+    ∙ count in
     let front = ahead blocks b at in
     let back = behind blocks b (suc at) in
     let before = IsListedAs-with old front back (id.0, i) (all_instrs blocks) (all-split-at blocks b at (id.0, i) within here) spelled.has_mentions in
@@ -307,11 +307,11 @@ spelled-inserted bodies ends slots after places old new blocks b at label i with
     let more = record body { instrs = insert body.instrs at (length slots, i) } in
     let same : body ≡ get_or blocks b body = get_or-within blocks b empty_block body within in
     let own = AreOwnIds-inserted blocks (length slots) b at body i within same spelled.own in
-    let size : length after ≡ length slots + 1 = 
-        ap length is
-        ∙ length-previous_set (nth_instr_id body.instrs at) (Some (id_named (length slots))) (next_set (id_ahead body.instrs at) (Some (id_named (length slots))) (slots ++ slot_between (gap_at blocks (place b at)) (length slots, i) ∷ []))
-        ∙ length-next_set (id_ahead body.instrs at) (Some (id_named (length slots))) (slots ++ slot_between (gap_at blocks (place b at)) (length slots, i) ∷ [])
-        ∙ length-append slots (slot_between (gap_at blocks (place b at)) (length slots, i) ∷ []) in
+    let size : length after ≡ length slots + 1 =
+    ap length is
+    ∙ length-previous_set (nth_instr_id body.instrs at) (Some (id_named (length slots))) (next_set (id_ahead body.instrs at) (Some (id_named (length slots))) (slots ++ slot_between (gap_at blocks (place b at)) (length slots, i) ∷ []))
+    ∙ length-next_set (id_ahead body.instrs at) (Some (id_named (length slots))) (slots ++ slot_between (gap_at blocks (place b at)) (length slots, i) ∷ [])
+    ∙ length-append slots (slot_between (gap_at blocks (place b at)) (length slots, i) ∷ []) in
     let between = IsBetween-fits places blocks b at label bound spelled.order fits in
     let spot = place b label in
     let id = id_named (length slots) in

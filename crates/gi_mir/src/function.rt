@@ -10,8 +10,8 @@ ghost use Rattle.gi_mir.specs.Registers.{kind_in_operand, kind_in_operands, kind
 ghost use Rattle.gi_mir.specs.Uses.{with_reg_replaced, IsPartlyReplaced};
 
 use crate::block::{Block, InstrId};
-use crate::instrs::Instrs;
 use crate::instr::Instr;
+use crate::instrs::Instrs;
 use crate::layout::Layout;
 use crate::mentions::{definition_key, first, use_key};
 use crate::operand::{Kind, Operand, Reg, StackObject};
