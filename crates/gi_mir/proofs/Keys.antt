@@ -20,7 +20,7 @@ is_mention-definition reg (operand.Use r) = apart r.0
     apart n = grind (arith, nat_tests)
 is_mention-definition reg _ = refl
 
-pub is_mention-use : (reg : ℕ) (x : Operand) → is_mention (use_key reg) x ≡ is_use_of reg x
+is_mention-use : (reg : ℕ) (x : Operand) → is_mention (use_key reg) x ≡ is_use_of reg x
 is_mention-use reg (operand.Def r kind) = apart r.0
   where
     apart : (n : ℕ) → (2 * n == 2 * reg + 1) ≡ false

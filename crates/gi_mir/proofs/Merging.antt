@@ -1,9 +1,7 @@
 -- Users that are moved from one register to another.
-use Rattle.std.proofs.Common.{◌≡◌, ◌≢◌, ℕ, zero, suc, ◌+◌, ◌-◌, ◌*◌, ◌<◌, ◌≤◌, Bool, true, false, ◌||◌, cond, List, [], ◌∷◌, ◌++◌, Option, Some, ◌⊎◌, inl, inr, ⊎_elim, length, take, drop, drop-cons, length-drop, get_or, append_assoc, refl, sym, subst, ap, ap₂, ◌∙◌, arith, eqb-true, eq-eqb, add-one}
+use Rattle.std.proofs.Common.{◌≡◌, ◌≢◌, ℕ, zero, suc, ◌+◌, ◌-◌, ◌<◌, ◌≤◌, Bool, true, false, ◌||◌, cond, List, [], ◌∷◌, ◌++◌, Some, ◌⊎◌, inl, inr, ⊎_elim, length, take, drop, drop-cons, length-drop, get_or, append_assoc, refl, sym, subst, ap, ap₂, ◌∙◌, arith, eqb-true, eq-eqb}
 use Rattle.std.specs.Prelude.{slice_get, option_map, ◌==◌, map, filter}
 use Rattle.std.specs.List.{list_any}
-use Rattle.std.specs.Option.{option_map_or}
-use Rattle.std.proofs.lemmas.Bool.Decides.{nat_tests}
 use Rattle.std.proofs.lemmas.List.Sums.{sum_by-cons}
 use Rattle.gi_mir.specs.declared.block.InstrId.{InstrId}
 use Rattle.gi_mir.specs.declared.mentions.Mentions.{Mentions}
@@ -12,12 +10,12 @@ use Rattle.gi_mir.specs.declared.operand.Operand.TheVariants as operand
 use Rattle.gi_mir.specs.declared.place.Place.{Place}
 use Rattle.gi_mir.specs.Data.{InstrData, BlockData}
 use Rattle.gi_mir.specs.Edit.{empty_block, all_instrs, is_use_of, uses}
-use Rattle.gi_mir.specs.Mentions.{use_key, is_mention, mentions, instr_id, mentioning, stands_before, merged, listed, IsListed, AreUsersMoved}
+use Rattle.gi_mir.specs.Mentions.{use_key, mentions, instr_id, mentioning, stands_before, merged, listed, IsListed, AreUsersMoved}
 use Rattle.gi_mir.specs.Ids.{uses_among, uses_in, uses_of}
 use Rattle.gi_mir.specs.Places.{place, comes_before, nth_id, id_in, HasPlaces}
 use Rattle.gi_mir.specs.Tables.{IsTabled}
 use Rattle.gi_mir.specs.Uses.{operand_replaced, entry_replaced, block_replaced}
-use Rattle.gi_mir.proofs.Keys.{is_mention-use, mentions-use}
+use Rattle.gi_mir.proofs.Keys.{mentions-use}
 use Rattle.gi_mir.proofs.Mentioned.{Each, Each-append, Each-from_slice_get, Each-all_instrs, Each-mentioning, Each-weaker, comes_first, comes_later, apart_test}
 use Rattle.gi_mir.proofs.Replaced.{uses-replaced, same_others}
 use Rattle.gi_mir.proofs.Replacing.{all_instrs-replaced, drop-end}

@@ -1,5 +1,5 @@
 -- Lists in which an id stands right behind those that precede it.
-use Rattle.std.proofs.Common.{◌≡◌, ℕ, zero, suc, ◌+◌, ◌<◌, ◌≤◌, Bool, true, false, not, ◌||◌, cond, List, [], ◌∷◌, ◌++◌, ◌⊎◌, inl, inr, ⊎_elim, length, take, get_or, refl, sym, ap, ◌∙◌, arith}
+use Rattle.std.proofs.Common.{◌≡◌, ℕ, zero, suc, ◌+◌, ◌<◌, ◌≤◌, Bool, true, false, not, ◌||◌, cond, List, [], ◌∷◌, ◌++◌, ◌⊎◌, inl, inr, ⊎_elim, length, get_or, refl, ap, arith}
 use Rattle.std.specs.Prelude.{◌==◌, remove}
 use Rattle.std.specs.List.{list_any}
 use Rattle.std.specs.List.Sorted.{IsPartitionedBy, IsPartitionPoint}
@@ -8,7 +8,7 @@ use Rattle.gi_mir.specs.declared.mentions.Mentions.{Mentions}
 use Rattle.gi_mir.specs.declared.operand.Operand.{Operand}
 use Rattle.gi_mir.specs.declared.place.Place.{Place}
 use Rattle.gi_mir.specs.Data.{InstrData}
-use Rattle.gi_mir.specs.Mentions.{has_at, is_mention, mentioning, instr_id, precedes, noted, without, listed, IsInRank, HasSameLists, IsSorted, AreInRank, Lacks, IsNoted, IsForgotten}
+use Rattle.gi_mir.specs.Mentions.{has_at, is_mention, mentioning, precedes, noted, without, listed, IsInRank, HasSameLists, IsSorted, AreInRank, Lacks, IsNoted, IsForgotten}
 use Rattle.gi_mir.proofs.Lists.{without-fresh}
 use Rattle.gi_mir.proofs.Mentioned.{Each, Each-get_or, Each-mentioning, Each-weaker, IsSplit, IsListedAs, one_if}
 

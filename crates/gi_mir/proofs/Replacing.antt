@@ -1,5 +1,5 @@
 -- Uses that are replaced one instruction after another, in layout order.
-use Rattle.std.proofs.Common.{◌≡◌, ◌≢◌, ℕ, zero, suc, ◌+◌, ◌-◌, ◌<◌, ◌≤◌, Bool, true, false, not, ◌&&◌, ◌||◌, cond, List, [], ◌∷◌, ◌++◌, Option, Some, ◌⊎◌, inl, inr, ⊎_elim, length, take, drop, get_or, set, drop-cons, add-one, refl, sym, subst, ap, ap₂, ◌∙◌, arith, eq-eqb, eqb-true, max, true≢false}
+use Rattle.std.proofs.Common.{◌≡◌, ◌≢◌, ℕ, zero, suc, ◌+◌, ◌-◌, ◌<◌, ◌≤◌, Bool, true, false, not, ◌||◌, cond, List, [], ◌∷◌, ◌++◌, Option, Some, ◌⊎◌, inl, inr, ⊎_elim, length, drop, get_or, set, drop-cons, add-one, refl, sym, subst, ap, ap₂, ◌∙◌, arith, eq-eqb, eqb-true, max, true≢false}
 use Rattle.std.proofs.lemmas.Bool.Decides.{nat_tests}
 use Rattle.std.specs.Prelude.{slice_get, option_map, ◌==◌, map, filter}
 use Rattle.std.specs.List.{list_any}
@@ -7,21 +7,20 @@ use Rattle.std.proofs.lemmas.List.{map-append}
 use Rattle.std.proofs.lemmas.Option.{slice_get_within}
 use Rattle.std.proofs.Math.Seq.{map-set_same}
 use Rattle.gi_mir.specs.declared.block.InstrId.{InstrId}
-use Rattle.gi_mir.specs.declared.mentions.Mentions.{Mentions}
 use Rattle.gi_mir.specs.declared.operand.Operand.{Operand}
 use Rattle.gi_mir.specs.declared.operand.Operand.TheVariants as operand
 use Rattle.gi_mir.specs.declared.place.Place.{Place}
 use Rattle.gi_mir.specs.Data.{InstrData, BlockData, FunctionData}
-use Rattle.gi_mir.specs.Edit.{empty_block, all_instrs, changed_at, block_changed_at, is_use_of, uses}
-use Rattle.gi_mir.specs.Mentions.{use_key, is_mention, mentions, instr_id, mentioning, operands_of, operands_at, precedes, listed, IsNoted, IsForgotten}
+use Rattle.gi_mir.specs.Edit.{empty_block, all_instrs, changed_at, block_changed_at, uses}
+use Rattle.gi_mir.specs.Mentions.{use_key, is_mention, mentions, instr_id, mentioning, operands_of, operands_at, precedes, listed}
 use Rattle.gi_mir.specs.Places.{place, id_in, HasPlaces, with_changed_at}
 use Rattle.gi_mir.specs.Uses.{operand_replaced, with_reg_replaced, instr_replaced, entry_replaced, block_replaced}
 use Rattle.gi_mir.proofs.FormedLemmas.{changed_at-suc}
 use Rattle.gi_mir.proofs.Keys.{mentions-use}
 use Rattle.gi_mir.proofs.Located.{get_or-within, id_in-within, nth_id-within, HasPlaces-changed}
-use Rattle.gi_mir.proofs.Mentioned.{Each, Each-weaker, one_if, IsSplit, IsSplit-at, IsListedAs-forgotten, mentioning-parts, mentioning-append, ahead, behind, all-split-at, all-changed, Each-mentioning}
-use Rattle.gi_mir.proofs.Replaced.{mentions-replaced, entry_replaced-without, uses-replaced, replaced-twice}
-use Rattle.gi_mir.proofs.Tabled.{entry_of, after_note, IsTabled-changed}
+use Rattle.gi_mir.proofs.Mentioned.{Each, Each-weaker, one_if, IsSplit, IsSplit-at, mentioning-parts, mentioning-append, ahead, behind, all-split-at, all-changed, Each-mentioning}
+use Rattle.gi_mir.proofs.Replaced.{entry_replaced-without, uses-replaced, replaced-twice}
+use Rattle.gi_mir.proofs.Tabled.{entry_of}
 
 -- ---- the first that mentions a key
 

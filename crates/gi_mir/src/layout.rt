@@ -4,8 +4,8 @@
 //! insertion and a removal number anew those behind them in their block alone. A use list is searched by halving,
 //! as its ids are in layout order.
 
-ghost use Rattle.std.specs.Prelude.{◌≡◌, ◌≢◌, map, ◌<◌, ◌≤◌, ◌+◌, ◌-◌, true, false, ◌++◌, ◌∷◌, [], length, insert, remove, slice_set, OnOk, OnErr, IfOk, IfSome, Some, option_map, slice_get, slice_index_or};
-ghost use Rattle.gi_mir.specs.Edit.{block_with, empty_block, has_at, entry_at, with_operand, with_kind, block_changed_at, HasDefAt, all_instrs};
+ghost use Rattle.std.specs.Prelude.{◌≡◌, ◌≢◌, map, ◌<◌, ◌≤◌, ◌+◌, ◌-◌, true, false, ◌++◌, ◌∷◌, [], length, insert, remove, OnOk, OnErr, IfOk, IfSome, Some, option_map, slice_get, slice_index_or};
+ghost use Rattle.gi_mir.specs.Edit.{block_with, empty_block, has_at, entry_at, with_operand, with_kind, HasDefAt, all_instrs};
 ghost use Rattle.gi_mir.specs.Formed.{is_formed};
 ghost use Rattle.gi_mir.specs.Mentions.{use_key, mentioning, HasSameLists, IsNoted, IsSorted, Lacks, operands_at, precedes};
 ghost use Rattle.gi_mir.specs.Tables.{IsTabled};

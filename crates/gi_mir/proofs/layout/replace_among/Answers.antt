@@ -1,6 +1,5 @@
 -- The place of each user is written down, and it is the first that is left.
 use Rattle.std.proofs.Common.{◌<◌, rules, slice_index_or, length}
-use Rattle.gi_mir.specs.Edit.{empty_block}
 use Rattle.gi_mir.proofs.Replacing.{turn-within, turn-first, turn-bound, turn-done, turns-end}
 use Rattle.gi_mir.proofs.layout.replace_among.Goals as goal
 
