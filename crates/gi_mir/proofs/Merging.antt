@@ -9,7 +9,7 @@ use Rattle.gi_mir.specs.declared.operand.Operand.{Operand}
 use Rattle.gi_mir.specs.declared.operand.Operand.TheVariants as operand
 use Rattle.gi_mir.specs.declared.place.Place.{Place}
 use Rattle.gi_mir.specs.Data.{InstrData, BlockData}
-use Rattle.gi_mir.specs.Edit.{empty_block, all_instrs, is_use_of, uses}
+use Rattle.gi_mir.specs.Edit.{empty_block, all_instrs, is_use_of}
 use Rattle.gi_mir.specs.Mentions.{use_key, mentions, instr_id, mentioning, stands_before, merged, listed, IsListed, AreUsersMoved}
 use Rattle.gi_mir.specs.Ids.{uses_among, uses_in, uses_of}
 use Rattle.gi_mir.specs.Places.{place, comes_before, nth_id, id_in, HasPlaces}

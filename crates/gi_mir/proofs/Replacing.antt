@@ -1,5 +1,5 @@
 -- Uses that are replaced one instruction after another, in layout order.
-use Rattle.std.proofs.Common.{◌≡◌, ◌≢◌, ℕ, zero, suc, ◌+◌, ◌-◌, ◌<◌, ◌≤◌, Bool, true, false, not, ◌||◌, cond, List, [], ◌∷◌, ◌++◌, Option, Some, ◌⊎◌, inl, inr, ⊎_elim, length, drop, get_or, set, drop-cons, add-one, refl, sym, subst, ap, ap₂, ◌∙◌, arith, eq-eqb, eqb-true, max, true≢false}
+use Rattle.std.proofs.Common.{◌≡◌, ◌≢◌, ℕ, zero, suc, ◌+◌, ◌<◌, ◌≤◌, Bool, true, false, not, ◌||◌, cond, List, [], ◌∷◌, ◌++◌, Option, Some, ◌⊎◌, inl, inr, ⊎_elim, length, drop, get_or, set, drop-cons, add-one, refl, sym, subst, ap, ap₂, ◌∙◌, arith, eq-eqb, eqb-true, max, true≢false}
 use Rattle.std.proofs.lemmas.Bool.Decides.{nat_tests}
 use Rattle.std.specs.Prelude.{slice_get, option_map, ◌==◌, map, filter}
 use Rattle.std.specs.List.{list_any}
@@ -12,7 +12,7 @@ use Rattle.gi_mir.specs.declared.operand.Operand.TheVariants as operand
 use Rattle.gi_mir.specs.declared.place.Place.{Place}
 use Rattle.gi_mir.specs.Data.{InstrData, BlockData, FunctionData}
 use Rattle.gi_mir.specs.Edit.{empty_block, all_instrs, changed_at, block_changed_at, uses}
-use Rattle.gi_mir.specs.Mentions.{use_key, is_mention, mentions, instr_id, mentioning, operands_of, operands_at, precedes, listed}
+use Rattle.gi_mir.specs.Mentions.{use_key, is_mention, mentions, instr_id, mentioning, operands_of, operands_at, precedes}
 use Rattle.gi_mir.specs.Places.{place, id_in, HasPlaces, with_changed_at}
 use Rattle.gi_mir.specs.Uses.{operand_replaced, with_reg_replaced, instr_replaced, entry_replaced, block_replaced}
 use Rattle.gi_mir.proofs.FormedLemmas.{changed_at-suc}
