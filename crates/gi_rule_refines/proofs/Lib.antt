@@ -2,3 +2,5 @@ pub mod Fresh
 pub mod Known
 pub mod Refined
 pub mod Shown
+pub mod Widths
+pub mod Numbered
