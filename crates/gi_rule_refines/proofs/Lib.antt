@@ -4,3 +4,4 @@ pub mod Refined
 pub mod Shown
 pub mod Widths
 pub mod Numbered
+pub mod Good
