@@ -5,3 +5,5 @@ pub mod Shown
 pub mod Widths
 pub mod Numbered
 pub mod Good
+pub mod Rewrites
+pub mod Rows

@@ -4,6 +4,7 @@ use Rattle.std.specs.Option.{option_map_or}
 use Rattle.gi_llt.specs.Llt.{width_of}
 use Rattle.gi_llt.specs.declared.Llt.{Llt}
 use Rattle.gi_mir.specs.Data.{FunctionData}
+use Rattle.gi_mir.specs.Edit.{IsLive}
 use Rattle.gi_mir.specs.Ids.{AreOwnIds}
 use Rattle.gi_meaning.specs.Meaning.{meaning_of}
 use Rattle.gi_meaning.specs.Runs.{Setting, setting_of}
@@ -12,7 +13,10 @@ use Rattle.gi_valid.specs.Typing.{Phase}
 use Rattle.gi_valid.specs.Valid.{IsValid}
 use Rattle.gi_refining.specs.Widths.{keeps_values, values_keep}
 use Rattle.gi_rule_values.specs.Data.{OperationData, RewriteData}
-use Rattle.gi_rule_valid.specs.Keeping.{on_places}
+use Rattle.gi_rule_values.specs.Running.{IsSoundRewrite}
+use Rattle.gi_rule_valid.specs.Keeping.{keeps, on_places}
+use Rattle.gi_rule_valid.specs.Using.{FitsAt, UseData, rewritten_at}
+use Rattle.gi_rule_refines.specs.Computing.{gives_all}
 
 -- ══ A function ══
 
@@ -41,3 +45,27 @@ all_fit x types (o ∷ os) = keeps_values (on_types x (types ++ o.types)) (meani
 
 abbrev pub makes_fit : (x : ℕ) → RewriteData → Bool
 makes_fit x rewrite = all_fit x rewrite.inputs rewrite.made
+
+-- A sound rewrite that passes the tests of its own list.
+pub record IsGoodRewrite (x : ℕ) (rewrite : RewriteData) : Type 0 where
+  pub keeps : keeps x rewrite ≡ true
+  pub gives : gives_all rewrite ≡ true
+  pub fits : makes_fit x rewrite ≡ true
+  pub sound : IsSoundRewrite x rewrite
+
+-- ══ One after another ══
+
+-- a good rewrite that fits at a live instruction
+pub record IsMade (x : ℕ) (f : FunctionData) (id : ℕ) (u : UseData) : Type 0 where
+  pub rewrite : IsGoodRewrite x u.rewrite
+  pub live : IsLive f id
+  pub fits : FitsAt f id u
+
+-- each fits in what those before it made
+abbrev pub AreMade : (x : ℕ) → FunctionData → List (ℕ × UseData) → Type 0
+AreMade x f [] = Unit {0}
+AreMade x f (p ∷ us) = IsMade x f p.0 p.1 × AreMade x (rewritten_at f p.0 p.1) us
+
+abbrev pub after_all : FunctionData → List (ℕ × UseData) → FunctionData
+after_all f [] = f
+after_all f (p ∷ us) = after_all (rewritten_at f p.0 p.1) us
