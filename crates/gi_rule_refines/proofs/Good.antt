@@ -1,11 +1,10 @@
 -- What a function keeps through a rewrite.
-use Rattle.std.proofs.Common.{◌≡◌, ◌⊎◌, ℕ, ◌+◌, ◌≤◌, ◌<◌, Bool, true, false, cond, ◌&&◌, ◌||◌, ◌==◌, List, [], ◌∷◌, ◌++◌, length, map, inl, inr, ⊎_elim, refl, sym, ap, ap₂, ◌∙◌, subst, arith, eq-eqb}
+use Rattle.std.proofs.Common.{◌≡◌, ◌⊎◌, ℕ, ◌+◌, ◌<◌, Bool, true, false, cond, ◌||◌, ◌==◌, List, [], ◌∷◌, ◌++◌, length, map, inl, inr, ⊎_elim, refl, sym, ap, ap₂, ◌∙◌, arith, eq-eqb}
 use Rattle.std.proofs.lemmas.Bool.{and_parts, and_from, or_cases, or_left, or_right}
 use Rattle.std.specs.List.{list_all, list_any}
 use Rattle.std.proofs.lemmas.List.Folds.{list_any-append, list_all-append}
-use Rattle.gi_llt.specs.Llt.{width_of}
 use Rattle.gi_mir.specs.Data.{InstrData, FunctionData}
-use Rattle.gi_mir.specs.Edit.{IsLive, all_instrs, defines, is_def_of, is_use_of, uses}
+use Rattle.gi_mir.specs.Edit.{all_instrs, defines, is_def_of, is_use_of, uses}
 use Rattle.gi_mir.specs.declared.operand.Operand.{Operand}
 use Rattle.gi_mir.specs.declared.operand.Operand.TheVariants as operand
 use Rattle.gi_meaning.specs.Meaning.{meaning_of}
@@ -23,7 +22,6 @@ use Rattle.gi_rule_valid.specs.Keeping.{gives_types}
 use Rattle.gi_pattern.specs.Applying.{line_of}
 use Rattle.gi_rule_valid.specs.Using.{UseData, kind_in, made_of, rewritten_at, targets_of}
 use Rattle.gi_rule_valid.proofs.InPlace.{entry_stays, is_replaced_by}
-use Rattle.gi_rule_valid.proofs.Lists.{flat, flat_types}
 use Rattle.gi_rule_valid.proofs.Valid.{IsUse, root_of, rewriting_at, seen, stays_valid_at}
 use Rattle.gi_rule_refines.specs.Good.{IsGood, makes_fit}
 use Rattle.gi_rule_refines.proofs.Numbered.{own_replaced, replaced_above, replaced_more}

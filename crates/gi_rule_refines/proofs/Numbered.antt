@@ -1,6 +1,6 @@
 -- Instructions that are created leave ids and registers in order.
-use Rattle.std.proofs.Common.{◌≡◌, ℕ, zero, suc, ◌+◌, ◌≤◌, ◌<◌, Bool, true, false, cond, ◌||◌, ◌==◌, List, [], ◌∷◌, ◌++◌, Option, Some, None, length, get_or, set, refl, sym, ap, ap₂, ◌∙◌, subst, arith, ⊎_elim}
-use Rattle.std.specs.Prelude.{insert, max, fold}
+use Rattle.std.proofs.Common.{◌≡◌, ℕ, zero, suc, ◌+◌, ◌≤◌, ◌<◌, true, false, ◌||◌, ◌==◌, List, [], ◌∷◌, ◌++◌, Option, Some, None, length, get_or, set, refl, sym, ap, subst, arith, ⊎_elim}
+use Rattle.std.specs.Prelude.{insert, max}
 use Rattle.std.specs.List.{list_any}
 use Rattle.std.proofs.lemmas.Bool.{or_cases, eqb-true}
 use Rattle.std.proofs.lemmas.Bool.Decides.{nat_tests}
@@ -8,8 +8,8 @@ use Rattle.std.proofs.lemmas.List.{length-set}
 use Rattle.gi_mir.specs.declared.block.InstrId.{InstrId}
 use Rattle.gi_mir.specs.declared.operand.Operand.{Operand}
 use Rattle.gi_mir.specs.declared.operand.Operand.TheVariants as operand
-use Rattle.gi_mir.specs.Data.{InstrData, BlockData, FunctionData}
-use Rattle.gi_mir.specs.Edit.{IsLive, above_registers, block_at, block_with_instr, empty_block, home_block, home_of, instrs_with, is_def_of, is_use_of, place_in_block, place_of, register_above, with_instr, without_instr}
+use Rattle.gi_mir.specs.Data.{InstrData, FunctionData}
+use Rattle.gi_mir.specs.Edit.{IsLive, above_registers, block_at, block_with_instr, empty_block, home_block, home_of, is_def_of, is_use_of, place_in_block, place_of, register_above, with_instr, without_instr}
 use Rattle.gi_mir.specs.Ids.{AreOwnIds}
 use Rattle.gi_mir.proofs.IdsLemmas.{AreOwnIds-inserted, AreOwnIds-removed}
 use Rattle.gi_pattern.specs.Applying.{all_created, next_to, root_replaced}

@@ -1,5 +1,5 @@
 -- Rewrites that are good: their tests compute, after facts on widths.
-use Rattle.std.proofs.Common.{◌≡◌, ℕ, ◌+◌, ◌-◌, ◌*◌, ◌^◌, ◌≤◌, ◌<◌, true, nat_lt, nat_le, refl, arith, le-leb, lt-ltb}
+use Rattle.std.proofs.Common.{ℕ, ◌*◌, ◌^◌, ◌≤◌, ◌<◌, refl, arith, le-leb, lt-ltb}
 use Rattle.std.proofs.lemmas.Bool.Decides.{nat_tests}
 use Rattle.std.proofs.lemmas.Nat.{pow_pos}
 use Rattle.gi_llt.specs.Signs.{negated}

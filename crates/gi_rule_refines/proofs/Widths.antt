@@ -1,8 +1,7 @@
 -- Whether values go on to fit is seen by the widths of registers alone.
-use Rattle.std.proofs.Common.{◌≡◌, ℕ, zero, suc, ◌+◌, ◌<◌, Bool, true, false, not, ◌&&◌, ◌||◌, ◌==◌, nat_lt, nat_le, List, [], ◌∷◌, ◌++◌, Option, Some, None, length, map, slice_get, refl, sym, ap, ap₂, ◌∙◌, subst, arith, ltb-true}
+use Rattle.std.proofs.Common.{◌≡◌, ℕ, zero, suc, ◌+◌, ◌<◌, Bool, true, not, ◌&&◌, ◌||◌, ◌==◌, nat_lt, nat_le, List, [], ◌∷◌, ◌++◌, Option, length, map, refl, sym, ap, ap₂, ◌∙◌, subst, arith, ltb-true}
 use Rattle.std.proofs.lemmas.Bool.{and_parts, and_from}
 use Rattle.std.specs.List.{list_all}
-use Rattle.std.specs.Option.{option_map_or}
 use Rattle.gi_llt.specs.Llt.{width_of}
 use Rattle.gi_llt.specs.declared.Llt.{Llt}
 use Rattle.gi_mir.specs.Data.{InstrData, no_flags, reg_of}
@@ -13,7 +12,7 @@ use Rattle.gi_mir.specs.declared.operand.Kind.{Kind}
 use Rattle.gi_mir.specs.declared.operand.Kind.TheVariants.{Class, Generic as OfType}
 use Rattle.gi_mir.specs.declared.operand.Operand.{Operand}
 use Rattle.gi_mir.specs.declared.operand.Operand.TheVariants as operand
-use Rattle.gi_meaning.specs.Meaning.{Meaning, Copying, Generic, Loading, Storing, Jumping, Branching, Machine, MachineLoading, MachineBranching, MachineStoring, Calling, Returning, Nothing, Joining, meaning_of}
+use Rattle.gi_meaning.specs.Meaning.{Meaning, Copying, Generic, Loading, Machine, MachineLoading, Calling, Joining, meaning_of}
 use Rattle.gi_meaning.specs.Runs.{Setting, places_of, width_of_place}
 use Rattle.gi_meaning.specs.State.{Place, Virtual, Physical}
 use Rattle.gi_refine.specs.Fitting.{always_fits, is_fitting_constant, phi_fits, uses_have}
@@ -26,7 +25,7 @@ use Rattle.gi_rule_values.specs.declared.rewrite.Slot.TheVariants.{At, Stands}
 use Rattle.gi_rule_valid.specs.Keeping.{are_placed, is_fixed, is_taken, on_places, place_operand, places_from}
 use Rattle.gi_rule_valid.specs.Using.{all_instrs_for, all_registers, defined_as, instr_for, next_for, operand_for, place_for, register_at, registers_for}
 use Rattle.gi_rule_valid.proofs.Lists.{as_many, flat, flat_types, placed_one}
-use Rattle.gi_rule_valid.proofs.Origins.{grown_is, length_of, place_is}
+use Rattle.gi_rule_valid.proofs.Origins.{grown_is, place_is}
 use Rattle.gi_rule_refines.specs.Good.{all_fit, on_types, width_at}
 
 -- ══ Widths in the place of registers ══

@@ -33,6 +33,13 @@ pub fn sound_rewrite_refines()
         → IsValid x phase (rewritten_at f id u) × RefinesUnchecked x names f (rewritten_at f id u) }
 {}
 
+/// A valid function of formed instructions whose registers have types is good, by tests alone.
+pub fn valid_function_is_good()
+    ensures { (x : ℕ) (names : List (List ℕ)) (f : FunctionData) → (x ≡ 32) ⊎ (x ≡ 64)
+        → IsValid x Typed f → is_numbered f ≡ true → are_formed f ≡ true → have_types f ≡ true → has_machine_words (setting_of x names f) f ≡ true
+        → IsGood x Typed names f }
+{}
+
 /// A good rewrite makes a good function that refines the one before.
 pub fn good_rewrite_refines()
     ensures { (x : ℕ) (phase : Phase) (names : List (List ℕ)) (f : FunctionData) (id : ℕ) (u : UseData) → (x ≡ 32) ⊎ (x ≡ 64)
