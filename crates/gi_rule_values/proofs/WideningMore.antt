@@ -1,5 +1,5 @@
 -- More rules of the legaliser that widen are sound.
-use Rattle.std.proofs.Common.{◌≡◌, ⊎_elim, ℕ, zero, suc, pos, ◌-ℤ◌, ◌+◌, ◌-◌, ◌*◌, ◌/◌, ◌%◌, ◌^◌, ◌<◌, ◌≤◌, ◌==◌, nat_lt, nat_le, Bool, true, false, cond, [], ◌∷◌, refl, sym, ap, ap₂, ◌∙◌, subst, arith}
+use Rattle.std.proofs.Common.{◌≡◌, ⊎_elim, ℕ, zero, suc, pos, ◌-ℤ◌, ◌+◌, ◌-◌, ◌*◌, ◌/◌, ◌%◌, ◌^◌, ◌<◌, ◌≤◌, ◌==◌, nat_lt, nat_le, Bool, true, false, cond, refl, sym, ap, ap₂, ◌∙◌, arith}
 use Rattle.std.specs.Prelude.{bit_and, bit_or, bit_xor, int_le, int_lt, int_rem}
 use Rattle.std.proofs.Math.Nat.{div-le_self, mod-eq_of_lt, mod-le}
 use Rattle.std.proofs.lemmas.Bool.{cases_eq, cases_lt, eq-eqb}
@@ -8,7 +8,7 @@ use Rattle.std.proofs.lemmas.Nat.{and_mod, div-mul-add, mod-pow-add, mod_below, 
 use Rattle.gi_llt.specs.Bits.{sign_extended, signed, unsigned, wrapped}
 use Rattle.gi_llt.specs.declared.Llt.{Llt}
 use Rattle.gi_meaning.proofs.Numbers.{unsigned_below}
-use Rattle.gi_meaning.specs.Generic.{arithmetic_shift_of, bit_of, difference_of, holds, ones, overflows_division}
+use Rattle.gi_meaning.specs.Generic.{arithmetic_shift_of, bit_of, difference_of, ones, overflows_division}
 use Rattle.gi_mir.specs.declared.operand.Flags.{Flags}
 use Rattle.gi_mir.specs.declared.operand.Pred.{Pred}
 use Rattle.gi_mir.specs.declared.operand.Pred.TheVariants.{Eq, Ne, Ugt, Uge, Ult, Ule, Sgt, Sge, Slt, Sle}
@@ -33,18 +33,22 @@ pub widen_sub_sound : (x : ℕ) (flags : Flags) (n w : ℕ) → n < w → IsSoun
 widen_sub_sound x flags n w wider = record {
   by = λ names world is_world a a_fits b b_fits.
       let less : nat_lt n w ≡ true = grind arith in
-      rw less (λ p p_fits p_low. rw less (λ q q_fits q_low.
-      (refl, unless _ n (difference_of n a b) (wrapped n (difference_of w p q)) (cut_fits n (difference_of w p q))
-      (sym (unsigned_low w n (pos p -ℤ pos q) (omega (arith, wider)) ∙ low_difference n p q a b p_low q_low)))));
+      rw less (λ p p_fits p_low. rw less (λ q q_fits q_low. (
+        refl,
+        unless _ n (difference_of n a b) (wrapped n (difference_of w p q)) (cut_fits n (difference_of w p q))
+            (sym (unsigned_low w n (pos p -ℤ pos q) (omega (arith, wider)) ∙ low_difference n p q a b p_low q_low)),
+      )));
 }
 
 pub widen_mul_sound : (x : ℕ) (flags : Flags) (n w : ℕ) → n < w → IsSoundRewrite x (widen_mul flags n w)
 widen_mul_sound x flags n w wider = record {
   by = λ names world is_world a a_fits b b_fits.
       let less : nat_lt n w ≡ true = grind arith in
-      rw less (λ p p_fits p_low. rw less (λ q q_fits q_low.
-      (refl, unless _ n (wrapped n (a * b)) (wrapped n (wrapped w (p * q))) (cut_fits n (wrapped w (p * q)))
-      (sym (low_of_low n w (p * q) (omega (arith, wider)) ∙ low_product n p q a b p_low q_low)))));
+      rw less (λ p p_fits p_low. rw less (λ q q_fits q_low. (
+        refl,
+        unless _ n (wrapped n (a * b)) (wrapped n (wrapped w (p * q))) (cut_fits n (wrapped w (p * q)))
+            (sym (low_of_low n w (p * q) (omega (arith, wider)) ∙ low_product n p q a b p_low q_low)),
+      )));
 }
 
 -- ══ Logic ══
@@ -84,8 +88,11 @@ widen_shl_sound x flags n w wider = record {
       (λ (small : k < n).
       let within : nat_le n k ≡ false = grind arith in
       let below : nat_le w k ≡ false = grind arith in
-      rw (within, below) (refl, unless _ n (wrapped n (a * 2 ^ k)) (wrapped n (wrapped w (p * 2 ^ k))) (cut_fits n (wrapped w (p * 2 ^ k)))
-      (sym (low_of_low n w (p * 2 ^ k) (omega (arith, wider)) ∙ low_product n p (2 ^ k) a (2 ^ k) p_low refl))))
+      rw (within, below) (
+        refl,
+        unless _ n (wrapped n (a * 2 ^ k)) (wrapped n (wrapped w (p * 2 ^ k))) (cut_fits n (wrapped w (p * 2 ^ k)))
+            (sym (low_of_low n w (p * 2 ^ k) (omega (arith, wider)) ∙ low_product n p (2 ^ k) a (2 ^ k) p_low refl)),
+      ))
       (λ (great : n ≤ k).
       let beyond : nat_le n k ≡ true = grind arith in
       ⊎_elim

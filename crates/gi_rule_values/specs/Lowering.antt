@@ -1,6 +1,5 @@
 -- Rules of the legaliser that make an operation of others, as rewrites.
-use Rattle.std.specs.Prelude.{ℕ, zero, suc, ◌+◌, ◌-◌, ◌*◌, ◌++◌, List, [], ◌∷◌}
-use Rattle.gi_llt.specs.declared.Llt.{Llt}
+use Rattle.std.specs.Prelude.{ℕ, zero, suc, pos, ◌+◌, ◌-◌, ◌*◌, ◌++◌, List, [], ◌∷◌}
 use Rattle.gi_mir.specs.Data.{no_flags}
 use Rattle.gi_mir.specs.declared.opcode.Opcode.TheVariants as op
 use Rattle.gi_mir.specs.declared.opcode.Opcode.{Opcode}
@@ -116,3 +115,65 @@ lower_merge flags width further =
     let count = suc further in
     rewrite (parts count width) [] (flagged flags op.GenericMergeValues (slots_from 0 count) (s bits ∷ []))
     (on_one op.GenericZeroExtend 0 (s bits) ∷ merge_steps bits width count (count + 1) 1 further) (merge_place count (count + 1) further)
+
+-- ══ Sums and differences with one bit ══
+
+-- a sum that carries is below its summands
+abbrev pub lower_uaddo : Flags → (n : ℕ) → RewriteData
+lower_uaddo flags n = record {
+  inputs = s n ∷ s n ∷ [];
+  definitions = [];
+  root = flagged flags op.GenericUnsignedAddOverflow (At 0 ∷ At 1 ∷ []) (s n ∷ s 1 ∷ []);
+  made = on_two op.GenericAdd 0 1 (s n) ∷ compare Ult 2 0 (s 1) ∷ [];
+  results = 2 ∷ 3 ∷ [];
+}
+
+abbrev pub lower_usubo : Flags → (n : ℕ) → RewriteData
+lower_usubo flags n = record {
+  inputs = s n ∷ s n ∷ [];
+  definitions = [];
+  root = flagged flags op.GenericUnsignedSubtractOverflow (At 0 ∷ At 1 ∷ []) (s n ∷ s 1 ∷ []);
+  made = on_two op.GenericSubtract 0 1 (s n) ∷ compare Ult 0 1 (s 1) ∷ [];
+  results = 2 ∷ 3 ∷ [];
+}
+
+-- two differences, of which at most one borrows
+abbrev pub lower_usube : Flags → (n : ℕ) → RewriteData
+lower_usube flags n = record {
+  inputs = s n ∷ s n ∷ s 1 ∷ [];
+  definitions = [];
+  root = flagged flags op.GenericUnsignedSubtractBorrow (At 0 ∷ At 1 ∷ At 2 ∷ []) (s n ∷ s 1 ∷ []);
+  made = on_two op.GenericSubtract 0 1 (s n)
+      ∷ on_one op.GenericZeroExtend 2 (s n)
+      ∷ on_two op.GenericSubtract 3 4 (s n)
+      ∷ compare Ult 0 1 (s 1)
+      ∷ compare Ult 3 4 (s 1)
+      ∷ on_two op.GenericOr 6 7 (s 1)
+      ∷ [];
+  results = 5 ∷ 8 ∷ [];
+}
+
+-- ══ Choices ══
+
+-- the operation, and the predicate by which the first is taken
+abbrev pub lower_better : Opcode → Pred → Flags → (x n : ℕ) → RewriteData
+lower_better root pred flags x n =
+    rewrite (s n ∷ s n ∷ []) [] (flagged flags root (At 0 ∷ At 1 ∷ []) (s n ∷ []))
+    (compare pred 0 1 (s x) ∷ plain op.GenericSelect (At 2 ∷ At 0 ∷ At 1 ∷ []) (s n) ∷ []) 3
+
+-- ══ Operations that another is more than ══
+
+abbrev pub lower_rotate : (root funnel : Opcode) → Flags → (n : ℕ) → RewriteData
+lower_rotate root funnel flags n =
+    rewrite (s n ∷ s n ∷ []) [] (flagged flags root (At 0 ∷ At 1 ∷ []) (s n ∷ [])) (plain funnel (At 0 ∷ At 0 ∷ At 1 ∷ []) (s n) ∷ []) 2
+
+abbrev pub lower_zero_undef : (root count : Opcode) → Flags → (n : ℕ) → RewriteData
+lower_zero_undef root count flags n = rewrite (s n ∷ []) [] (flagged flags root (At 0 ∷ []) (s n ∷ [])) (on_one count 0 (s n) ∷ []) 1
+
+-- ══ Signs ══
+
+-- the low k bits are shifted to the left end, and back with their sign
+abbrev pub lower_sext_inreg : Flags → (x k : ℕ) → RewriteData
+lower_sext_inreg flags x k =
+    rewrite (s x ∷ []) [] (flagged flags op.GenericSignExtendInRegister (At 0 ∷ Stands (operand.Int (pos k)) ∷ []) (s x ∷ []))
+    (number x (x - k) ∷ on_two op.GenericShiftLeft 0 1 (s x) ∷ number x (x - k) ∷ on_two op.GenericArithmeticShiftRight 2 3 (s x) ∷ []) 4

@@ -1,4 +1,5 @@
 use Rattle.gi_rule_values.proofs.Lowering.{lower_abs_sound, lower_bswap_32_sound, lower_bswap_64_sound, lower_ctpop_32_sound, lower_ctpop_64_sound, lower_uadde_sound, narrow_and_sound, narrow_or_sound, narrow_xor_sound}
+use Rattle.gi_rule_values.proofs.LoweringMore.{lower_ctlz_zero_undef_sound, lower_cttz_zero_undef_sound, lower_rotl_sound, lower_rotr_sound, lower_smax_sound, lower_smin_sound, lower_uaddo_sound, lower_umax_sound, lower_umin_sound, lower_usube_sound, lower_usubo_sound}
 use Rattle.gi_rule_values.proofs.Parts.{lower_merge_sound}
 use Rattle.gi_rule_values.proofs.laws.lowering_is_sound.Goals as goal
 
@@ -14,4 +15,15 @@ returns c = record {
   lower_ctpop_32 = lower_ctpop_32_sound;
   lower_ctpop_64 = lower_ctpop_64_sound;
   lower_merge = lower_merge_sound;
+  lower_uaddo = lower_uaddo_sound;
+  lower_usubo = lower_usubo_sound;
+  lower_usube = lower_usube_sound;
+  lower_smin = lower_smin_sound;
+  lower_smax = lower_smax_sound;
+  lower_umin = lower_umin_sound;
+  lower_umax = lower_umax_sound;
+  lower_rotl = lower_rotl_sound;
+  lower_rotr = lower_rotr_sound;
+  lower_ctlz_zero_undef = lower_ctlz_zero_undef_sound;
+  lower_cttz_zero_undef = lower_cttz_zero_undef_sound;
 }

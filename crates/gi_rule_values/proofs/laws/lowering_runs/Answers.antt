@@ -16,4 +16,15 @@ returns c = record {
   lower_ctpop_64 = refl;
   lower_ctpop_64_all = refl;
   lower_merge = refl;
+  lower_uaddo = refl;
+  lower_usubo = refl;
+  lower_usube = refl;
+  lower_smin = refl;
+  lower_smax = refl;
+  lower_umin = refl;
+  lower_umax = refl;
+  lower_rotl = refl;
+  lower_rotr = refl;
+  lower_ctlz_zero_undef = refl;
+  lower_cttz_zero_undef = refl;
 }
