@@ -3,6 +3,7 @@ pub mod ByNumbers
 pub mod Combining
 pub mod CombiningMore
 pub mod Groups
+pub mod Halves
 pub mod Lists
 pub mod Lowering
 pub mod LoweringMore

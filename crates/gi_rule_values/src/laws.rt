@@ -16,12 +16,12 @@ ghost use Rattle.gi_rule_values.specs.Artifacts.{anyext_of_trunc_narrower, anyex
 ghost use Rattle.gi_rule_values.specs.Combining.{icmp_and_one, mul_to_shl, pointer_identity, select_constant, select_same, sub_to_add, udiv_to_lshr, urem_to_mask, right_identity, same_to_zero, cut_extension, binop_to_zero, binop_same, constant_fold_cast};
 ghost use Rattle.gi_rule_values.specs.Data.{RewriteData};
 ghost use Rattle.gi_rule_values.specs.Forms.{s};
-ghost use Rattle.gi_rule_values.specs.Lowering.{lower_abs, lower_bswap_32, lower_bswap_64, lower_ctpop_32, lower_ctpop_64, lower_merge, lower_uadde, lower_uaddo, lower_usube, lower_usubo, narrow_logic, lower_better, lower_rotate, lower_zero_undef};
+ghost use Rattle.gi_rule_values.specs.Lowering.{lower_abs, lower_bswap_32, lower_bswap_64, lower_ctpop_32, lower_ctpop_64, lower_merge, lower_sext_inreg, lower_uadde, lower_uaddo, lower_unmerge, lower_usube, lower_usubo, narrow_add, narrow_anyext, narrow_constant, narrow_implicit_def, narrow_select, narrow_sub, narrow_zext, narrow_logic, lower_better, lower_rotate, lower_zero_undef};
 ghost use Rattle.gi_rule_values.specs.OnValues.{on_values};
 ghost use Rattle.gi_rule_values.specs.Running.{IsSoundByNumbers, IsSoundRewrite, ran};
 ghost use Rattle.gi_rule_values.specs.Selecting.{materialize_constant, select_addi, select_eq_zero, select_icmp_eq, select_icmp_ne, select_icmp_ule, select_implicit_def, select_ne_zero, select_ptr_add, select_select, select_sext, select_sext_inreg, select_zext, select_above, select_below, select_below_number, select_copy, select_not_above, select_not_below, select_number, select_shift, select_two};
 ghost use Rattle.gi_rule_values.specs.Widening.{widen_add, widen_and, widen_ashr, widen_condition, widen_constant, widen_ctpop, widen_icmp, widen_icmp_result, widen_implicit_def, widen_lshr, widen_mul, widen_or, widen_sdiv, widen_select, widen_sext_inreg, widen_shl, widen_srem, widen_sub, widen_udiv, widen_urem, widen_xor, widen_cast};
-ghost use Rattle.std.specs.Prelude.{◌≡◌, [], ◌∷◌, ◌<◌, ◌^◌, ◌≤◌, List, Some, ℕ, ℤ, true, negsuc, ◌⊎◌};
+ghost use Rattle.std.specs.Prelude.{◌≡◌, [], ◌∷◌, ◌*◌, ◌<◌, ◌^◌, ◌≤◌, List, Some, ℕ, ℤ, true, negsuc, ◌⊎◌};
 
 /// A rewrite that is sound by numbers is a sound rule on values, in the sense of gi_refine: whatever is made, the root may have
 /// made, or it is undefined.
@@ -131,6 +131,15 @@ pub fn lowering_is_sound()
     ensures lower_rotr { (x : ℕ) (flags : Flags) (n : ℕ) → IsSoundRewrite x (lower_rotate op.GenericRotateRight op.GenericFunnelShiftRight flags n) }
     ensures lower_ctlz_zero_undef { (x : ℕ) (flags : Flags) (n : ℕ) → IsSoundRewrite x (lower_zero_undef op.GenericCountLeadingZerosNotOfZero op.GenericCountLeadingZeros flags n) }
     ensures lower_cttz_zero_undef { (x : ℕ) (flags : Flags) (n : ℕ) → IsSoundRewrite x (lower_zero_undef op.GenericCountTrailingZerosNotOfZero op.GenericCountTrailingZeros flags n) }
+    ensures lower_sext_inreg { (x : ℕ) (flags : Flags) (k : ℕ) → 1 ≤ k → k ≤ x → IsSoundRewrite x (lower_sext_inreg flags x k) }
+    ensures lower_unmerge { (x : ℕ) (flags : Flags) (width further : ℕ) → 1 ≤ width → IsSoundRewrite x (lower_unmerge flags width further) }
+    ensures narrow_add { (x : ℕ) (flags : Flags) → IsSoundRewrite x (narrow_add flags x) }
+    ensures narrow_sub { (x : ℕ) (flags : Flags) → IsSoundRewrite x (narrow_sub flags x) }
+    ensures narrow_select { (x : ℕ) (flags : Flags) (c : ℕ) → IsSoundRewrite x (narrow_select flags c x) }
+    ensures narrow_zext { (x : ℕ) (flags : Flags) → 1 ≤ x → IsSoundRewrite x (narrow_zext flags x) }
+    ensures narrow_anyext { (x : ℕ) (flags : Flags) → 1 ≤ x → IsSoundRewrite x (narrow_anyext flags x) }
+    ensures narrow_implicit_def { (x : ℕ) (flags : Flags) → IsSoundRewrite x (narrow_implicit_def flags x) }
+    ensures narrow_constant { (x : ℕ) (flags : Flags) (value : ℕ) → value < 2 ^ (2 * x) → IsSoundRewrite x (narrow_constant flags x value) }
 {}
 
 /// Rows of the selector.
@@ -305,6 +314,15 @@ pub fn lowering_runs()
     ensures lower_rotr { ran 32 (lower_rotate op.GenericRotateRight op.GenericFunnelShiftRight no_flags 8) (200 ∷ 3 ∷ []) ≡ Some (25 ∷ []) }
     ensures lower_ctlz_zero_undef { ran 32 (lower_zero_undef op.GenericCountLeadingZerosNotOfZero op.GenericCountLeadingZeros no_flags 8) (40 ∷ []) ≡ Some (2 ∷ []) }
     ensures lower_cttz_zero_undef { ran 32 (lower_zero_undef op.GenericCountTrailingZerosNotOfZero op.GenericCountTrailingZeros no_flags 8) (40 ∷ []) ≡ Some (3 ∷ []) }
+    ensures lower_sext_inreg { ran 32 (lower_sext_inreg no_flags 32 8) (968 ∷ []) ≡ Some (4294967240 ∷ []) }
+    ensures lower_unmerge { ran 64 (lower_unmerge no_flags 16 3) (1125912791875585 ∷ []) ≡ Some (1 ∷ 2 ∷ 3 ∷ 4 ∷ []) }
+    ensures narrow_add { ran 64 (narrow_add no_flags 64) (319014718988379809514207517036385403050 ∷ 41206067869332392062251804283866448070 ∷ []) ≡ Some (19938419936773738113084713888483639664 ∷ []) }
+    ensures narrow_sub { ran 64 (narrow_sub no_flags 64) (41206067869332392062251804283866448070 ∷ 319014718988379809514207517036385403050 ∷ []) ≡ Some (62473715801891046011418894679249256476 ∷ []) }
+    ensures narrow_select { ran 64 (narrow_select no_flags 1 64) (0 ∷ 319014718988379809514207517036385403050 ∷ 41206067869332392062251804283866448070 ∷ []) ≡ Some (41206067869332392062251804283866448070 ∷ []) }
+    ensures narrow_zext { ran 32 (narrow_zext no_flags 32) (7 ∷ []) ≡ Some (7 ∷ []) }
+    ensures narrow_anyext { ran 32 (narrow_anyext no_flags 32) (7 ∷ []) ≡ Some (18446744069414584327 ∷ []) }
+    ensures narrow_implicit_def { ran 32 (narrow_implicit_def no_flags 32) [] ≡ Some (18446744073709551615 ∷ []) }
+    ensures narrow_constant { ran 64 (narrow_constant no_flags 64 319014718988379809514207517036385403050) [] ≡ Some (319014718988379809514207517036385403050 ∷ []) }
 {}
 
 /// What is made, run on numbers, gives what the root gives there: with all free bits set.

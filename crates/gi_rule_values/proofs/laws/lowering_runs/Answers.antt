@@ -27,4 +27,13 @@ returns c = record {
   lower_rotr = refl;
   lower_ctlz_zero_undef = refl;
   lower_cttz_zero_undef = refl;
+  lower_sext_inreg = refl;
+  lower_unmerge = refl;
+  narrow_add = refl;
+  narrow_sub = refl;
+  narrow_select = refl;
+  narrow_zext = refl;
+  narrow_anyext = refl;
+  narrow_implicit_def = refl;
+  narrow_constant = refl;
 }
