@@ -1,5 +1,9 @@
 -- More rules of the combiners are sound.
-use Rattle.std.proofs.Common.{◌≡◌, ⊎_elim, ℕ, ◌*◌, ◌^◌, ◌<◌, ◌≤◌, ◌==◌, Bool, true, false, cond, refl, sym, ap, ◌∙◌, subst, arith}
+use Rattle.gi_mir.specs.declared.opcode.Opcode.{Opcode}
+use Rattle.gi_meaning.specs.Meaning.{Generic, meaning_of}
+use Rattle.gi_meaning.specs.Given.{Given, one}
+use Rattle.gi_meaning.specs.Argument.{Argument, Value}
+use Rattle.std.proofs.Common.{◌≡◌, ⊎_elim, ℕ, ◌*◌, ◌^◌, ◌<◌, ◌≤◌, ◌==◌, Bool, true, false, cond, refl, sym, ap, ◌∙◌, subst, arith, List, [], ◌∷◌}
 use Rattle.std.specs.Prelude.{bit_and, bit_or}
 use Rattle.std.specs.Int.Bits.{and_self, and_zero_r, or_self}
 use Rattle.std.proofs.Math.Nat.{mod-eq_of_lt}
@@ -15,7 +19,7 @@ use Rattle.gi_mir.specs.declared.opcode.Opcode.TheVariants as op
 use Rattle.gi_mir.specs.declared.operand.Flags.{Flags}
 use Rattle.gi_mir.specs.declared.operand.Pred.{Pred}
 use Rattle.gi_refine.proofs.Basics.{not_below_itself}
-use Rattle.gi_rule_values.specs.Combining.{binop_same, binop_to_zero, constant_fold_cast, icmp_and_one, select_constant, select_same}
+use Rattle.gi_rule_values.specs.Combining.{binop_same, binop_to_zero, constant_fold_cast, icmp_and_one, select_constant, select_same, constant_fold}
 use Rattle.gi_rule_values.specs.Running.{IsSoundRewrite}
 use Rattle.gi_rule_values.proofs.Artifacts.{may_extend, may_widen}
 use Rattle.gi_rule_values.proofs.Numbers.{bits_back, same, unless, unsigned_low}
@@ -91,4 +95,11 @@ fold_anyext_sound x flags more m c n some wider = record {
       let fits : c < 2 ^ m = subst (λ (u : ℕ). u < 2 ^ m) is a_fits in
       let low : wrapped m (sign_extended m n c) ≡ c = unsigned_low n m (signed m (wrapped m c)) (omega (arith, wider)) ∙ ap (λ v. unsigned m (signed m v)) (mod-eq_of_lt fits) ∙ bits_back m c some fits in
       (refl, may_widen m n a c (sign_extended m n c) (unsigned_below n (signed m (wrapped m c))) (is ∙ sym (mod-eq_of_lt fits)) (low ∙ sym (mod-eq_of_lt fits)) wider);
+}
+
+-- any operation on two constants that gives one value
+pub constant_fold_sound : (x : ℕ) (root : Opcode) (flags first second : Flags) (l a m b n value : ℕ) (gives : List ℕ → List Argument → Given)
+    → meaning_of flags root ≡ Generic gives → gives (n ∷ []) (Value l a ∷ Value m b ∷ []) ≡ one value → IsSoundRewrite x (constant_fold root flags first second l a m b n value)
+constant_fold_sound x root flags first second l a m b n value gives means given = record {
+  by = λ names w world u u_fits v v_fits is other. rw (is, other, means, given) (refl, refl);
 }

@@ -1,4 +1,7 @@
 -- Rules of the legaliser that work on halves are sound.
+use Rattle.gi_rule_values.proofs.Groups.{reversed_halves}
+use Rattle.gi_rule_values.specs.Artifacts.{trunc_of_merge}
+use Rattle.gi_refine.proofs.Basics.{not_below_itself}
 use Rattle.std.proofs.Common.{◌≡◌, ◌⊎◌, ⊎_elim, inl, inr, ℕ, zero, suc, pos, negsuc, ◌-ℤ◌, ◌+◌, ◌-◌, ◌*◌, ◌/◌, ◌%◌, ◌^◌, ◌<◌, ◌≤◌, ◌==◌, nat_lt, nat_le, Bool, true, false, cond, [], ◌∷◌, refl, sym, ap, ap₂, ◌∙◌, subst, arith}
 use Rattle.std.proofs.Math.Nat.{add-mul-mod_self_left, add-mul-mod_self_right, div-add-mod', mod-eq_of_lt, mod-one}
 use Rattle.std.proofs.lemmas.Bool.{cases_lt}
@@ -6,13 +9,14 @@ use Rattle.std.proofs.lemmas.Bool.Decides.{nat_tests}
 use Rattle.std.proofs.lemmas.Nat.{div-mul-add, div_below, mod_below, mul-add-lt, pow-add, pow_pos}
 use Rattle.gi_llt.specs.Bits.{unsigned, wrapped}
 use Rattle.gi_meaning.proofs.Numbers.{unsigned_below}
-use Rattle.gi_meaning.specs.Generic.{bit_of, difference_of}
+use Rattle.gi_meaning.specs.Generic.{bit_of, difference_of, byte_swap_of}
+use Rattle.gi_mir.specs.declared.opcode.Opcode.TheVariants as op
 use Rattle.gi_mir.specs.declared.operand.Flags.{Flags}
-use Rattle.gi_rule_values.specs.Lowering.{narrow_add, narrow_anyext, narrow_constant, narrow_implicit_def, narrow_select, narrow_sub, narrow_zext}
+use Rattle.gi_rule_values.specs.Lowering.{narrow_add, narrow_anyext, narrow_constant, narrow_implicit_def, narrow_select, narrow_sub, narrow_zext, narrow_bswap}
 use Rattle.gi_rule_values.specs.Running.{IsSoundRewrite, MayGive}
 use Rattle.gi_rule_values.proofs.Artifacts.{may_extend, may_widen}
 use Rattle.gi_rule_values.proofs.LoweringMore.{differs}
-use Rattle.gi_rule_values.proofs.Numbers.{difference_plain, free_given, unless}
+use Rattle.gi_rule_values.proofs.Numbers.{difference_plain, free_given, unless, low_of_low, same}
 
 -- ══ Two halves ══
 
@@ -174,4 +178,27 @@ narrow_implicit_def_sound x flags = record {
 pub narrow_constant_sound : (x : ℕ) (flags : Flags) (value : ℕ) → value < 2 ^ (2 * x) → IsSoundRewrite x (narrow_constant flags x value)
 narrow_constant_sound x flags value fits = record {
   by = λ names world is_world. (refl, sym (pair_is (2 ^ x) (value % 2 ^ x) (value / 2 ^ x) ∙ div-add-mod' value (2 ^ x)));
+}
+
+-- the bytes of both halves turned around, and the halves too
+pub narrow_bswap_sound : (x : ℕ) (flags : Flags) → IsSoundRewrite x (narrow_bswap flags 32)
+narrow_bswap_sound x flags = record {
+  by = λ names world is_world a a_fits.
+      let high : a / 4294967296 % 4294967296 ≡ a / 4294967296 = high_half 32 a a_fits in
+      (refl, sym (pair_is 4294967296 (byte_swap_of 32 (a / 4294967296 % 4294967296)) (byte_swap_of 32 (a % 4294967296))
+      ∙ ap (λ h. byte_swap_of 32 (a % 4294967296) * 4294967296 + byte_swap_of 32 h) high ∙ reversed_halves a));
+}
+
+-- ══ The lower of two parts ══
+
+pub trunc_of_merge_same_sound : (x : ℕ) (flags more : Flags) (width : ℕ) → IsSoundRewrite x (trunc_of_merge op.Copy flags more width width)
+trunc_of_merge_same_sound x flags more width = record {
+  by = λ names world is_world a a_fits l l_fits h h_fits is.
+      rw (not_below_itself width, same width) (refl, ap (wrapped width) is ∙ low_of_pair width l (h + 2 ^ width * 0) l_fits);
+}
+
+pub trunc_of_merge_narrower_sound : (x : ℕ) (flags more : Flags) (width n : ℕ) → n ≤ width → IsSoundRewrite x (trunc_of_merge op.GenericTruncate flags more width n)
+trunc_of_merge_narrower_sound x flags more width n within = record {
+  by = λ names world is_world a a_fits l l_fits h h_fits is.
+      (refl, ap (wrapped n) is ∙ sym (low_of_low n width (l + 2 ^ width * (h + 2 ^ width * 0)) within) ∙ ap (wrapped n) (low_of_pair width l (h + 2 ^ width * 0) l_fits));
 }

@@ -4,19 +4,23 @@ ghost use Rattle.gi_llt.specs.Bits.{sign_extended, wrapped};
 ghost use Rattle.gi_llt.specs.Llt.{width_of};
 ghost use Rattle.gi_llt.specs.declared.Llt.TheVariants.{Pointer};
 ghost use Rattle.gi_llt.specs.declared.Llt.{Llt};
+ghost use Rattle.gi_meaning.specs.Argument.{Argument, Value};
+ghost use Rattle.gi_meaning.specs.Given.{Given, one};
 ghost use Rattle.gi_meaning.specs.Machine.{is_immediate};
+ghost use Rattle.gi_meaning.specs.Meaning.{Generic, meaning_of};
 ghost use Rattle.gi_meaning.specs.State.{World};
 ghost use Rattle.gi_mir.specs.Data.{no_flags};
 ghost use Rattle.gi_mir.specs.declared.opcode.Opcode.TheVariants as op;
+ghost use Rattle.gi_mir.specs.declared.opcode.Opcode.{Opcode};
 ghost use Rattle.gi_mir.specs.declared.operand.Flags.{Flags};
 ghost use Rattle.gi_mir.specs.declared.operand.Pred.TheVariants.{Ugt, Uge, Ult, Sgt, Sge, Slt, Sle};
 ghost use Rattle.gi_mir.specs.declared.operand.Pred.{Pred};
 ghost use Rattle.gi_refine.specs.Values.{IsSound};
-ghost use Rattle.gi_rule_values.specs.Artifacts.{anyext_of_trunc_narrower, anyext_of_trunc_same, anyext_of_trunc_wider, freeze_to_copy, sext_of_trunc_narrower, sext_of_trunc_same, sext_of_trunc_wider, trunc_of_trunc, unmerge_of_merge, zext_of_trunc_narrower, zext_of_trunc_same, zext_of_trunc_wider};
-ghost use Rattle.gi_rule_values.specs.Combining.{icmp_and_one, mul_to_shl, pointer_identity, select_constant, select_same, sub_to_add, udiv_to_lshr, urem_to_mask, right_identity, same_to_zero, cut_extension, binop_to_zero, binop_same, constant_fold_cast};
+ghost use Rattle.gi_rule_values.specs.Artifacts.{anyext_of_trunc_narrower, anyext_of_trunc_same, anyext_of_trunc_wider, freeze_to_copy, sext_of_trunc_narrower, sext_of_trunc_same, sext_of_trunc_wider, trunc_of_trunc, unmerge_of_merge, zext_of_trunc_narrower, zext_of_trunc_same, zext_of_trunc_wider, trunc_of_merge};
+ghost use Rattle.gi_rule_values.specs.Combining.{constant_fold, icmp_and_one, mul_to_shl, pointer_identity, select_constant, select_same, sub_to_add, udiv_to_lshr, urem_to_mask, right_identity, same_to_zero, cut_extension, binop_to_zero, binop_same, constant_fold_cast};
 ghost use Rattle.gi_rule_values.specs.Data.{RewriteData};
 ghost use Rattle.gi_rule_values.specs.Forms.{s};
-ghost use Rattle.gi_rule_values.specs.Lowering.{lower_abs, lower_bswap_32, lower_bswap_64, lower_ctpop_32, lower_ctpop_64, lower_merge, lower_sext_inreg, lower_uadde, lower_uaddo, lower_unmerge, lower_usube, lower_usubo, narrow_add, narrow_anyext, narrow_constant, narrow_implicit_def, narrow_select, narrow_sub, narrow_zext, narrow_logic, lower_better, lower_rotate, lower_zero_undef};
+ghost use Rattle.gi_rule_values.specs.Lowering.{lower_abs, lower_bswap_32, lower_bswap_64, lower_ctpop_32, lower_ctpop_64, lower_merge, lower_sext_inreg, lower_uadde, lower_uaddo, lower_unmerge, lower_usube, lower_usubo, narrow_add, narrow_anyext, narrow_bswap, narrow_constant, narrow_implicit_def, narrow_select, narrow_sub, narrow_zext, narrow_logic, lower_better, lower_rotate, lower_zero_undef};
 ghost use Rattle.gi_rule_values.specs.OnValues.{on_values};
 ghost use Rattle.gi_rule_values.specs.Running.{IsSoundByNumbers, IsSoundRewrite, ran};
 ghost use Rattle.gi_rule_values.specs.Selecting.{materialize_constant, select_addi, select_eq_zero, select_icmp_eq, select_icmp_ne, select_icmp_ule, select_implicit_def, select_ne_zero, select_ptr_add, select_select, select_sext, select_sext_inreg, select_zext, select_above, select_below, select_below_number, select_copy, select_not_above, select_not_below, select_number, select_shift, select_two};
@@ -43,6 +47,8 @@ pub fn artifacts_are_sound()
     ensures sext_of_trunc_narrower { (x : ℕ) (flags more : Flags) (m w k : ℕ) → m < k → k < w → IsSoundRewrite x (sext_of_trunc_narrower flags more m w k) }
     ensures sext_of_trunc_wider { (x : ℕ) (flags more : Flags) (m w k : ℕ) → m < w → w < k → IsSoundRewrite x (sext_of_trunc_wider flags more m w k) }
     ensures unmerge_of_merge { (x : ℕ) (flags more : Flags) (width count : ℕ) → IsSoundRewrite x (unmerge_of_merge flags more width count) }
+    ensures trunc_of_merge_same { (x : ℕ) (flags more : Flags) (width : ℕ) → IsSoundRewrite x (trunc_of_merge op.Copy flags more width width) }
+    ensures trunc_of_merge_narrower { (x : ℕ) (flags more : Flags) (width n : ℕ) → n ≤ width → IsSoundRewrite x (trunc_of_merge op.GenericTruncate flags more width n) }
 {}
 
 /// Rules of the combiners.
@@ -78,6 +84,7 @@ pub fn combining_is_sound()
     ensures fold_zext { (x : ℕ) (flags more : Flags) (m c n : ℕ) → m < n → IsSoundRewrite x (constant_fold_cast op.GenericZeroExtend flags more m c n c) }
     ensures fold_sext { (x : ℕ) (flags more : Flags) (m c n : ℕ) → IsSoundRewrite x (constant_fold_cast op.GenericSignExtend flags more m c n (sign_extended m n c)) }
     ensures fold_anyext { (x : ℕ) (flags more : Flags) (m c n : ℕ) → 1 ≤ m → m < n → IsSoundRewrite x (constant_fold_cast op.GenericAnyExtend flags more m c n (sign_extended m n c)) }
+    ensures constant_fold { (x : ℕ) (root : Opcode) (flags first second : Flags) (l a m b n value : ℕ) (gives : List ℕ → List Argument → Given) → meaning_of flags root ≡ Generic gives → gives (n ∷ []) (Value l a ∷ Value m b ∷ []) ≡ one value → IsSoundRewrite x (constant_fold root flags first second l a m b n value) }
 {}
 
 /// Rules of the legaliser that widen.
@@ -140,6 +147,7 @@ pub fn lowering_is_sound()
     ensures narrow_anyext { (x : ℕ) (flags : Flags) → 1 ≤ x → IsSoundRewrite x (narrow_anyext flags x) }
     ensures narrow_implicit_def { (x : ℕ) (flags : Flags) → IsSoundRewrite x (narrow_implicit_def flags x) }
     ensures narrow_constant { (x : ℕ) (flags : Flags) (value : ℕ) → value < 2 ^ (2 * x) → IsSoundRewrite x (narrow_constant flags x value) }
+    ensures narrow_bswap { (x : ℕ) (flags : Flags) → IsSoundRewrite x (narrow_bswap flags 32) }
 {}
 
 /// Rows of the selector.
@@ -221,6 +229,8 @@ pub fn artifacts_runs()
     ensures sext_of_trunc_narrower { ran 64 (sext_of_trunc_narrower no_flags no_flags 8 64 32) (200 ∷ 4295051720 ∷ []) ≡ Some (4294967240 ∷ []) }
     ensures sext_of_trunc_wider { ran 64 (sext_of_trunc_wider no_flags no_flags 8 32 64) (200 ∷ 84424 ∷ []) ≡ Some (18446744073709551560 ∷ []) }
     ensures unmerge_of_merge { ran 32 (unmerge_of_merge no_flags no_flags 8 3) (197121 ∷ 1 ∷ 2 ∷ 3 ∷ []) ≡ Some (1 ∷ 2 ∷ 3 ∷ []) }
+    ensures trunc_of_merge_same { ran 32 (trunc_of_merge op.Copy no_flags no_flags 16 16) (305419896 ∷ 22136 ∷ 4660 ∷ []) ≡ Some (22136 ∷ []) }
+    ensures trunc_of_merge_narrower { ran 32 (trunc_of_merge op.GenericTruncate no_flags no_flags 16 8) (305419896 ∷ 22136 ∷ 4660 ∷ []) ≡ Some (120 ∷ []) }
 {}
 
 /// What is made, run on numbers, gives what the root gives there: with all free bits set.
@@ -257,6 +267,7 @@ pub fn combining_runs()
     ensures fold_zext { ran 32 (constant_fold_cast op.GenericZeroExtend no_flags no_flags 8 200 16 200) (200 ∷ []) ≡ Some (200 ∷ []) }
     ensures fold_sext { ran 32 (constant_fold_cast op.GenericSignExtend no_flags no_flags 8 200 16 65480) (200 ∷ []) ≡ Some (65480 ∷ []) }
     ensures fold_anyext { ran 32 (constant_fold_cast op.GenericAnyExtend no_flags no_flags 8 200 16 65480) (200 ∷ []) ≡ Some (65480 ∷ []) }
+    ensures constant_fold { ran 32 (constant_fold op.GenericAdd no_flags no_flags no_flags 8 200 8 100 8 44) (200 ∷ 100 ∷ []) ≡ Some (44 ∷ []) }
 {}
 
 /// What is made, run on numbers, gives what the root gives there: with all free bits set.
@@ -323,6 +334,7 @@ pub fn lowering_runs()
     ensures narrow_anyext { ran 32 (narrow_anyext no_flags 32) (7 ∷ []) ≡ Some (18446744069414584327 ∷ []) }
     ensures narrow_implicit_def { ran 32 (narrow_implicit_def no_flags 32) [] ≡ Some (18446744073709551615 ∷ []) }
     ensures narrow_constant { ran 64 (narrow_constant no_flags 64 319014718988379809514207517036385403050) [] ≡ Some (319014718988379809514207517036385403050 ∷ []) }
+    ensures narrow_bswap { ran 32 (narrow_bswap no_flags 32) (81985529216486895 ∷ []) ≡ Some (17279655951921914625 ∷ []) }
 {}
 
 /// What is made, run on numbers, gives what the root gives there: with all free bits set.

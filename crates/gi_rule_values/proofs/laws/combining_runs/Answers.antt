@@ -35,4 +35,5 @@ returns c = record {
   fold_zext = refl;
   fold_sext = refl;
   fold_anyext = refl;
+  constant_fold = refl;
 }

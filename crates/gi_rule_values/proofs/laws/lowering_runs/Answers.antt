@@ -36,4 +36,5 @@ returns c = record {
   narrow_anyext = refl;
   narrow_implicit_def = refl;
   narrow_constant = refl;
+  narrow_bswap = refl;
 }
