@@ -127,5 +127,8 @@ below-all n (p ∷ ps) given =
 
 pub few-instrs : (blocks : List BlockData) (n b : ℕ) (d : BlockData) → b < length blocks → AreOwnIds blocks n → length (get_or blocks b d).instrs ≤ n
 few-instrs blocks n b d within own =
-    omega (arith, below-all n (get_or blocks b d).instrs (λ id ge. omega (arith, own.given id ge, get_or-le-sum_by (uses_in id) blocks b d within)),
-    below-few n (get_or blocks b d).instrs (λ id. omega (arith, own.once id, get_or-le-sum_by (uses_in id) blocks b d within)))
+    omega (
+      arith,
+      below-all n (get_or blocks b d).instrs (λ id ge. omega (arith, own.given id ge, get_or-le-sum_by (uses_in id) blocks b d within)),
+      below-few n (get_or blocks b d).instrs (λ id. omega (arith, own.once id, get_or-le-sum_by (uses_in id) blocks b d within)),
+    )

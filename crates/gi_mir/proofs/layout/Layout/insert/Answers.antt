@@ -85,7 +85,7 @@ gain-requires c =
     let blocks = blocks_of l in
     let bodies = c.set_previous.ensures.bodies ∙ c.set_next.ensures.bodies ∙ c.enter.ensures.bodies ∙ c.free_label.ensures.bodies in
     let read : c.index_mut-body.result.now ≡ get_or l.bodies.items c.args.block c.index_mut-body.result.now = c.index_mut-body.ensures.value
-        ∙ ap (λ (xs : List Body). get_or xs c.args.block c.index_mut-body.result.now) (ap (λ v. v.items) bodies) in
+    ∙ ap (λ (xs : List Body). get_or xs c.args.block c.index_mut-body.result.now) (ap (λ v. v.items) bodies) in
     let body = linked-body l.bodies.items l.slots.items blocks c.args.block c.index_mut-body.result.now c.requires.stored.linked c.requires.within read in
     let count : c.index_mut-body.result.now.count ≡ length (body_at blocks c.args.block).instrs = ap (λ (b : Body). b.count) body in
     let few : length (body_at blocks c.args.block).instrs ≤ length l.slots.items = few-instrs blocks (length l.slots.items) c.args.block _ c.requires.within c.requires.stored.own in
@@ -109,13 +109,13 @@ inserted c =
     let places : c.set_previous.new.self.places.items ≡ now.places.items ++ place c.args.block c.in_ok-at.at ∷ [] = ap (λ v. v.items) (c.set_previous.ensures.places ∙ c.set_next.ensures.places) ∙ c.in_ok-id.ensures.places in
     let mentions = c.set_previous.ensures.mentions ∙ c.set_next.ensures.mentions in
     let links = c.set_previous.ensures.slots ∙ ap (previous_set c.gap-gap.result.next (Some c.in_ok-id.id)) (c.set_next.ensures.slots ∙ ap (next_set c.gap-gap.result.previous (Some c.in_ok-id.id)) c.in_ok-id.ensures.ok)
-        ∙ ap₂ (λ (g : Gap) (i : InstrId). previous_set g.next (Some i) (next_set g.previous (Some i) (now.slots.items ++ slot_between g (length now.slots.items, c.args.instr) ∷ []))) gap id in
+    ∙ ap₂ (λ (g : Gap) (i : InstrId). previous_set g.next (Some i) (next_set g.previous (Some i) (now.slots.items ++ slot_between g (length now.slots.items, c.args.instr) ∷ []))) gap id in
     let read : c.index_mut-body.result.now ≡ get_or now.bodies.items c.args.block c.index_mut-body.result.now = c.index_mut-body.ensures.value
-        ∙ ap (λ (xs : List Body). get_or xs c.args.block c.index_mut-body.result.now) (ap (λ v. v.items) bodies) in
+    ∙ ap (λ (xs : List Body). get_or xs c.args.block c.index_mut-body.result.now) (ap (λ v. v.items) bodies) in
     let ends = ends-inserted now.bodies.items now.slots.items blocks c.args.block at c.in_ok-id.id (length now.slots.items, c.args.instr) c.index_mut-body.result.now c.gain.new.self _ _ spelled.linked c.requires.within bound read id before behind c.gain.ensures in
     let put : IsSpelled (with_item c.set_previous.new.self.bodies c.args.block c.gain.new.self).items c.set_previous.new.self.slots.items c.set_previous.new.self.places.items c.set_previous.new.self.mentions (with_inserted blocks (place c.args.block at) (length now.slots.items, c.args.instr)) =
-        rw (bodies, places, mentions) (spelled-inserted now.bodies.items _ now.slots.items c.set_previous.new.self.slots.items now.places.items now.mentions c.enter.new.self.mentions blocks c.args.block at c.in_ok-at.at c.args.instr
-        c.requires.within bound fits links ends c.in_ok-id.ensures.noted spelled) in
+    rw (bodies, places, mentions) (spelled-inserted now.bodies.items _ now.slots.items c.set_previous.new.self.slots.items now.places.items now.mentions c.enter.new.self.mentions blocks c.args.block at c.in_ok-at.at c.args.instr
+    c.requires.within bound fits links ends c.in_ok-id.ensures.noted spelled) in
     subst (λ (n : ℕ). IsSpelled (with_item c.set_previous.new.self.bodies c.args.block c.gain.new.self).items c.set_previous.new.self.slots.items c.set_previous.new.self.places.items c.set_previous.new.self.mentions (with_inserted blocks (place c.args.block at) (n, c.args.instr)))
     (ap (λ v. length v.items) c.free_label.ensures.slots) put
 
