@@ -105,7 +105,7 @@ operands_stay : (os : List Operand) → map (operand_renamed (λ r. r)) os ≡ o
 operands_stay [] = refl
 operands_stay (o ∷ os) = ap₂ (λ p ps. p ∷ ps) (operand_stays o) (operands_stay os)
 
-entry_stays : (p : ℕ × InstrData) → entry_renamed (λ r. r) p ≡ p
+pub entry_stays : (p : ℕ × InstrData) → entry_renamed (λ r. r) p ≡ p
 entry_stays p = ap (λ os. (p.0, record p.1 { operands = os })) (operands_stay p.1.operands)
 
 all_stand : (w : Rewriting) → ((p : ℕ × InstrData) → entry_renamed w.rename p ≡ p) → (is : List (ℕ × InstrData)) → flat_map (put w.root.0 w.made) is ≡ rewritten w is
