@@ -2,6 +2,7 @@ pub mod ArenaLemmas
 pub mod DefinedKinds
 pub mod Edits
 pub mod FormedLemmas
+pub mod Grouped
 pub mod IdsLemmas
 pub mod InstrsLemmas
 pub mod Keys

@@ -4,6 +4,7 @@ pub mod Data
 pub mod Edit
 pub mod Entries
 pub mod Formed
+pub mod Groups
 pub mod Ids
 pub mod Instrs
 pub mod Labels
