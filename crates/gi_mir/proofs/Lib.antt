@@ -14,12 +14,14 @@ pub mod Linking
 pub mod Lists
 pub mod Located
 pub mod Mentioned
+pub mod Merging
 pub mod NamesLemmas
 pub mod Noted
 pub mod NumberingLaws
 pub mod OrLemmas
 pub mod Ordered
 pub mod Places
+pub mod Ranks
 pub mod Replaced
 pub mod Replacing
 pub mod SpreadLemmas

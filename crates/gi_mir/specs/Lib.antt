@@ -17,7 +17,6 @@ pub mod Renaming
 pub mod Routines
 pub mod Row
 pub mod Stages
-pub mod Tables
 pub mod Types
 pub mod Typings
 pub mod Uses

@@ -1,9 +1,9 @@
 //! Which instructions mention a register: which define it, and which use it, in layout order.
 
-ghost use Rattle.std.specs.Prelude.{◌≡◌, ℕ, [], ◌∷◌, ◌≤◌, length, insert, slice_get, true, false, OnOk, OnErr};
+ghost use Rattle.std.specs.Prelude.{◌≡◌, ◌≢◌, ℕ, ◌+◌, [], ◌∷◌, ◌++◌, ◌<◌, ◌≤◌, length, drop, insert, slice_get, true, false, IfOk, OnOk, OnErr};
 ghost use Rattle.std.specs.List.{list_any};
 ghost use Rattle.std.specs.List.Sorted.{IsPartitionedBy, IsPartitionPoint};
-ghost use Rattle.gi_mir.specs.Mentions.{definition_key, use_key, mention_of, is_mention, precedes, has_at, noted, without, listed, IsListed, HasSameLists, IsSorted, Lacks, IsNoted, IsForgotten};
+ghost use Rattle.gi_mir.specs.Mentions.{definition_key, use_key, mention_of, is_mention, precedes, has_at, noted, without, listed, IsInRank, stands_before, merged, IsListed, HasSameLists, IsSorted, AreInRank, Lacks, IsNoted, IsForgotten, AreUsersMoved};
 
 use crate::block::InstrId;
 use crate::operand::{Operand, Reg};
@@ -123,11 +123,89 @@ fn put(ids: &mut Vec<InstrId>, places: &[Place], id: InstrId, spot: Place) -> Re
     }
 }
 
-/// Takes an instruction out of a list.
-fn take_out(ids: &mut Vec<InstrId>, id: InstrId)
+/// Takes an instruction, which stands at this place, out of a list if it is there.
+fn take_out(ids: &mut Vec<InstrId>, places: &[Place], id: InstrId, spot: Place)
+    requires { IsInRank (precedes places.now spot) id ids.old.items }
     ensures { ids.new.items ≡ without id ids.old.items }
 {
-    ids.retain(|x| x.0 != id.0);
+    let at = rank(places, ids.as_slice(), spot);
+    if has_at(ids.as_slice(), at, id) {
+        ids.remove(at);
+    }
+}
+
+/// Whether the place of an instruction comes before that of another.
+fn stands_before(places: &[Place], id: InstrId, other: InstrId) -> bool
+    ensures { result ≡ stands_before places.now id other }
+{
+    match places.get(other.0).copied() {
+        Some(spot) => precedes(places, id, spot),
+        None => false,
+    }
+}
+
+/// How far a merge of two lists has come in each.
+#[derive(Clone, Copy)]
+struct Heads {
+    left: usize,
+    right: usize,
+}
+
+impl Heads {
+    fn new(left: usize, right: usize) -> Heads
+        ensures left { result.left ≡ left }
+        ensures right { result.right ≡ right }
+    {
+        Heads { left, right }
+    }
+}
+
+/// The next id of a merge of two lists, and how far it has come then.
+fn next_merged(places: &[Place], xs: &[InstrId], ys: &[InstrId], at: Heads) -> (InstrId, Heads)
+    requires left { at.left < length xs.now }
+    requires right { at.right < length ys.now }
+    ensures next { merged (stands_before places.now) (drop at.left xs.now) (drop at.right ys.now) ≡ result.0 ∷ merged (stands_before places.now) (drop result.1.left xs.now) (drop result.1.right ys.now) }
+    ensures within { (result.1.left ≤ length xs.now) × (result.1.right ≤ length ys.now) }
+    ensures further { at.left + at.right < result.1.left + result.1.right }
+{
+    let Heads { left, right } = at;
+    let x = xs[left];
+    let y = ys[right];
+    if stands_before(places, y, x) {
+        (y, Heads::new(left, right + 1))
+    } else if y.0 == x.0 {
+        (x, Heads::new(left + 1, right + 1))
+    } else {
+        (x, Heads::new(left + 1, right))
+    }
+}
+
+/// Adds the rest of a list behind another.
+fn append(ids: &mut Vec<InstrId>, more: &[InstrId]) -> Result<(), Memory>
+    ensures { OnOk result (ids.new.items ≡ ids.old.items ++ more.now) }
+{
+    ids.extend_from_slice(more).map_err(|_| Memory)
+}
+
+/// The ids of two lists in layout order, each once.
+fn merge(
+    alloc: Global,
+    places: &[Place],
+    xs: &[InstrId],
+    ys: &[InstrId],
+) -> Result<Vec<InstrId>, Memory>
+    ensures { IfOk result (λ ids. ids.items ≡ merged (stands_before places.now) xs.now ys.now) }
+{
+    let mut ids = Vec::new(alloc);
+    let mut at = Heads::new(0, 0);
+    while at.left < xs.len() && at.right < ys.len() {
+        let (id, next) = next_merged(places, xs, ys, at);
+        ids.push(id).map_err(|_| Memory)?;
+        at = next;
+    }
+    append(&mut ids, &xs[at.left..])?;
+    append(&mut ids, &ys[at.right..])?;
+    Ok(ids)
 }
 
 impl Mentions {
@@ -148,6 +226,26 @@ impl Mentions {
         match self.lists.get(&key) {
             Some(ids) => ids.as_slice(),
             None => &[],
+        }
+    }
+
+    /// Puts a list under a key.
+    fn set(&mut self, key: u64, ids: Vec<InstrId>) -> Result<(), Memory>
+        ensures ok { OnOk result (IsListed self.old self.new key ids.items) }
+        ensures err { OnErr result (HasSameLists self.old self.new) }
+    {
+        self.lists.insert(key, ids).map_err(|_| Memory)?;
+        Ok(())
+    }
+
+    /// Takes the list under a key.
+    fn take(&mut self, key: u64) -> Vec<InstrId>
+        ensures list { result.items ≡ listed self.old key }
+        ensures rest { IsListed self.old self.new key [] }
+    {
+        match self.lists.remove(&key) {
+            Some(ids) => ids,
+            None => Vec::new(self.alloc),
         }
     }
 
@@ -175,12 +273,13 @@ impl Mentions {
         }
     }
 
-    /// Takes an instruction out of the list under a key.
-    fn forget(&mut self, key: u64, id: InstrId)
+    /// Takes an instruction, which stands at this place, out of the list under a key.
+    fn forget(&mut self, places: &[Place], key: u64, id: InstrId, spot: Place)
+        requires { IsInRank (precedes places.now spot) id (listed self.old key) }
         ensures { IsListed self.old self.new key (without id (listed self.old key)) }
     {
         if let Some(ids) = self.lists.get_mut(&key) {
-            take_out(ids, id);
+            take_out(ids, places, id, spot);
         }
     }
 
@@ -202,12 +301,19 @@ impl Mentions {
         }
     }
 
-    /// Takes an instruction out of the list under the key that an operand mentions.
-    pub(crate) fn forget_operand(&mut self, operand: Operand, id: InstrId)
+    /// Takes an instruction, which stands at this place, out of the list under the key that an operand mentions.
+    pub(crate) fn forget_operand(
+        &mut self,
+        places: &[Place],
+        operand: Operand,
+        id: InstrId,
+        spot: Place,
+    )
+        requires { AreInRank places.now spot id self.old }
         ensures { IsForgotten self.old self.new (operand ∷ []) id }
     {
         if let Some(key) = operand.mention() {
-            self.forget(key, id);
+            self.forget(places, key, id, spot);
         }
     }
 
@@ -230,7 +336,7 @@ impl Mentions {
             match self.note_operand(places, *x, id, spot) {
                 Ok(()) => {}
                 Err(_) => {
-                    self.forget_all(operands, id);
+                    self.forget_all(places, operands, id, spot);
                     return Err(Memory);
                 }
             }
@@ -238,12 +344,42 @@ impl Mentions {
         Ok(())
     }
 
-    /// Takes an instruction out of the lists under the keys that its operands mention.
-    pub(crate) fn forget_all(&mut self, operands: &[Operand], id: InstrId)
+    /// Lists the users of a register as users of another, and answers them. Where memory runs out, the lists are
+    /// as they were.
+    pub(crate) fn replace(
+        &mut self,
+        places: &[Place],
+        old: Reg,
+        new: Reg,
+    ) -> Result<Vec<InstrId>, Memory>
+        requires { old.0 ≢ new.0 }
+        ensures users { IfOk result (λ ids. ids.items ≡ listed self.old (use_key old.0)) }
+        ensures ok { OnOk result (AreUsersMoved self.old self.new places.now old.0 new.0) }
+        ensures err { OnErr result (HasSameLists self.old self.new) }
+    {
+        let from = use_key(old);
+        let to = use_key(new);
+        let olds = self.of(from);
+        let news = self.of(to);
+        let ids = merge(self.alloc, places, olds, news)?;
+        self.set(to, ids)?;
+        let users = self.take(from);
+        Ok(users)
+    }
+
+    /// Takes an instruction, which stands at this place, out of the lists under the keys that its operands mention.
+    pub(crate) fn forget_all(
+        &mut self,
+        places: &[Place],
+        operands: &[Operand],
+        id: InstrId,
+        spot: Place,
+    )
+        requires { AreInRank places.now spot id self.old }
         ensures { IsForgotten self.old self.new operands.now id }
     {
         for x in operands {
-            self.forget_operand(*x, id);
+            self.forget_operand(places, *x, id, spot);
         }
     }
 }
