@@ -3,7 +3,7 @@ use Rattle.std.specs.Prelude.{bytes_eq, find, option_map}
 use Rattle.std.specs.Borrow.{Bor}
 use Rattle.gi_spelling.specs.declared.token.Word.{Word}
 use Rattle.gi_mir_read.proofs.TableLemmas.{find-map}
-use Rattle.gi_mir_read.proofs.line.word.fixed_word.Goals as goal
+use Rattle.gi_mir_read.proofs.line.word.fixed_word_among.Goals as goal
 
 pub returns : goal.returns
 returns c =
