@@ -1,7 +1,7 @@
 -- Lists by the place on a page, and pages by the key.
-use Rattle.std.proofs.Common.{◌≡◌, ◌≢◌, ℕ, zero, suc, ◌+◌, ◌/◌, ◌%◌, ◌<◌, Bool, true, false, List, [], ◌∷◌, ◌++◌, Option, Some, None, length, set, refl, sym, ap, ◌∙◌, subst, arith, Vec}
-use Rattle.std.specs.Prelude.{slice_get}
-use Rattle.std.specs.Option.{option_map_or}
+use Rattle.std.proofs.Common.{◌≡◌, ◌≢◌, ℕ, zero, suc, ◌+◌, ◌-◌, ◌/◌, ◌%◌, ◌<◌, Bool, true, false, List, [], ◌∷◌, ◌++◌, Option, Some, None, length, set, refl, sym, ap, ◌∙◌, subst, arith, Vec}
+use Rattle.std.specs.Prelude.{slice_get, slice_index_or}
+use Rattle.std.specs.List.Sorted.{IsPartitionedBy, IsPartitionPoint}
 use Rattle.std.specs.BTreeMap.{get, is_at, Updates}
 use Rattle.std.specs.Ordering.{is_eq, nat_cmp}
 use Rattle.std.specs.declared.alloc.Global.{Global}
@@ -40,3 +40,10 @@ place_set old new room at ids same within is = record {
   here = ap (λ lists. list_at lists at) is ∙ set_here room at ids within;
   elsewhere = λ k apart. ap (λ lists. list_at lists k) is ∙ set_elsewhere room at ids k apart ∙ same k;
 }
+
+-- ---- where the last of a list stands before a place, all do
+
+pub all_before : (before : InstrId → Bool) (ids : List InstrId) → IsPartitionedBy before ids → ((other : InstrId) → before (slice_index_or ids (length ids - 1) other) ≡ true)
+    → IsPartitionPoint (λ id. before id ≡ true) (λ id. before id ≡ false) ids (length ids)
+all_before before ids sorted last =
+    ((λ k other low high. sorted k (length ids - 1) other (omega (arith, high)) (omega (arith, high)) (last other)), (λ k other low high. absurd (omega (arith, low, high))))

@@ -1,10 +1,11 @@
 //! Which instructions mention a register: which define it, and which use it, in layout order.
 
-ghost use Rattle.std.specs.Prelude.{◌≡◌, ◌≢◌, ℕ, ◌+◌, [], ◌∷◌, ◌++◌, ◌<◌, ◌≤◌, length, drop, insert, slice_get, None, ◌/◌, true, false, IfOk, OnOk, OnErr};
+ghost use Rattle.std.specs.Prelude.{◌≡◌, ◌≢◌, ℕ, ◌+◌, [], ◌∷◌, ◌++◌, ◌<◌, ◌≤◌, length, drop, insert, slice_get, slice_index_or, None, ◌/◌, ◌-◌, true, false, IfOk, OnOk, OnErr};
 ghost use Rattle.std.specs.List.{list_any};
 ghost use Rattle.std.specs.BTreeMap.{get};
 ghost use Rattle.std.specs.Ordering.{nat_cmp};
 ghost use Rattle.std.specs.List.Sorted.{IsPartitionedBy, IsPartitionPoint};
+ghost use Rattle.gi_mir.specs.declared.block.InstrId.{InstrId};
 ghost use Rattle.gi_mir.specs.Mentions.{definition_key, use_key, mention_of, is_mention, precedes, has_at, noted, without, listed, IsInRank, stands_before, merged, IsListed, HasSameLists, IsSorted, AreInRank, Lacks, IsNoted, IsForgotten, AreUsersMoved};
 
 use crate::block::InstrId;
@@ -77,13 +78,27 @@ fn precedes(places: &[Place], id: InstrId, spot: Place) -> bool
     }
 }
 
+/// Whether the last instruction of a list stands before a place. It does where instructions come in layout order.
+fn is_last_before(places: &[Place], ids: &[InstrId], spot: Place) -> bool
+    ensures some { result ≡ true → 0 < length ids.now }
+    ensures last { result ≡ true → (other : InstrId) → precedes places.now spot (slice_index_or ids.now (length ids.now - 1) other) ≡ true }
+{
+    let count = ids.len();
+    0 < count && precedes(places, ids[count - 1], spot)
+}
+
 /// How many instructions of a list stand before a place.
+#[tactic(auto, using(crate::proofs::Paged::all_before))]
 fn rank(places: &[Place], ids: &[InstrId], spot: Place) -> usize
     requires { IsPartitionedBy (precedes places.now spot) ids.now }
     ensures point { IsPartitionPoint (λ id. precedes places.now spot id ≡ true) (λ id. precedes places.now spot id ≡ false) ids.now result }
     ensures bound { result ≤ length ids.now }
 {
-    ids.partition_point(|id| precedes(places, *id, spot))
+    if is_last_before(places, ids, spot) {
+        ids.len()
+    } else {
+        ids.partition_point(|id| precedes(places, *id, spot))
+    }
 }
 
 /// The first instruction of a list.
