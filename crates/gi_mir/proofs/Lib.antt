@@ -20,6 +20,7 @@ pub mod Noted
 pub mod NumberingLaws
 pub mod OrLemmas
 pub mod Ordered
+pub mod Paged
 pub mod Places
 pub mod Ranks
 pub mod Replaced

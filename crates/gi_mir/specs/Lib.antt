@@ -11,6 +11,7 @@ pub mod Labels
 pub mod Mentions
 pub mod Names
 pub mod Numbering
+pub mod Pages
 pub mod Places
 pub mod Registers
 pub mod Renaming

@@ -1,5 +1,5 @@
 -- Which instructions mention a register, and how the lists of them change.
-use Rattle.std.specs.Prelude.{◌≡◌, ◌≢◌, ℕ, ◌+◌, ◌*◌, Bool, true, false, not, List, [], ◌∷◌, Option, Some, None, ◌==◌, map, filter, slice_get, if◌then◌else◌}
+use Rattle.std.specs.Prelude.{◌≡◌, ◌≢◌, ℕ, ◌+◌, ◌*◌, ◌/◌, ◌%◌, Bool, true, false, not, List, [], ◌∷◌, Option, Some, None, ◌==◌, map, filter, slice_get, if◌then◌else◌}
 use Rattle.std.specs.List.{list_any}
 use Rattle.std.specs.List.Sorted.{IsPartitionedBy, IsPartitionPoint}
 use Rattle.std.specs.Option.{option_map_or}
@@ -11,6 +11,7 @@ use Rattle.gi_mir.specs.declared.mentions.Mentions.{Mentions}
 use Rattle.gi_mir.specs.declared.operand.Operand.{Operand}
 use Rattle.gi_mir.specs.declared.operand.Operand.TheVariants.{Def, Use}
 use Rattle.gi_mir.specs.declared.place.Place.{Place}
+use Rattle.gi_mir.specs.Pages.{listed_at}
 use Rattle.gi_mir.specs.Places.{body_at, comes_before}
 
 -- the keys of a register's definitions and of its uses
@@ -91,7 +92,7 @@ pub record IsInRank (before : InstrId → Bool) (id : InstrId) (ids : List Instr
 
 -- the ids that are listed under a key
 abbrev pub listed : Mentions → ℕ → List InstrId
-listed m key = option_map_or (λ v. v.items) (get nat_cmp m.lists key) []
+listed m key = option_map_or (λ page. listed_at page (key % 128)) (get nat_cmp m.pages (key / 128)) []
 
 -- the lists before and after a change
 pub record HasSameLists (old new : Mentions) : Type 0 where

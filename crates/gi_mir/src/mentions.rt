@@ -1,12 +1,16 @@
 //! Which instructions mention a register: which define it, and which use it, in layout order.
 
-ghost use Rattle.std.specs.Prelude.{◌≡◌, ◌≢◌, ℕ, ◌+◌, [], ◌∷◌, ◌++◌, ◌<◌, ◌≤◌, length, drop, insert, slice_get, true, false, IfOk, OnOk, OnErr};
+ghost use Rattle.std.specs.Prelude.{◌≡◌, ◌≢◌, ℕ, ◌+◌, [], ◌∷◌, ◌++◌, ◌<◌, ◌≤◌, length, drop, insert, slice_get, slice_index_or, None, ◌/◌, ◌-◌, true, false, IfOk, OnOk, OnErr};
 ghost use Rattle.std.specs.List.{list_any};
+ghost use Rattle.std.specs.BTreeMap.{get};
+ghost use Rattle.std.specs.Ordering.{nat_cmp};
 ghost use Rattle.std.specs.List.Sorted.{IsPartitionedBy, IsPartitionPoint};
+ghost use Rattle.gi_mir.specs.declared.block.InstrId.{InstrId};
 ghost use Rattle.gi_mir.specs.Mentions.{definition_key, use_key, mention_of, is_mention, precedes, has_at, noted, without, listed, IsInRank, stands_before, merged, IsListed, HasSameLists, IsSorted, AreInRank, Lacks, IsNoted, IsForgotten, AreUsersMoved};
 
 use crate::block::InstrId;
 use crate::operand::{Operand, Reg};
+use crate::page::{PAGE, Page};
 use crate::place::Place;
 use gi_llt::Memory;
 use std::alloc::Global;
@@ -17,7 +21,7 @@ use std::collections::BTreeMap;
 #[derive(Drop)]
 pub(crate) struct Mentions {
     alloc: Global,
-    lists: BTreeMap<u64, Vec<InstrId>>,
+    pages: BTreeMap<u64, Page>,
 }
 
 /// The key of the definitions of a register.
@@ -74,13 +78,27 @@ fn precedes(places: &[Place], id: InstrId, spot: Place) -> bool
     }
 }
 
+/// Whether the last instruction of a list stands before a place. It does where instructions come in layout order.
+fn is_last_before(places: &[Place], ids: &[InstrId], spot: Place) -> bool
+    ensures some { result ≡ true → 0 < length ids.now }
+    ensures last { result ≡ true → (other : InstrId) → precedes places.now spot (slice_index_or ids.now (length ids.now - 1) other) ≡ true }
+{
+    let count = ids.len();
+    0 < count && precedes(places, ids[count - 1], spot)
+}
+
 /// How many instructions of a list stand before a place.
+#[tactic(auto, using(crate::proofs::Paged::all_before))]
 fn rank(places: &[Place], ids: &[InstrId], spot: Place) -> usize
     requires { IsPartitionedBy (precedes places.now spot) ids.now }
     ensures point { IsPartitionPoint (λ id. precedes places.now spot id ≡ true) (λ id. precedes places.now spot id ≡ false) ids.now result }
     ensures bound { result ≤ length ids.now }
 {
-    ids.partition_point(|id| precedes(places, *id, spot))
+    if is_last_before(places, ids, spot) {
+        ids.len()
+    } else {
+        ids.partition_point(|id| precedes(places, *id, spot))
+    }
 }
 
 /// The first instruction of a list.
@@ -110,7 +128,7 @@ fn insert(ids: &mut Vec<InstrId>, at: usize, id: InstrId) -> Result<(), Memory>
 }
 
 /// Adds an instruction, which stands at this place, to a list unless it is there.
-fn put(ids: &mut Vec<InstrId>, places: &[Place], id: InstrId, spot: Place) -> Result<(), Memory>
+pub(crate) fn put(ids: &mut Vec<InstrId>, places: &[Place], id: InstrId, spot: Place) -> Result<(), Memory>
     requires { IsPartitionedBy (precedes places.now spot) ids.old.items }
     ensures ok { OnOk result (ids.new.items ≡ noted (precedes places.now spot) id ids.old.items) }
     ensures err { OnErr result (ids.new.items ≡ ids.old.items) }
@@ -124,7 +142,7 @@ fn put(ids: &mut Vec<InstrId>, places: &[Place], id: InstrId, spot: Place) -> Re
 }
 
 /// Takes an instruction, which stands at this place, out of a list if it is there.
-fn take_out(ids: &mut Vec<InstrId>, places: &[Place], id: InstrId, spot: Place)
+pub(crate) fn take_out(ids: &mut Vec<InstrId>, places: &[Place], id: InstrId, spot: Place)
     requires { IsInRank (precedes places.now spot) id ids.old.items }
     ensures { ids.new.items ≡ without id ids.old.items }
 {
@@ -215,7 +233,7 @@ impl Mentions {
     {
         Mentions {
             alloc,
-            lists: BTreeMap::new(alloc),
+            pages: BTreeMap::new(alloc),
         }
     }
 
@@ -223,10 +241,22 @@ impl Mentions {
     pub(crate) fn of(&self, key: u64) -> &[InstrId]
         ensures { result.now ≡ listed self.now key }
     {
-        match self.lists.get(&key) {
-            Some(ids) => ids.as_slice(),
+        match self.pages.get(&(key / PAGE)) {
+            Some(page) => page.at((key % PAGE) as usize),
             None => &[],
         }
+    }
+
+    /// Puts a page in on which there is one list, where there was no page.
+    fn put_page(&mut self, key: u64, ids: Vec<InstrId>) -> Result<(), Memory>
+        requires { get nat_cmp self.old.pages (key / 128) ≡ None }
+        ensures ok { OnOk result (IsListed self.old self.new key ids.items) }
+        ensures err { OnErr result (HasSameLists self.old self.new) }
+    {
+        let mut page = Page::new(self.alloc);
+        page.set(self.alloc, (key % PAGE) as usize, ids)?;
+        self.pages.insert(key / PAGE, page).map_err(|_| Memory)?;
+        Ok(())
     }
 
     /// Puts a list under a key.
@@ -234,8 +264,10 @@ impl Mentions {
         ensures ok { OnOk result (IsListed self.old self.new key ids.items) }
         ensures err { OnErr result (HasSameLists self.old self.new) }
     {
-        self.lists.insert(key, ids).map_err(|_| Memory)?;
-        Ok(())
+        match self.pages.get_mut(&(key / PAGE)) {
+            Some(page) => page.set(self.alloc, (key % PAGE) as usize, ids),
+            None => self.put_page(key, ids),
+        }
     }
 
     /// Takes the list under a key.
@@ -243,22 +275,21 @@ impl Mentions {
         ensures list { result.items ≡ listed self.old key }
         ensures rest { IsListed self.old self.new key [] }
     {
-        match self.lists.remove(&key) {
-            Some(ids) => ids,
+        match self.pages.get_mut(&(key / PAGE)) {
+            Some(page) => page.take(self.alloc, (key % PAGE) as usize),
             None => Vec::new(self.alloc),
         }
     }
 
-    /// Begins a list with one instruction.
+    /// Begins a page with one instruction.
     fn begin(&mut self, key: u64, id: InstrId) -> Result<(), Memory>
-        requires { listed self.old key ≡ [] }
+        requires { get nat_cmp self.old.pages (key / 128) ≡ None }
         ensures ok { OnOk result (IsListed self.old self.new key (id ∷ [])) }
         ensures err { OnErr result (HasSameLists self.old self.new) }
     {
         let mut ids = Vec::new(self.alloc);
         ids.push(id).map_err(|_| Memory)?;
-        self.lists.insert(key, ids).map_err(|_| Memory)?;
-        Ok(())
+        self.put_page(key, ids)
     }
 
     /// Lists an instruction, which stands at this place, under a key unless it is there.
@@ -267,8 +298,8 @@ impl Mentions {
         ensures ok { OnOk result (IsListed self.old self.new key (noted (precedes places.now spot) id (listed self.old key))) }
         ensures err { OnErr result (HasSameLists self.old self.new) }
     {
-        match self.lists.get_mut(&key) {
-            Some(ids) => put(ids, places, id, spot),
+        match self.pages.get_mut(&(key / PAGE)) {
+            Some(page) => page.note(self.alloc, places, (key % PAGE) as usize, id, spot),
             None => self.begin(key, id),
         }
     }
@@ -278,8 +309,8 @@ impl Mentions {
         requires { IsInRank (precedes places.now spot) id (listed self.old key) }
         ensures { IsListed self.old self.new key (without id (listed self.old key)) }
     {
-        if let Some(ids) = self.lists.get_mut(&key) {
-            take_out(ids, places, id, spot);
+        if let Some(page) = self.pages.get_mut(&(key / PAGE)) {
+            page.forget(places, (key % PAGE) as usize, id, spot);
         }
     }
 
