@@ -1,5 +1,5 @@
 -- Users that are moved from one register to another.
-use Rattle.std.proofs.Common.{◌≡◌, ◌≢◌, ℕ, zero, suc, ◌+◌, ◌-◌, ◌*◌, ◌<◌, ◌≤◌, Bool, true, false, ◌||◌, cond, List, [], ◌∷◌, ◌++◌, Option, Some, ◌⊎◌, inl, inr, ⊎_elim, length, take, drop, drop-cons, length-drop, get_or, append_assoc, refl, sym, subst, ap, ap₂, ◌∙◌, arith, eqb-true, eq-eqb, add-one}
+use Rattle.std.proofs.Common.{◌≡◌, ◌≢◌, ℕ, zero, suc, ◌+◌, ◌-◌, ◌*◌, ◌<◌, ◌≤◌, Bool, true, false, ◌||◌, cond, List, [], ◌∷◌, ◌++◌, Option, Some, None, ◌⊎◌, inl, inr, ⊎_elim, length, take, drop, drop-cons, length-drop, get_or, append_assoc, refl, sym, subst, ap, ap₂, ◌∙◌, arith, eqb-true, eq-eqb, add-one}
 use Rattle.std.specs.Prelude.{slice_get, option_map, is_some, ◌==◌, map, filter}
 use Rattle.std.specs.List.{list_any}
 use Rattle.std.proofs.lemmas.List.{length-map}
@@ -15,12 +15,12 @@ use Rattle.gi_mir.specs.declared.operand.Operand.TheVariants as operand
 use Rattle.gi_mir.specs.declared.place.Place.{Place}
 use Rattle.gi_mir.specs.Data.{InstrData, BlockData}
 use Rattle.gi_mir.specs.Edit.{empty_block, all_instrs, has_instr, is_use_of, uses}
-use Rattle.gi_mir.specs.Mentions.{use_key, is_mention, mentions, instr_id, mentioning, stands_before, merged, listed, IsListed, AreUsersMoved}
+use Rattle.gi_mir.specs.Mentions.{use_key, is_mention, mentions, operands_of, instr_id, mentioning, stands_before, merged, listed, IsListed, AreUsersMoved}
 use Rattle.gi_mir.specs.Ids.{uses_among, uses_in, uses_of}
 use Rattle.gi_mir.specs.Places.{body_at, comes_before, nth_id, id_in}
 use Rattle.gi_mir.specs.Arena.{AreUsers, HasOrder, IsLinked, body_of, id_ahead, id_named, is_in, slot_at, slot_changed, spot_of}
 use Rattle.gi_mir.specs.Uses.{operand_replaced, instr_replaced, entry_replaced, block_replaced}
-use Rattle.gi_mir.proofs.Keys.{is_mention-use, mentions-use}
+use Rattle.gi_mir.proofs.Keys.{mentions-use}
 use Rattle.gi_mir.proofs.Linked.{id_in-spot, linked-slot, linked-tells, order-place, order-within}
 use Rattle.gi_mir.proofs.Located.{id_in-within}
 use Rattle.gi_mir.proofs.Mentioned.{Each, Each-append, Each-from_slice_get, Each-get_or, Each-all_instrs, Each-mentioning, Each-weaker, ahead, all-split-at, apart_test, behind, comes_first, comes_later, mentioning-parts, one_if}
@@ -88,11 +88,6 @@ pub merged-end : (before : InstrId → InstrId → Bool) (xs ys ids left all : L
 merged-end before xs ys ids left all i j c first last so_far =
     last ∙ ap₂ (λ (zs ws : List InstrId). zs ++ ws) (first ∙ ap (λ (zs : List InstrId). ids ++ zs) (rest-drop xs i)) (rest-drop ys j) ∙ append_assoc ids (drop i xs) (drop j ys)
     ∙ ap (λ (zs : List InstrId). ids ++ zs) (sym (merged-rest before xs ys i j c)) ∙ so_far
-
--- a slice written back over all of a list
-pub written-back : {X : Type 0} (n : ℕ) (xs ys : List X) → length xs ≡ length ys → length ys ≡ n → take n (xs ++ drop (length xs) ys) ≡ xs
-written-back {X = X} n xs ys same count =
-    ap (λ (zs : List X). take n (xs ++ zs)) (drop-end ys (length xs) (omega arith)) ∙ ap (take n) (append-none xs) ∙ take-full xs n (omega arith)
 
 -- ---- lists of those that mention a key
 
