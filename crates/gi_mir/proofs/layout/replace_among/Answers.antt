@@ -1,5 +1,5 @@
 -- Those that are left are named behind this one.
-use Rattle.std.proofs.Common.{◌<◌, ◌≡◌, slice_index_or, length}
+use Rattle.std.proofs.Common.{◌<◌, slice_index_or, length}
 use Rattle.gi_mir.proofs.Replacing.{turn-done, turns-end}
 use Rattle.gi_mir.proofs.layout.replace_among.Goals as goal
 
