@@ -1,6 +1,6 @@
 -- Where the instructions stand, each once.
 use Rattle.std.proofs.Common.{◌≡◌, ℕ, zero, suc, ◌+◌, ◌<◌, ◌≤◌, Bool, true, false, not, ◌||◌, cond, List, [], ◌∷◌, Some, ◌⊎◌, ⊎_elim, length, get_or, refl, ap, arith, eqb-true, eq-eqb}
-use Rattle.std.specs.Prelude.{slice_get, ◌==◌, Contains, map}
+use Rattle.std.specs.Prelude.{◌==◌, Contains, map}
 use Rattle.std.specs.List.{list_any, sum_by}
 use Rattle.std.proofs.lemmas.List.Sums.{sum_by-cons, get_or-le-sum_by}
 use Rattle.gi_mir.specs.Data.{InstrData, BlockData, FunctionData}

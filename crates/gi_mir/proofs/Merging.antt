@@ -1,10 +1,8 @@
 -- Users that are moved from one register to another.
-use Rattle.std.proofs.Common.{◌≡◌, ◌≢◌, ℕ, zero, suc, ◌+◌, ◌-◌, ◌*◌, ◌<◌, ◌≤◌, Bool, true, false, ◌||◌, cond, List, [], ◌∷◌, ◌++◌, Option, Some, ◌⊎◌, inl, inr, ⊎_elim, length, take, drop, drop-cons, length-drop, get_or, append_assoc, refl, sym, subst, ap, ap₂, ◌∙◌, arith, eqb-true, eq-eqb, add-one}
+use Rattle.std.proofs.Common.{◌≡◌, ◌≢◌, ℕ, zero, suc, ◌+◌, ◌-◌, ◌<◌, ◌≤◌, Bool, true, false, ◌||◌, cond, List, [], ◌∷◌, ◌++◌, Option, Some, None, ◌⊎◌, inl, inr, ⊎_elim, length, take, drop, length-drop, get_or, append_assoc, refl, sym, subst, ap, ap₂, ◌∙◌, arith, eqb-true, eq-eqb}
 use Rattle.std.specs.Prelude.{slice_get, option_map, is_some, ◌==◌, map, filter}
 use Rattle.std.specs.List.{list_any}
 use Rattle.std.proofs.lemmas.List.{length-map}
-use Rattle.std.specs.Option.{option_map_or}
-use Rattle.std.proofs.lemmas.Bool.Decides.{nat_tests}
 use Rattle.std.proofs.lemmas.List.Sums.{sum_by-cons}
 use Rattle.gi_mir.specs.declared.block.Body.{Body}
 use Rattle.gi_mir.specs.declared.block.InstrId.{InstrId}
@@ -15,12 +13,12 @@ use Rattle.gi_mir.specs.declared.operand.Operand.TheVariants as operand
 use Rattle.gi_mir.specs.declared.place.Place.{Place}
 use Rattle.gi_mir.specs.Data.{InstrData, BlockData}
 use Rattle.gi_mir.specs.Edit.{empty_block, all_instrs, has_instr, is_use_of, uses}
-use Rattle.gi_mir.specs.Mentions.{use_key, is_mention, mentions, instr_id, mentioning, stands_before, merged, listed, IsListed, AreUsersMoved}
+use Rattle.gi_mir.specs.Mentions.{use_key, mentions, operands_of, instr_id, mentioning, stands_before, merged, listed, IsListed, AreUsersMoved}
 use Rattle.gi_mir.specs.Ids.{uses_among, uses_in, uses_of}
 use Rattle.gi_mir.specs.Places.{body_at, comes_before, nth_id, id_in}
 use Rattle.gi_mir.specs.Arena.{AreUsers, HasOrder, IsLinked, body_of, id_ahead, id_named, is_in, slot_at, slot_changed, spot_of}
 use Rattle.gi_mir.specs.Uses.{operand_replaced, instr_replaced, entry_replaced, block_replaced}
-use Rattle.gi_mir.proofs.Keys.{is_mention-use, mentions-use}
+use Rattle.gi_mir.proofs.Keys.{mentions-use}
 use Rattle.gi_mir.proofs.Linked.{id_in-spot, linked-slot, linked-tells, order-place, order-within}
 use Rattle.gi_mir.proofs.Located.{id_in-within}
 use Rattle.gi_mir.proofs.Mentioned.{Each, Each-append, Each-from_slice_get, Each-get_or, Each-all_instrs, Each-mentioning, Each-weaker, ahead, all-split-at, apart_test, behind, comes_first, comes_later, mentioning-parts, one_if}
@@ -43,25 +41,6 @@ step-both before x y xs ys early same = rw (early, same) refl
 
 step-left : (before : InstrId → InstrId → Bool) (x y : InstrId) (xs ys : List InstrId) → before y x ≡ false → (y.0 == x.0) ≡ false → merged before (x ∷ xs) (y ∷ ys) ≡ x ∷ merged before xs (y ∷ ys)
 step-left before x y xs ys early apart = rw (early, apart) refl
-
-at-heads : (before : InstrId → InstrId → Bool) (xs ys : List InstrId) (i j : ℕ) (d : InstrId) → i < length xs → j < length ys → merged before (drop i xs) (drop j ys) ≡ merged before (get_or xs i d ∷ drop (suc i) xs) (get_or ys j d ∷ drop (suc j) ys)
-at-heads before xs ys i j d hi hj = ap₂ (merged before) (drop-cons xs i d hi) (drop-cons ys j d hj)
-
-pub drop-right : (before : InstrId → InstrId → Bool) (xs ys : List InstrId) (i j : ℕ) (d : InstrId) → i < length xs → j < length ys → before (get_or ys j d) (get_or xs i d) ≡ true → merged before (drop i xs) (drop j ys) ≡ get_or ys j d ∷ merged before (drop i xs) (drop (suc j) ys)
-drop-right before xs ys i j d hi hj later =
-    at-heads before xs ys i j d hi hj
-    ∙ step-right before (get_or xs i d) (get_or ys j d) (drop (suc i) xs) (drop (suc j) ys) later
-    ∙ ap (λ (zs : List InstrId). get_or ys j d ∷ merged before zs (drop (suc j) ys)) (sym (drop-cons xs i d hi))
-
-pub drop-both : (before : InstrId → InstrId → Bool) (xs ys : List InstrId) (i j : ℕ) (d : InstrId) → i < length xs → j < length ys → before (get_or ys j d) (get_or xs i d) ≡ false → ((get_or ys j d).0 == (get_or xs i d).0) ≡ true → merged before (drop i xs) (drop j ys) ≡ get_or xs i d ∷ merged before (drop (suc i) xs) (drop (suc j) ys)
-drop-both before xs ys i j d hi hj early same =
-    at-heads before xs ys i j d hi hj ∙ step-both before (get_or xs i d) (get_or ys j d) (drop (suc i) xs) (drop (suc j) ys) early same
-
-pub drop-left : (before : InstrId → InstrId → Bool) (xs ys : List InstrId) (i j : ℕ) (d : InstrId) → i < length xs → j < length ys → before (get_or ys j d) (get_or xs i d) ≡ false → ((get_or ys j d).0 == (get_or xs i d).0) ≡ false → merged before (drop i xs) (drop j ys) ≡ get_or xs i d ∷ merged before (drop (suc i) xs) (drop j ys)
-drop-left before xs ys i j d hi hj early apart =
-    at-heads before xs ys i j d hi hj
-    ∙ step-left before (get_or xs i d) (get_or ys j d) (drop (suc i) xs) (drop (suc j) ys) early apart
-    ∙ ap (λ (zs : List InstrId). get_or xs i d ∷ merged before (drop (suc i) xs) zs) (sym (drop-cons ys j d hj))
 
 append-none : {X : Type 0} (xs : List X) → xs ++ [] ≡ xs
 append-none [] = refl
@@ -88,11 +67,6 @@ pub merged-end : (before : InstrId → InstrId → Bool) (xs ys ids left all : L
 merged-end before xs ys ids left all i j c first last so_far =
     last ∙ ap₂ (λ (zs ws : List InstrId). zs ++ ws) (first ∙ ap (λ (zs : List InstrId). ids ++ zs) (rest-drop xs i)) (rest-drop ys j) ∙ append_assoc ids (drop i xs) (drop j ys)
     ∙ ap (λ (zs : List InstrId). ids ++ zs) (sym (merged-rest before xs ys i j c)) ∙ so_far
-
--- a slice written back over all of a list
-pub written-back : {X : Type 0} (n : ℕ) (xs ys : List X) → length xs ≡ length ys → length ys ≡ n → take n (xs ++ drop (length xs) ys) ≡ xs
-written-back {X = X} n xs ys same count =
-    ap (λ (zs : List X). take n (xs ++ zs)) (drop-end ys (length xs) (omega arith)) ∙ ap (take n) (append-none xs) ∙ take-full xs n (omega arith)
 
 -- ---- lists of those that mention a key
 

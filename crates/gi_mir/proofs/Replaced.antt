@@ -157,7 +157,3 @@ uses-replaced old new p apart = by p.1.operands
     by : (xs : List Operand) → list_any (is_use_of old) (map (operand_replaced old new) xs) ≡ false
     by [] = refl
     by (x ∷ xs) = rw (one x) (by xs)
-
--- so that replacing twice is replacing once
-pub replaced-twice : (old new : ℕ) (p : ℕ × InstrData) → old ≢ new → entry_replaced old new (entry_replaced old new p) ≡ entry_replaced old new p
-replaced-twice old new p apart = entry_replaced-without old new (entry_replaced old new p) (uses-replaced old new p apart)

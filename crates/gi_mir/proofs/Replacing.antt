@@ -1,5 +1,5 @@
 -- Uses that are replaced, in one instruction after another.
-use Rattle.std.proofs.Common.{◌≡◌, ◌≢◌, ℕ, zero, suc, ◌+◌, ◌<◌, ◌≤◌, Bool, true, false, not, ◌||◌, cond, List, [], ◌∷◌, ◌++◌, Option, Some, None, ◌⊎◌, ⊎_elim, length, drop, get_or, set, drop-cons, add-one, refl, sym, subst, ap, ap₂, ◌∙◌, arith, eqb-true, max}
+use Rattle.std.proofs.Common.{◌≡◌, ◌≢◌, ℕ, zero, suc, ◌+◌, ◌<◌, ◌≤◌, Bool, true, false, not, ◌||◌, cond, List, [], ◌∷◌, ◌++◌, Option, Some, None, ⊎_elim, length, drop, get_or, set, drop-cons, add-one, refl, sym, subst, ap, ap₂, ◌∙◌, arith, eqb-true, max}
 use Rattle.std.proofs.lemmas.Bool.{cases_eq}
 use Rattle.std.proofs.lemmas.Bool.Decides.{nat_tests}
 use Rattle.std.specs.Prelude.{slice_get, option_map, ◌==◌, map, filter}
@@ -99,12 +99,12 @@ drop-end (x ∷ xs) (suc i) h = drop-end xs i (omega arith)
 -- when all are done
 pub turns-end : (old new : ℕ) (ids : List InstrId) (k : ℕ) (before cur : List Slot) → length ids ≤ k → IsReplacing old new (drop k ids) before cur → cur ≡ map (slot_changed (instr_replaced old new)) before
 turns-end old new ids k before cur past so_far =
-    sym (slots-without old new cur (λ id s found. none (list_any (is_use_of old) (operands_of s.entry)) (so_far.named id s found))) ∙ so_far.whole
+    sym (slots-without old new cur (λ id s found. none id (list_any (is_use_of old) (operands_of s.entry)) (so_far.named id s found))) ∙ so_far.whole
   where
-    none : {id : ℕ} (b : Bool) → (b ≡ true → list_any (λ (user : InstrId). user.0 == id) (drop k ids) ≡ true) → b ≡ false
-    none {id} true h =
+    none : (id : ℕ) (b : Bool) → (b ≡ true → list_any (λ (user : InstrId). user.0 == id) (drop k ids) ≡ true) → b ≡ false
+    none id true h =
         absurd (cc (ap (list_any (λ (user : InstrId). user.0 == id)) (drop-end ids k past), h refl))
-    none false h = refl
+    none id false h = refl
 
 -- ---- the instructions of blocks
 

@@ -1,5 +1,5 @@
 -- An arena that spells blocks, with all that is written down beside it, stays so under each edit.
-use Rattle.std.proofs.Common.{◌≡◌, ◌≢◌, ℕ, zero, suc, ◌+◌, ◌^◌, ◌<◌, ◌≤◌, Bool, true, false, not, ◌&&◌, ◌||◌, List, [], ◌∷◌, ◌++◌, Option, Some, None, ◌⊎◌, inl, inr, ⊎_elim, length, get_or, set, refl, sym, subst, ap, ◌∙◌, arith, eqb-true}
+use Rattle.std.proofs.Common.{◌≡◌, ◌≢◌, ℕ, zero, suc, ◌+◌, ◌<◌, ◌≤◌, Bool, true, false, not, ◌&&◌, ◌||◌, List, [], ◌∷◌, ◌++◌, Option, Some, None, ◌⊎◌, inl, inr, ⊎_elim, length, get_or, set, refl, sym, subst, ap, ◌∙◌, arith, eqb-true}
 use Rattle.std.specs.Prelude.{Contains, IfSome, insert, remove, slice_get, option_map, is_some}
 use Rattle.std.specs.List.{list_any}
 use Rattle.std.specs.Option.{option_map_or}
@@ -21,7 +21,7 @@ use Rattle.gi_mir.specs.Arena.{FitsGap, HasOrder, IsLinked, IsStored, blocks_in,
 use Rattle.gi_mir.specs.Data.{InstrData, BlockData}
 use Rattle.gi_mir.specs.Edit.{HeadData, empty_block, ids_of, spot_in, all_instrs, block_changed_at, block_with, changed_at, has_instr, of_kind, with_kind, with_operand}
 use Rattle.gi_mir.specs.Ids.{AreOwnIds, uses_in, uses_of}
-use Rattle.gi_mir.specs.Mentions.{is_mention, is_mentioned, mention_of, operands_of, mentions, mentioning, precedes, listed, HasSameLists, IsNoted, IsForgotten, IsSorted, AreInRank, Lacks}
+use Rattle.gi_mir.specs.Mentions.{is_mention, is_mentioned, mention_of, operands_of, mentions, mentioning, precedes, listed, IsNoted, IsForgotten, IsSorted, AreInRank, Lacks}
 use Rattle.gi_mir.specs.Places.{place, comes_before, body_at, id_in, nth_id, with_changed_at, with_inserted, with_removed}
 use Rattle.gi_mir.proofs.ArenaLemmas.{blocks_in-linked}
 use Rattle.gi_mir.proofs.Edits.{length-changed_at, set-as_changed, slice_get-push, slice_get-pushed_before}
@@ -69,15 +69,6 @@ spelled-stored l blocks spelled =
       order = here.order;
       has_mentions = here.has_mentions;
     }
-
-pub spelled-same_lists : (bodies : List Body) (slots : List Slot) (places : List Place) (old new : Mentions) (blocks : List BlockData) → HasSameLists old new → IsSpelled bodies slots places old blocks → IsSpelled bodies slots places new blocks
-spelled-same_lists bodies slots places old new blocks same spelled = record {
-  given = spelled.given;
-  own = spelled.own;
-  linked = spelled.linked;
-  order = spelled.order;
-  has_mentions = λ key. same.same key ∙ spelled.has_mentions key;
-}
 
 -- ---- what a call reads of an instruction
 

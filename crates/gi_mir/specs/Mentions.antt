@@ -5,14 +5,14 @@ use Rattle.std.specs.List.Sorted.{IsPartitionedBy, IsPartitionPoint}
 use Rattle.std.specs.Option.{option_map_or}
 use Rattle.std.specs.BTreeMap.{get}
 use Rattle.std.specs.Ordering.{nat_cmp}
-use Rattle.gi_mir.specs.Data.{InstrData, BlockData}
+use Rattle.gi_mir.specs.Data.{InstrData}
 use Rattle.gi_mir.specs.declared.block.InstrId.{InstrId}
 use Rattle.gi_mir.specs.declared.mentions.Mentions.{Mentions}
 use Rattle.gi_mir.specs.declared.operand.Operand.{Operand}
 use Rattle.gi_mir.specs.declared.operand.Operand.TheVariants.{Def, Use}
 use Rattle.gi_mir.specs.declared.place.Place.{Place}
 use Rattle.gi_mir.specs.Pages.{listed_at}
-use Rattle.gi_mir.specs.Places.{body_at, comes_before}
+use Rattle.gi_mir.specs.Places.{comes_before}
 
 -- the keys of a register's definitions and of its uses
 abbrev pub definition_key : ℕ → ℕ
@@ -40,9 +40,6 @@ is_mentioned x operands = option_map_or (λ key. list_any (is_mention key) opera
 -- the operands of an instruction, if there is one
 abbrev pub operands_of : Option (ℕ × InstrData) → List Operand
 operands_of found = option_map_or (λ p. p.1.operands) found []
-
-abbrev pub operands_at : List BlockData → Place → List Operand
-operands_at blocks spot = operands_of (slice_get (body_at blocks spot.block).instrs spot.at)
 
 -- the id of an instruction
 abbrev pub instr_id : ℕ × InstrData → InstrId

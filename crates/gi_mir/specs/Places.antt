@@ -1,5 +1,5 @@
 -- Where each instruction stands in layout.
-use Rattle.std.specs.Prelude.{◌≡◌, ℕ, ◌<◌, ◌==◌, ◌&&◌, ◌||◌, Bool, nat_lt, List, Option, Some, option_map, length, insert, remove, slice_get, slice_index_or, slice_set}
+use Rattle.std.specs.Prelude.{◌≡◌, ℕ, ◌<◌, ◌==◌, ◌&&◌, ◌||◌, Bool, nat_lt, List, Option, Some, option_map, insert, remove, slice_get, slice_index_or, slice_set}
 use Rattle.gi_mir.specs.Data.{InstrData, BlockData}
 use Rattle.gi_mir.specs.Edit.{empty_block, block_changed_at}
 use Rattle.gi_mir.specs.declared.place.Place.{Place}

@@ -280,12 +280,7 @@ impl Layout {
         self.set_previous(next, previous);
         let body = &mut self.bodies[spot.block as usize];
         body.lose(previous, next);
-        self.mentions.forget_all(
-            self.places.as_slice(),
-            instr.operands.as_slice(),
-            id,
-            spot,
-        );
+        self.mentions.forget_all(self.places.as_slice(), instr.operands.as_slice(), id, spot);
         instr
     }
 

@@ -1,5 +1,5 @@
 -- The new mention is noted first, and the old one taken out where it was the last.
-use Rattle.std.proofs.Common.{rules, ◌<◌, ◌≡◌, ◌∙◌, Bool, Some, ap, sym, length, true, false}
+use Rattle.std.proofs.Common.{rules, ◌<◌, ◌≡◌, ◌∙◌, ap, sym, length, true, false}
 use Rattle.std.specs.Prelude.{slice_get}
 use Rattle.std.specs.Vec.{with_item}
 use Rattle.gi_mir.specs.declared.block.Slot.{Slot}
