@@ -61,10 +61,10 @@ module _ (names : List (List ℕ)) (name : List ℕ) (absent : number_of names n
           ∙ ap Some (sym last))
           c
 
-  pub AreFound-append : {A : Type 0} (old new : BTreeMap (String A) ℕ) → AreFound old names
-      → ((text : List ℕ) → get_by_text new text ≡ update bytes_eq (get_by_text old) name (Some (length names)) text) → AreFound new (names ++ name ∷ [])
-  AreFound-append old new are noted = record { found = λ text. noted text ∙ by text (bytes_eq name text) refl }
+  pub AreFound-append : {A : Type 0} (old new : BTreeMap (String A) ℕ) (number : ℕ) → AreFound old names
+      → ((text : List ℕ) → get_by_text new text ≡ update bytes_eq (get_by_text old) name (Some number) text) → number ≡ length names → AreFound new (names ++ name ∷ [])
+  AreFound-append old new number are noted is = record { found = λ text. noted text ∙ by text (bytes_eq name text) refl }
     where
-      by : (text : List ℕ) (t : Bool) → bytes_eq name text ≡ t → cond t (Some (length names)) (get_by_text old text) ≡ number_of (names ++ name ∷ []) text
-      by text true e = sym (added text e)
+      by : (text : List ℕ) (t : Bool) → bytes_eq name text ≡ t → cond t (Some number) (get_by_text old text) ≡ number_of (names ++ name ∷ []) text
+      by text true e = ap Some is ∙ sym (added text e)
       by text false e = are.found text ∙ sym (before text e)
