@@ -1,16 +1,11 @@
 -- Lists by the place on a page, and pages by the key.
-use Rattle.std.proofs.Common.{◌≡◌, ◌≢◌, ℕ, zero, suc, ◌+◌, ◌-◌, ◌/◌, ◌%◌, ◌<◌, Bool, true, false, List, [], ◌∷◌, ◌++◌, Option, Some, None, length, set, refl, sym, ap, ◌∙◌, subst, arith, Vec}
-use Rattle.std.specs.Prelude.{slice_get, slice_index_or}
+use Rattle.std.proofs.Common.{◌≡◌, ◌≢◌, ℕ, zero, suc, ◌-◌, ◌<◌, Bool, true, false, List, [], ◌∷◌, ◌++◌, length, set, refl, ap, ◌∙◌, arith, Vec}
+use Rattle.std.specs.Prelude.{slice_index_or}
 use Rattle.std.specs.List.Sorted.{IsPartitionedBy, IsPartitionPoint}
-use Rattle.std.specs.BTreeMap.{get, is_at, Updates}
-use Rattle.std.specs.Ordering.{is_eq, nat_cmp}
 use Rattle.std.specs.declared.alloc.Global.{Global}
-use Rattle.std.proofs.lemmas.Bool.Decides.{nat_tests}
 use Rattle.gi_mir.specs.declared.block.InstrId.{InstrId}
-use Rattle.gi_mir.specs.declared.mentions.Mentions.{Mentions}
 use Rattle.gi_mir.specs.declared.page.Page.{Page}
-use Rattle.gi_mir.specs.Mentions.{listed, HasSameLists, IsListed}
-use Rattle.gi_mir.specs.Pages.{list_at, listed_at, AreAlike, IsPageWritten}
+use Rattle.gi_mir.specs.Pages.{list_at, listed_at, IsPageWritten}
 
 -- a list without instructions behind others
 pub same_with_empty : (lists : List (Vec InstrId Global)) (last : Vec InstrId Global) → last.items ≡ [] → (k : ℕ) → list_at (lists ++ last ∷ []) k ≡ list_at lists k

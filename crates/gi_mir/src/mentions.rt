@@ -128,7 +128,12 @@ fn insert(ids: &mut Vec<InstrId>, at: usize, id: InstrId) -> Result<(), Memory>
 }
 
 /// Adds an instruction, which stands at this place, to a list unless it is there.
-pub(crate) fn put(ids: &mut Vec<InstrId>, places: &[Place], id: InstrId, spot: Place) -> Result<(), Memory>
+pub(crate) fn put(
+    ids: &mut Vec<InstrId>,
+    places: &[Place],
+    id: InstrId,
+    spot: Place,
+) -> Result<(), Memory>
     requires { IsPartitionedBy (precedes places.now spot) ids.old.items }
     ensures ok { OnOk result (ids.new.items ≡ noted (precedes places.now spot) id ids.old.items) }
     ensures err { OnErr result (ids.new.items ≡ ids.old.items) }
