@@ -48,7 +48,11 @@ fn note(numbers: &mut BTreeMap<String, u32>, name: String, number: u32) -> Resul
 }
 
 /// Adds a name that isn't there, with a copy of its own in the map.
-fn append(list: &mut Vec<String>, numbers: &mut BTreeMap<String, u32>, name: &str) -> Result<(), Memory>
+fn append(
+    list: &mut Vec<String>,
+    numbers: &mut BTreeMap<String, u32>,
+    name: &str,
+) -> Result<(), Memory>
     requires short { length list.old.items < 2 ^ 32 }
     requires found { AreFound numbers.old (texts_of list.old.items) }
     requires absent { number_of (texts_of list.old.items) name.now ≡ None }
