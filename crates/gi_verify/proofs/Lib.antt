@@ -9,6 +9,7 @@ pub mod Growing
 pub mod Kept
 pub mod Letters
 pub mod Linked
+pub mod Lower
 pub mod Marking
 pub mod Listing
 pub mod Masking
