@@ -1,5 +1,6 @@
 -- The lowest fault of a list in parts.
-use Rattle.std.proofs.Common.{◌≡◌, ℕ, Bool, true, false, cond, ◌||◌, ◌&&◌, ◌==◌, nat_lt, List, [], ◌∷◌, ◌++◌, Option, Some, None, refl, sym, ap, ◌∙◌, arith, nat_tests}
+use Rattle.std.proofs.Common.{◌≡◌, ℕ, Bool, true, false, cond, ◌||◌, ◌&&◌, ◌==◌, nat_lt, List, [], ◌∷◌, ◌++◌, Option, Some, None, refl, sym, ap, ◌∙◌, arith}
+use Rattle.std.proofs.lemmas.Bool.Decides.{nat_tests}
 use Rattle.gi_valid.specs.Faults.{fault_at, with_fault}
 use Rattle.gi_valid.specs.Valid.{rank, comes_before, lower, of_lowest_line}
 use Rattle.gi_valid.specs.declared.invalid.Fault.{Fault}

@@ -1,10 +1,10 @@
 -- What is lowest of what is told of sites, one after the other.
-use Rattle.std.proofs.Common.{◌≡◌, ℕ, ◌+◌, ◌<◌, ◌≤◌, Bool, true, List, [], ◌∷◌, ◌++◌, Option, Some, None, length, get_or, drop, refl, sym, ap, ◌∙◌}
+use Rattle.std.proofs.Common.{◌≡◌, ℕ, ◌+◌, ◌<◌, ◌≤◌, Bool, true, List, [], ◌∷◌, ◌++◌, Option, Some, None, length, get_or, drop, refl, sym, ap, ap₂, ◌∙◌}
 use Rattle.std.proofs.Math.ListN.{drop_of_length-le}
-use Rattle.gi_mir.specs.Data.{InstrData, FunctionData}
+use Rattle.gi_mir.specs.Data.{InstrData, BlockData, FunctionData}
 use Rattle.gi_mir.specs.Edit.{empty_block}
 use Rattle.gi_valid.specs.Available.{Extent, IsExtent}
-use Rattle.gi_valid.specs.Faults.{Site, sites_in, sites_from, sites, told, fault_in, with_fault, faults, double_definitions, unknown_successors}
+use Rattle.gi_valid.specs.Faults.{Site, sites_in, sites_from, sites, told, fault_in, with_fault, faults, double_definitions, last_line, unknown_among, unknown_successors}
 use Rattle.gi_valid.specs.Typing.{Phase}
 use Rattle.gi_valid.specs.Valid.{IsValid, IsInvalid, IsGreatest, of_lowest_line}
 use Rattle.gi_valid.proofs.Existing.{greatest_sets}
@@ -87,10 +87,16 @@ all_blocks_told x phase f b past old new are = record {
 
 -- ══ Lists of successors ══
 
-pub one_list_told : (line : ℕ) (what : Option Invalid) (rest : List Fault) (mid new : Option Fault) → new ≡ lowest_of mid (of_lowest_line (with_fault line what []))
-    → lowest_of new (of_lowest_line rest) ≡ lowest_of mid (of_lowest_line (with_fault line what rest))
-one_list_told line what rest mid new is =
-    ap (λ o. lowest_of o (of_lowest_line rest)) is ∙ lowest_again mid (of_lowest_line (with_fault line what [])) (of_lowest_line rest) ∙ ap (lowest_of mid) (lowest_next line what rest)
+pub one_list_told : (f : FunctionData) (b : ℕ) → b < length f.blocks → (line next : ℕ) → next ≡ last_line line (get_or f.blocks b empty_block).instrs
+    → (what : Option Invalid) → what ≡ unknown_among f (get_or f.blocks b empty_block).successors → (mid new : Option Fault) → new ≡ lowest_of mid (of_lowest_line (with_fault next what []))
+    → lowest_of new (of_lowest_line (unknown_successors f next (drop (b + 1) f.blocks))) ≡ lowest_of mid (of_lowest_line (unknown_successors f line (drop b f.blocks)))
+one_list_told f b within line next last what is mid new one =
+    let rest : List BlockData = drop (b + 1) f.blocks in
+    ap (λ o. lowest_of o (of_lowest_line (unknown_successors f next rest))) one
+    ∙ lowest_again mid (of_lowest_line (with_fault next what [])) (of_lowest_line (unknown_successors f next rest))
+    ∙ ap (lowest_of mid) (lowest_next next what (unknown_successors f next rest))
+    ∙ ap₂ (λ l w. lowest_of mid (of_lowest_line (with_fault l w (unknown_successors f l rest)))) last is
+    ∙ ap (λ l. lowest_of mid (of_lowest_line (unknown_successors f line l))) (sym (drop_step f.blocks b empty_block within))
 
 -- ══ All faults ══
 

@@ -304,6 +304,14 @@ fn last_line(line: u32, instrs: Instrs<'_>) -> u32
     last
 }
 
+/// The fault of a successor of a block that isn't there.
+fn unknown_successor(function: &Function, b: u32) -> Option<Invalid>
+    requires { b < length function.now.blocks }
+    ensures { result ≡ faults.unknown_among function.now (block_at function.now b).successors }
+{
+    unknown_among(function, function.block(b).successors.as_slice())
+}
+
 /// What is lowest with what is told of the lists of successors.
 pub(crate) fn tell_successors(function: &Function, told: Option<Fault>) -> Option<Fault>
     ensures { result ≡ sets.lowest_of told (of_lowest_line (faults.unknown_successors function.now 1 function.now.blocks)) }
@@ -312,7 +320,7 @@ pub(crate) fn tell_successors(function: &Function, told: Option<Fault>) -> Optio
     let mut lowest = told;
     for b in 0..function.block_count() {
         line = last_line(line, function.instrs(b));
-        let what = unknown_among(function, function.block(b).successors.as_slice());
+        let what = unknown_successor(function, b);
         lowest = told_with(lowest, line, what);
     }
     lowest

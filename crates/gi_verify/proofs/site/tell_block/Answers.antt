@@ -34,26 +34,26 @@ used_at-used-requires-clause-used c =
     (subst (λ n. AreUsedBehind (block_at c.args.function.now c.args.b).instrs n c.in_ok-behind.behind.items)
     (ap length c.as_slice.ensures.value ∙ effects_length (block_at c.args.function.now c.args.b).instrs c.in_ok-effects.effects.items c.in_ok-effects.ensures) c.in_ok-behind.ensures)
 
-pub tell_site-lowest-requires-clause-placed : goal.tell_site-lowest-requires-clause-placed
-tell_site-lowest-requires-clause-placed c =
+pub tell_site-requires-clause-placed : goal.tell_site-requires-clause-placed
+tell_site-requires-clause-placed c =
     let all : List (ℕ × InstrData) = (block_at c.args.function.now c.args.b).instrs in
     let split : IsSplit all c.loop-numbered.k c.in-Some.numbered.now (left c.next.new.self) =
     split_at all c.loop-numbered.k c.in-Some.numbered.now (left c.next.new.self) (sym c.in-Some.ensures.steps ∙ c.loop-numbered.invariant.0) in
     placed_at c.args.function.now c.args.b all c.loop-numbered.k c.in-Some.numbered.now refl split.within split.here (left c.first-front.result) (c.first-front.ensures ∙ ap (take c.loop-numbered.k) c.instrs-instrs.ensures)
 
-pub tell_site-lowest-requires-clause-there : goal.tell_site-lowest-requires-clause-there
-tell_site-lowest-requires-clause-there c =
+pub tell_site-requires-clause-there : goal.tell_site-requires-clause-there
+tell_site-requires-clause-there c =
     subst (λ l. IsMaskOf (is_physical_there c.args.function.now c.args.b l) c.loop-numbered.there) (sym (c.first-front.ensures ∙ ap (take c.loop-numbered.k) c.instrs-instrs.ensures)) c.loop-numbered.invariant.3
 
-pub tell_site-lowest-requires-clause-used : goal.tell_site-lowest-requires-clause-used
-tell_site-lowest-requires-clause-used c =
+pub tell_site-requires-clause-used : goal.tell_site-requires-clause-used
+tell_site-requires-clause-used c =
     let all : List (ℕ × InstrData) = (block_at c.args.function.now c.args.b).instrs in
     let split : IsSplit all c.loop-numbered.k c.in-Some.numbered.now (left c.next.new.self) =
     split_at all c.loop-numbered.k c.in-Some.numbered.now (left c.next.new.self) (sym c.in-Some.ensures.steps ∙ c.loop-numbered.invariant.0) in
     subst (λ l. IsMaskOf (λ n. is_used_first n l) c.used_at-used.result) split.behind c.used_at-used.ensures
 
-pub tell_site-lowest-requires-clause-passed : goal.tell_site-lowest-requires-clause-passed
-tell_site-lowest-requires-clause-passed c =
+pub tell_site-requires-clause-passed : goal.tell_site-requires-clause-passed
+tell_site-requires-clause-passed c =
     subst (λ l. IsPassed l c.loop-numbered.passed) (sym (c.first-front.ensures ∙ ap (take c.loop-numbered.k) c.instrs-instrs.ensures)) c.loop-numbered.invariant.2
 
 pub there_with-there-requires-clause-here : goal.there_with-there-requires-clause-here
