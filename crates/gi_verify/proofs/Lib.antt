@@ -4,6 +4,7 @@ pub mod Climbing
 pub mod Counting
 pub mod Fewer
 pub mod Finding
+pub mod Freeing
 pub mod Front
 pub mod Growing
 pub mod Kept

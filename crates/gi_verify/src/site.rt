@@ -1,6 +1,6 @@
 //! What is told of the sites of a function.
 
-ghost use Rattle.std.specs.Prelude.{◌≡◌, ◌++◌, ◌∷◌, ◌+◌, ◌<◌, ◌⊎◌, [], ℕ, Some, None, OnOk, IfOk, length, nat_lt, drop, take};
+ghost use Rattle.std.specs.Prelude.{◌≡◌, ◌<◌, ◌⊎◌, ℕ, IfOk, length, nat_lt};
 ghost use Rattle.std.specs.Option.{option_or};
 ghost use Rattle.gi_valid.specs.Available as available;
 ghost use Rattle.gi_valid.specs.Available.{Extent};

@@ -2,7 +2,7 @@
 
 ghost use Rattle.std.specs.Prelude.{◌≡◌, ◌⊎◌, OnOk, IfOk, IfErr};
 ghost use Rattle.gi_valid.specs.Typing.{phase_of};
-ghost use Rattle.gi_valid.specs.Valid.{IsInvalid, IsValid};
+ghost use Rattle.gi_valid.specs.Valid.{IsValid};
 ghost use Rattle.gi_verify.specs.Refusal.{IsRefused};
 ghost use Rattle.gi_verify.specs.Sets.{IsLowestFault};
 
@@ -36,9 +36,10 @@ fn lowest_fault(
 {
     let reached = reached(alloc, function)?;
     let predecessors = predecessors_of(alloc, function)?;
-    let order = order_of(alloc, function, reached.as_slice(), &predecessors)?;
-    let way_back = has_way_back(function, &predecessors);
     let double = lowest_double(alloc, function)?;
+    let again = double.is_some();
+    let order = order_of(alloc, function, reached.as_slice(), &predecessors, again)?;
+    let way_back = has_way_back(function, &predecessors);
     let lowest = tell_sites(
         alloc,
         target,
