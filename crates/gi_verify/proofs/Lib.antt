@@ -4,11 +4,13 @@ pub mod Climbing
 pub mod Counting
 pub mod Fewer
 pub mod Finding
+pub mod Freeing
 pub mod Front
 pub mod Growing
 pub mod Kept
 pub mod Letters
 pub mod Linked
+pub mod Lower
 pub mod Marking
 pub mod Listing
 pub mod Masking

@@ -5,11 +5,13 @@ ghost use Rattle.gi_mir.specs.Data.{reg_of};
 ghost use Rattle.gi_valid.specs.declared.invalid.Invalid.TheVariants as Invalid;
 ghost use Rattle.gi_mir.specs.Edit.{all_instrs};
 ghost use Rattle.gi_valid.specs.Faults as faults;
+ghost use Rattle.gi_valid.specs.Valid.{of_lowest_line};
 ghost use Rattle.gi_meaning.specs.InRow.{results_in};
 ghost use Rattle.gi_meaning.specs.Runs.{is_among};
 ghost use Rattle.gi_verify.specs.Counted.{AreCounted, AreTallied, counted, is_once, once_more};
 ghost use Rattle.gi_mir.specs.Instrs.{left};
 
+use crate::lowest::of_lowest_line;
 use gi_llt::Memory;
 use gi_mir::block::Numbered;
 use gi_mir::function::Function;
@@ -182,7 +184,7 @@ impl Counted {
 }
 
 /// Puts a fault at the end of a list.
-pub(crate) fn push_fault(out: &mut Vec<Fault>, line: u32, what: Invalid) -> Result<(), Memory>
+fn push_fault(out: &mut Vec<Fault>, line: u32, what: Invalid) -> Result<(), Memory>
     ensures { OnOk result (out.new.items ≡ out.old.items ++ faults.fault_at line what ∷ []) }
 {
     match out.push(Fault { line, what }) {
@@ -217,14 +219,12 @@ fn push_seconds(alloc: Global, out: &mut Vec<Fault>, all: &[(u32, u32)]) -> Resu
     Ok(())
 }
 
-/// Puts the faults of second definitions of a function at the end of a list.
-pub(crate) fn push_double(
-    alloc: Global,
-    function: &Function,
-    out: &mut Vec<Fault>,
-) -> Result<(), Memory>
-    ensures { OnOk result (out.new.items ≡ out.old.items ++ faults.double_definitions function.now) }
+/// The lowest fault of a second definition in a function.
+pub(crate) fn lowest_double(alloc: Global, function: &Function) -> Result<Option<Fault>, Memory>
+    ensures { IfOk result (λ lowest. lowest ≡ of_lowest_line (faults.double_definitions function.now)) }
 {
     let all = definitions(alloc, function)?;
-    push_seconds(alloc, out, all.as_slice())
+    let mut told = Vec::new(alloc);
+    push_seconds(alloc, &mut told, all.as_slice())?;
+    Ok(of_lowest_line(told.as_slice()))
 }

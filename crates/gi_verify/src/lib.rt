@@ -8,6 +8,7 @@ mod dominators;
 mod effects;
 mod ends;
 mod laws;
+mod limits;
 mod listed;
 mod lowest;
 mod marks;

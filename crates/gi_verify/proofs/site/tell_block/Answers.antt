@@ -1,4 +1,4 @@
-use Rattle.std.proofs.Common.{◌≡◌, ◌+◌, ◌<◌, ℕ, List, [], ◌∷◌, ◌++◌, length, drop, take, refl, sym, ap, subst, ◌∙◌}
+use Rattle.std.proofs.Common.{◌≡◌, ℕ, List, [], ◌∷◌, ◌++◌, length, take, refl, sym, ap, subst, ◌∙◌}
 use Rattle.gi_mir.specs.Data.{InstrData}
 use Rattle.gi_mir.specs.Edit.{block_at}
 use Rattle.gi_mir.specs.Instrs.{left}
@@ -12,14 +12,14 @@ use Rattle.gi_verify.proofs.Masking.{effects_length, there_first}
 use Rattle.gi_verify.proofs.Ordering.{placed_at}
 use Rattle.gi_verify.proofs.Splitting.{IsSplit, split_at}
 use Rattle.gi_verify.proofs.Told.{AreToldTo, none_told, one_told, all_told}
-use Rattle.gi_verify.proofs.site.push_block.Goals as goal
+use Rattle.gi_verify.proofs.site.tell_block.Goals as goal
 
 pub loop-numbered-init : goal.loop-numbered-init
 loop-numbered-init c =
     let all : List (ℕ × InstrData) = (block_at c.args.function.now c.args.b).instrs in (
       c.instrs-instrs.ensures,
-      subst (λ l. AreToldTo c.args.target.xlen (phase_of c.args.stage) c.args.function.now c.args.b all [] l c.args.out.now.items c.args.out.now.items) (sym c.instrs-instrs.ensures)
-          (none_told c.args.target.xlen (phase_of c.args.stage) c.args.function.now c.args.b all c.args.out.now.items),
+      subst (λ l. AreToldTo c.args.target.xlen (phase_of c.args.stage) c.args.function.now c.args.b all [] l c.args.told c.args.told) (sym c.instrs-instrs.ensures)
+          (none_told c.args.target.xlen (phase_of c.args.stage) c.args.function.now c.args.b all c.args.told),
       c.nothing-passed.ensures,
       there_first c.args.function.now c.args.b all c.there_at_start-there.result c.there_at_start-there.ensures,
     )
@@ -34,26 +34,26 @@ used_at-used-requires-clause-used c =
     (subst (λ n. AreUsedBehind (block_at c.args.function.now c.args.b).instrs n c.in_ok-behind.behind.items)
     (ap length c.as_slice.ensures.value ∙ effects_length (block_at c.args.function.now c.args.b).instrs c.in_ok-effects.effects.items c.in_ok-effects.ensures) c.in_ok-behind.ensures)
 
-pub push_site-requires-clause-placed : goal.push_site-requires-clause-placed
-push_site-requires-clause-placed c =
+pub tell_site-requires-clause-placed : goal.tell_site-requires-clause-placed
+tell_site-requires-clause-placed c =
     let all : List (ℕ × InstrData) = (block_at c.args.function.now c.args.b).instrs in
     let split : IsSplit all c.loop-numbered.k c.in-Some.numbered.now (left c.next.new.self) =
     split_at all c.loop-numbered.k c.in-Some.numbered.now (left c.next.new.self) (sym c.in-Some.ensures.steps ∙ c.loop-numbered.invariant.0) in
     placed_at c.args.function.now c.args.b all c.loop-numbered.k c.in-Some.numbered.now refl split.within split.here (left c.first-front.result) (c.first-front.ensures ∙ ap (take c.loop-numbered.k) c.instrs-instrs.ensures)
 
-pub push_site-requires-clause-there : goal.push_site-requires-clause-there
-push_site-requires-clause-there c =
+pub tell_site-requires-clause-there : goal.tell_site-requires-clause-there
+tell_site-requires-clause-there c =
     subst (λ l. IsMaskOf (is_physical_there c.args.function.now c.args.b l) c.loop-numbered.there) (sym (c.first-front.ensures ∙ ap (take c.loop-numbered.k) c.instrs-instrs.ensures)) c.loop-numbered.invariant.3
 
-pub push_site-requires-clause-used : goal.push_site-requires-clause-used
-push_site-requires-clause-used c =
+pub tell_site-requires-clause-used : goal.tell_site-requires-clause-used
+tell_site-requires-clause-used c =
     let all : List (ℕ × InstrData) = (block_at c.args.function.now c.args.b).instrs in
     let split : IsSplit all c.loop-numbered.k c.in-Some.numbered.now (left c.next.new.self) =
     split_at all c.loop-numbered.k c.in-Some.numbered.now (left c.next.new.self) (sym c.in-Some.ensures.steps ∙ c.loop-numbered.invariant.0) in
     subst (λ l. IsMaskOf (λ n. is_used_first n l) c.used_at-used.result) split.behind c.used_at-used.ensures
 
-pub push_site-requires-clause-passed : goal.push_site-requires-clause-passed
-push_site-requires-clause-passed c =
+pub tell_site-requires-clause-passed : goal.tell_site-requires-clause-passed
+tell_site-requires-clause-passed c =
     subst (λ l. IsPassed l c.loop-numbered.passed) (sym (c.first-front.ensures ∙ ap (take c.loop-numbered.k) c.instrs-instrs.ensures)) c.loop-numbered.invariant.2
 
 pub there_with-there-requires-clause-here : goal.there_with-there-requires-clause-here
@@ -77,10 +77,10 @@ loop-numbered-preserved c =
     let split : IsSplit all k n after = split_at all k n after (sym c.in-Some.ensures.steps ∙ c.loop-numbered.invariant.0) in
     let front : left c.first-front.result ≡ take k all = c.first-front.ensures ∙ ap (take k) c.instrs-instrs.ensures in (
       sym split.behind,
-      subst (λ l. AreToldTo c.args.target.xlen (phase_of c.args.stage) c.args.function.now c.args.b all l after c.args.out.now.items c.push_site.new.out.items) (sym split.front)
-          (one_told c.args.target.xlen (phase_of c.args.stage) c.args.function.now c.args.b all (take k all) n after c.args.out.now.items c.loop-numbered.out.items c.push_site.new.out.items
-          (subst (λ l. AreToldTo c.args.target.xlen (phase_of c.args.stage) c.args.function.now c.args.b all (take k all) l c.args.out.now.items c.loop-numbered.out.items) c.in-Some.ensures.steps c.loop-numbered.invariant.1)
-          (subst (λ l. IsTold c.args.target.xlen (phase_of c.args.stage) c.args.function.now c.args.b l n after c.loop-numbered.out.items c.push_site.new.out.items) front c.in_ok-push_site.ensures)),
+      subst (λ l. AreToldTo c.args.target.xlen (phase_of c.args.stage) c.args.function.now c.args.b all l after c.args.told c.in_ok-lowest.lowest) (sym split.front)
+          (one_told c.args.target.xlen (phase_of c.args.stage) c.args.function.now c.args.b all (take k all) n after c.args.told c.loop-numbered.lowest c.in_ok-lowest.lowest
+          (subst (λ l. AreToldTo c.args.target.xlen (phase_of c.args.stage) c.args.function.now c.args.b all (take k all) l c.args.told c.loop-numbered.lowest) c.in-Some.ensures.steps c.loop-numbered.invariant.1)
+          (subst (λ l. IsTold c.args.target.xlen (phase_of c.args.stage) c.args.function.now c.args.b l n after c.loop-numbered.lowest c.in_ok-lowest.lowest) front c.in_ok-lowest.ensures)),
       subst (λ l. IsPassed l c.passed_with-passed.result) (ap (λ l. l ++ n ∷ []) front ∙ sym split.front) c.passed_with-passed.ensures,
       c.there_with-there.ensures,
     )
@@ -88,5 +88,5 @@ loop-numbered-preserved c =
 pub returns : goal.returns
 returns c =
     let all : List (ℕ × InstrData) = (block_at c.args.function.now c.args.b).instrs in
-    all_told c.args.target.xlen (phase_of c.args.stage) c.args.function.now c.args.b all (take c.loop-numbered.k all) c.args.out.now.items c.loop-numbered.out.items
-    (subst (λ l. AreToldTo c.args.target.xlen (phase_of c.args.stage) c.args.function.now c.args.b all (take c.loop-numbered.k all) l c.args.out.now.items c.loop-numbered.out.items) c.in_default.ensures.steps.0 c.loop-numbered.invariant.1)
+    all_told c.args.target.xlen (phase_of c.args.stage) c.args.function.now c.args.b all (take c.loop-numbered.k all) c.args.told c.loop-numbered.lowest
+    (subst (λ l. AreToldTo c.args.target.xlen (phase_of c.args.stage) c.args.function.now c.args.b all (take c.loop-numbered.k all) l c.args.told c.loop-numbered.lowest) c.in_default.ensures.steps.0 c.loop-numbered.invariant.1)
