@@ -544,12 +544,24 @@ fn parts_of(op: Opcode, operands: &[Operand]) -> usize
 }
 
 /// The lowest, where an instruction may show what is wrong.
-fn with_shown(lowest: Option<Fault>, target: Target, kinds: &RegisterKinds, instr: &Instr) -> Option<Fault>
+fn with_shown(
+    lowest: Option<Fault>,
+    target: Target,
+    kinds: &RegisterKinds,
+    instr: &Instr,
+) -> Option<Fault>
     requires { (target.xlen ≡ 32) ⊎ (target.xlen ≡ 64) }
     ensures { result ≡ lowest_after lowest (shown_faults target.xlen (kind_or_class kinds.now) instr.now) }
 {
     let forms = source_forms(first_row(instr.op));
-    with_operands(lowest, target, kinds, instr, forms, instr.operands.as_slice())
+    with_operands(
+        lowest,
+        target,
+        kinds,
+        instr,
+        forms,
+        instr.operands.as_slice(),
+    )
 }
 
 /// The lowest, where an instruction may have a wrong memory operand.
