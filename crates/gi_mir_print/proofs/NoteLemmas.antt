@@ -1,10 +1,8 @@
 -- Notes on registers, one after the other.
-use Rattle.std.proofs.Common.{◌≡◌, Bool, true, false, cond, is_some, ℕ, ◌+◌, ◌-◌, ◌≤◌, if◌then◌else◌, List, length, get_or, unwrap_or, position, nat_eq, arith, subst, [], ◌∷◌, ◌++◌, Option, Some, None, refl, sym, ap, ◌∙◌}
+use Rattle.std.proofs.Common.{◌≡◌, ℕ, ◌+◌, ◌-◌, ◌≤◌, if◌then◌else◌, List, length, get_or, unwrap_or, position, nat_eq, arith, subst, [], ◌∷◌, ◌++◌, Option, Some, None, refl, sym, ap, ◌∙◌}
 use Rattle.std.specs.Prelude.{fold, flat_map}
 use Rattle.std.proofs.lemmas.List.Sums.{fold-append}
 use Rattle.gi_mir.specs.declared.operand.Kind.{Kind}
-use Rattle.std.specs.Map.{lookup}
-use Rattle.std.proofs.lemmas.Bool.Decides.{nat_tests}
 use Rattle.gi_mir.specs.declared.operand.Operand.TheVariants.{Def}
 use Rattle.gi_mir.specs.declared.operand.Reg.{Reg}
 use Rattle.std.proofs.lemmas.Bool.{lt-ltb, le-ltb, eqb-true}

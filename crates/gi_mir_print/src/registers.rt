@@ -1,6 +1,6 @@
 //! What a printer knows of a function's registers.
 
-ghost use Rattle.std.specs.Prelude.{◌≡◌, ℕ, [], unwrap_or, flat_map, OnOk, IfOk};
+ghost use Rattle.std.specs.Prelude.{◌≡◌, ℕ, [], flat_map, OnOk, IfOk};
 ghost use Rattle.gi_mir.specs.Instrs.{left};
 ghost use Rattle.gi_mir.specs.Numbering.{number_in, with_register, order_of, registers_in_operand, registers_in_instr};
 ghost use Rattle.gi_mir.specs.Registers.{first_there, kind_in_operand, kind_in_operands, kind_in_instrs, kind_in_blocks};
