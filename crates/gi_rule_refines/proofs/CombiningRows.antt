@@ -1,5 +1,5 @@
 -- Rules of the combiners are good.
-use Rattle.std.proofs.Common.{◌≡◌, ℕ, ◌-◌, ◌*◌, ◌^◌, ◌≤◌, ◌<◌, List, [], ◌∷◌, true, refl, arith, le-leb, lt-ltb}
+use Rattle.std.proofs.Common.{if◌then◌else◌, ◌≡◌, ℕ, ◌-◌, ◌*◌, ◌^◌, ◌≤◌, ◌<◌, ◌==◌, List, [], ◌∷◌, true, false, refl, arith, le-leb, lt-ltb, Bool}
 use Rattle.gi_llt.specs.Bits.{sign_extended, signed, wrapped}
 use Rattle.gi_llt.specs.Signs.{negated}
 use Rattle.gi_llt.specs.declared.Llt.{Llt}
@@ -11,14 +11,39 @@ use Rattle.gi_mir.specs.declared.opcode.Opcode.{Opcode}
 use Rattle.gi_mir.specs.declared.opcode.Opcode.TheVariants as op
 use Rattle.gi_mir.specs.declared.operand.Flags.{Flags}
 use Rattle.gi_mir.specs.declared.operand.Pred.{Pred}
+use Rattle.gi_rule_values.specs.Data.{RewriteData}
 use Rattle.gi_rule_refines.specs.Good.{IsGoodRewrite}
-use Rattle.gi_rule_values.specs.Combining.{binop_same, binop_to_zero, constant_fold, constant_fold_cast, cut_extension, icmp_and_one, mul_to_shl, pointer_identity, right_identity, same_to_zero, select_same, sub_to_add, udiv_to_lshr, urem_to_mask}
+use Rattle.gi_soundness.specs.Rules.{computes}
+use Rattle.gi_rule_values.specs.Combining.{binop_same, binop_to_zero, constant_fold, constant_fold_cast, cut_extension, icmp_and_one, mul_to_shl, pointer_identity, right_identity, same_to_zero, select_constant, select_same, sub_to_add, udiv_to_lshr, urem_to_mask}
+use Rattle.gi_rule_values.specs.Forms.{s}
 use Rattle.gi_rule_values.proofs.Combining.{add_zero_sound, ashr_zero_sound, cut_anyext_sound, cut_sext_sound, cut_zext_sound, lshr_zero_sound, mul_one_sound, mul_to_shl_sound, or_zero_sound, pointer_identity_sound, sdiv_one_sound, shl_zero_sound, sub_same_sound, sub_to_add_sound, sub_zero_sound, udiv_one_sound, udiv_to_lshr_sound, urem_to_mask_sound, xor_same_sound, xor_zero_sound}
-use Rattle.gi_rule_values.proofs.CombiningMore.{and_same_sound, and_zero_sound, constant_fold_sound, fold_anyext_sound, fold_sext_sound, fold_trunc_sound, fold_zext_sound, icmp_and_one_sound, mul_zero_sound, or_same_sound, select_same_sound}
+use Rattle.gi_rule_values.proofs.CombiningMore.{and_same_sound, and_zero_sound, constant_fold_sound, fold_anyext_sound, fold_sext_sound, fold_trunc_sound, fold_zext_sound, icmp_and_one_sound, mul_zero_sound, or_same_sound, select_constant_sound, select_same_sound}
 use Rattle.gi_rule_values.proofs.Numbers.{below_power, below_wider, same}
-use Rattle.gi_rule_refines.proofs.Passing.{good_by, mask_below, negated_below, same_type_itself}
+use Rattle.gi_rule_refines.proofs.Passing.{good_by, mask_below, negated_below, passes, same_type_itself}
 use Rattle.std.proofs.lemmas.Nat.{mod_below, pow_pos}
 use Rattle.gi_meaning.proofs.Numbers.{unsigned_below}
+use Rattle.gi_rule_values.specs.Forms.{constant, flagged, holds, on_one, rewrite}
+use Rattle.gi_rule_values.specs.declared.rewrite.Slot.TheVariants.{At}
+
+-- ══ A choice ══
+
+-- the row with any place
+abbrev constant_selected : (place : ℕ) → Flags → Flags → (c value : ℕ) → Llt → RewriteData
+constant_selected place flags more c value type =
+    rewrite (s c ∷ type ∷ type ∷ []) (holds 0 (constant more c value) ∷ []) (flagged flags op.GenericSelect (At 0 ∷ At 1 ∷ At 2 ∷ []) (type ∷ []))
+    (on_one op.Copy place type ∷ []) 3
+
+chosen : (claim : ℕ → Type 0) (none : Bool) → claim 2 → claim 1 → claim (if none then 2 else 1)
+chosen claim true second first = second
+chosen claim false second first = first
+
+pub select_constant_good : (x : ℕ) (flags more : Flags) (c value : ℕ) (type : Llt) → is_any x type ≡ true → IsGoodRewrite x (select_constant flags more c value type)
+select_constant_good x flags more c value type kind =
+    good_by x (select_constant flags more c value type)
+    (chosen (λ place. passes x (constant_selected place flags more c value type) ≡ true) (value == 0) (rw (kind, same_type_itself type) refl) (rw (kind, same_type_itself type) refl))
+    (select_constant_sound x flags more c value type)
+
+-- ══ The other rows ══
 
 pub mul_to_shl_good : (x : ℕ) (flags more : Flags) (n k : ℕ) → 1 ≤ n → n ≤ 2 * x → k < n → IsGoodRewrite x (mul_to_shl flags more n k)
 mul_to_shl_good x flags more n k some few less =
@@ -138,6 +163,6 @@ pub fold_anyext_good : (x : ℕ) (flags more : Flags) (m c n : ℕ) → 1 ≤ m 
 fold_anyext_good x flags more m c n some less few =
     good_by x (constant_fold_cast op.GenericAnyExtend flags more m c n (sign_extended m n c)) (rw (same n, le-leb 1 n (omega (arith, some, less)), le-leb n (2 * x) few, lt-ltb (sign_extended m n c) (2 ^ n) (unsigned_below n (signed m (wrapped m c)))) refl) (fold_anyext_sound x flags more m c n some less)
 
-pub constant_fold_good : (x : ℕ) (root : Opcode) (flags first second : Flags) (l a m b n value : ℕ) (gives : List ℕ → List Argument → Given) → 1 ≤ n → n ≤ 2 * x → value < 2 ^ n → meaning_of flags root ≡ Generic gives → gives (n ∷ []) (Value l a ∷ Value m b ∷ []) ≡ one value → IsGoodRewrite x (constant_fold root flags first second l a m b n value)
-constant_fold_good x root flags first second l a m b n value gives some few fits means gives_it =
-    good_by x (constant_fold root flags first second l a m b n value) (rw (same n, le-leb 1 n some, le-leb n (2 * x) few, lt-ltb value (2 ^ n) fits) refl) (constant_fold_sound x root flags first second l a m b n value gives means gives_it)
+pub constant_fold_good : (x : ℕ) (root : Opcode) (flags first second : Flags) (l a m b n value : ℕ) (gives : List ℕ → List Argument → Given) → 1 ≤ n → n ≤ 2 * x → value < 2 ^ n → computes root ≡ true → meaning_of flags root ≡ Generic gives → gives (n ∷ []) (Value l a ∷ Value m b ∷ []) ≡ one value → IsGoodRewrite x (constant_fold root flags first second l a m b n value)
+constant_fold_good x root flags first second l a m b n value gives some few fits plain_op means gives_it =
+    good_by x (constant_fold root flags first second l a m b n value) (rw (same n, le-leb 1 n some, le-leb n (2 * x) few, lt-ltb value (2 ^ n) fits, plain_op, means) refl) (constant_fold_sound x root flags first second l a m b n value gives means gives_it)

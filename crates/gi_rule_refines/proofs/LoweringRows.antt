@@ -1,5 +1,5 @@
 -- Rules of the legaliser that make an operation of others are good.
-use Rattle.std.proofs.Common.{◌≡◌, ◌⊎◌, ℕ, ◌-◌, ◌*◌, ◌^◌, ◌≤◌, ◌<◌, true, refl, arith, le-leb, lt-ltb}
+use Rattle.std.proofs.Common.{◌≡◌, ◌⊎◌, ℕ, ◌-◌, ◌*◌, ◌/◌, ◌%◌, ◌^◌, ◌≤◌, ◌<◌, true, refl, arith, le-leb, lt-ltb}
 use Rattle.gi_mir.specs.Types.{is_condition, is_rotatable}
 use Rattle.gi_mir.specs.declared.opcode.Opcode.TheVariants as op
 use Rattle.gi_mir.specs.declared.operand.Flags.{Flags}
@@ -11,7 +11,8 @@ use Rattle.gi_rule_values.proofs.Halves.{narrow_add_sound, narrow_anyext_sound, 
 use Rattle.gi_rule_values.proofs.Lowering.{lower_abs_sound, lower_bswap_32_sound, lower_bswap_64_sound, lower_uadde_sound, narrow_and_sound, narrow_or_sound, narrow_xor_sound}
 use Rattle.gi_rule_values.proofs.LoweringMore.{lower_ctlz_zero_undef_sound, lower_cttz_zero_undef_sound, lower_rotl_sound, lower_rotr_sound, lower_sext_inreg_sound, lower_smax_sound, lower_smin_sound, lower_uaddo_sound, lower_umax_sound, lower_umin_sound, lower_usube_sound, lower_usubo_sound}
 use Rattle.gi_rule_values.proofs.Numbers.{below_power, same}
-use Rattle.gi_rule_refines.proofs.Passing.{at_words, good_by, word_some}
+use Rattle.gi_rule_refines.proofs.Passing.{at_words, at_words_if, good_by, high_below, word_condition, word_some}
+use Rattle.std.proofs.lemmas.Nat.{mod_below, pow_pos}
 
 pub lower_uadde_good : (x : ℕ) (flags : Flags) (n : ℕ) → 2 ≤ n → n ≤ 2 * x → IsGoodRewrite x (lower_uadde flags n)
 lower_uadde_good x flags n some few =
@@ -37,12 +38,10 @@ pub lower_bswap_64_good : (x : ℕ) (flags : Flags) → (x ≡ 32) ⊎ (x ≡ 64
 lower_bswap_64_good x flags word = at_words (λ x. lower_bswap_64 flags) refl refl x word (lower_bswap_64_sound x flags)
 
 pub lower_uaddo_good : (x : ℕ) (flags : Flags) (n : ℕ) → 1 ≤ n → n ≤ 2 * x → IsGoodRewrite x (lower_uaddo flags n)
-lower_uaddo_good x flags n some few =
-    good_by x (lower_uaddo flags n) (rw (same n, le-leb 1 n some, le-leb n (2 * x) few, le-leb 1 (2 * x) (omega (arith, some, few))) refl) (lower_uaddo_sound x flags n)
+lower_uaddo_good x flags n some few = good_by x (lower_uaddo flags n) (rw (same n, le-leb 1 n some, le-leb n (2 * x) few) refl) (lower_uaddo_sound x flags n)
 
 pub lower_usubo_good : (x : ℕ) (flags : Flags) (n : ℕ) → 1 ≤ n → n ≤ 2 * x → IsGoodRewrite x (lower_usubo flags n)
-lower_usubo_good x flags n some few =
-    good_by x (lower_usubo flags n) (rw (same n, le-leb 1 n some, le-leb n (2 * x) few, le-leb 1 (2 * x) (omega (arith, some, few))) refl) (lower_usubo_sound x flags n)
+lower_usubo_good x flags n some few = good_by x (lower_usubo flags n) (rw (same n, le-leb 1 n some, le-leb n (2 * x) few) refl) (lower_usubo_sound x flags n)
 
 pub lower_usube_good : (x : ℕ) (flags : Flags) (n : ℕ) → 2 ≤ n → n ≤ 2 * x → IsGoodRewrite x (lower_usube flags n)
 lower_usube_good x flags n some few =
@@ -50,19 +49,19 @@ lower_usube_good x flags n some few =
 
 pub lower_smin_good : (x : ℕ) (flags : Flags) (n : ℕ) → 1 ≤ x → 1 ≤ n → n ≤ 2 * x → IsGoodRewrite x (lower_better op.GenericSignedMinimum Slt flags x n)
 lower_smin_good x flags n word some few =
-    good_by x (lower_better op.GenericSignedMinimum Slt flags x n) (rw (same n, le-leb 1 n some, le-leb n (2 * x) few, same x, le-leb 1 x word, le-leb x (2 * x) (omega arith), le-leb n n (omega arith)) refl) (lower_smin_sound x flags n)
+    good_by x (lower_better op.GenericSignedMinimum Slt flags x n) (rw (word_condition x word, le-leb 1 x word, same n, le-leb 1 n some, le-leb n (2 * x) few, le-leb n n (omega arith)) refl) (lower_smin_sound x flags n)
 
 pub lower_smax_good : (x : ℕ) (flags : Flags) (n : ℕ) → 1 ≤ x → 1 ≤ n → n ≤ 2 * x → IsGoodRewrite x (lower_better op.GenericSignedMaximum Sgt flags x n)
 lower_smax_good x flags n word some few =
-    good_by x (lower_better op.GenericSignedMaximum Sgt flags x n) (rw (same n, le-leb 1 n some, le-leb n (2 * x) few, same x, le-leb 1 x word, le-leb x (2 * x) (omega arith), le-leb n n (omega arith)) refl) (lower_smax_sound x flags n)
+    good_by x (lower_better op.GenericSignedMaximum Sgt flags x n) (rw (word_condition x word, le-leb 1 x word, same n, le-leb 1 n some, le-leb n (2 * x) few, le-leb n n (omega arith)) refl) (lower_smax_sound x flags n)
 
 pub lower_umin_good : (x : ℕ) (flags : Flags) (n : ℕ) → 1 ≤ x → 1 ≤ n → n ≤ 2 * x → IsGoodRewrite x (lower_better op.GenericUnsignedMinimum Ult flags x n)
 lower_umin_good x flags n word some few =
-    good_by x (lower_better op.GenericUnsignedMinimum Ult flags x n) (rw (same n, le-leb 1 n some, le-leb n (2 * x) few, same x, le-leb 1 x word, le-leb x (2 * x) (omega arith), le-leb n n (omega arith)) refl) (lower_umin_sound x flags n)
+    good_by x (lower_better op.GenericUnsignedMinimum Ult flags x n) (rw (word_condition x word, le-leb 1 x word, same n, le-leb 1 n some, le-leb n (2 * x) few, le-leb n n (omega arith)) refl) (lower_umin_sound x flags n)
 
 pub lower_umax_good : (x : ℕ) (flags : Flags) (n : ℕ) → 1 ≤ x → 1 ≤ n → n ≤ 2 * x → IsGoodRewrite x (lower_better op.GenericUnsignedMaximum Ugt flags x n)
 lower_umax_good x flags n word some few =
-    good_by x (lower_better op.GenericUnsignedMaximum Ugt flags x n) (rw (same n, le-leb 1 n some, le-leb n (2 * x) few, same x, le-leb 1 x word, le-leb x (2 * x) (omega arith), le-leb n n (omega arith)) refl) (lower_umax_sound x flags n)
+    good_by x (lower_better op.GenericUnsignedMaximum Ugt flags x n) (rw (word_condition x word, le-leb 1 x word, same n, le-leb 1 n some, le-leb n (2 * x) few, le-leb n n (omega arith)) refl) (lower_umax_sound x flags n)
 
 pub lower_rotl_good : (x : ℕ) (flags : Flags) (n : ℕ) → is_rotatable x (s n) ≡ true → IsGoodRewrite x (lower_rotate op.GenericRotateLeft op.GenericFunnelShiftLeft flags n)
 lower_rotl_good x flags n kind =
@@ -90,8 +89,8 @@ narrow_add_good x flags word = at_words (λ x. narrow_add flags x) refl refl x w
 pub narrow_sub_good : (x : ℕ) (flags : Flags) → (x ≡ 32) ⊎ (x ≡ 64) → IsGoodRewrite x (narrow_sub flags x)
 narrow_sub_good x flags word = at_words (λ x. narrow_sub flags x) refl refl x word (narrow_sub_sound x flags)
 
-pub narrow_select_good : (x : ℕ) (flags : Flags) (c : ℕ) → is_condition x (s c) ≡ true → IsGoodRewrite x (narrow_select flags c x)
-narrow_select_good x flags c condition = good_by x (narrow_select flags c x) refl (narrow_select_sound x flags c)
+pub narrow_select_good : (x : ℕ) (flags : Flags) (c : ℕ) → (x ≡ 32) ⊎ (x ≡ 64) → is_condition x (s c) ≡ true → IsGoodRewrite x (narrow_select flags c x)
+narrow_select_good x flags c word condition = at_words_if (λ x. narrow_select flags c x) (λ x. is_condition x (s c) ≡ true) (λ is. rw is refl) (λ is. rw is refl) x word condition (narrow_select_sound x flags c)
 
 pub narrow_zext_good : (x : ℕ) (flags : Flags) → (x ≡ 32) ⊎ (x ≡ 64) → IsGoodRewrite x (narrow_zext flags x)
 narrow_zext_good x flags word = at_words (λ x. narrow_zext flags x) refl refl x word (narrow_zext_sound x flags (word_some x word))
@@ -102,8 +101,11 @@ narrow_anyext_good x flags word = at_words (λ x. narrow_anyext flags x) refl re
 pub narrow_implicit_def_good : (x : ℕ) (flags : Flags) → (x ≡ 32) ⊎ (x ≡ 64) → IsGoodRewrite x (narrow_implicit_def flags x)
 narrow_implicit_def_good x flags word = at_words (λ x. narrow_implicit_def flags x) refl refl x word (narrow_implicit_def_sound x flags)
 
-pub narrow_constant_good : (x : ℕ) (flags : Flags) (value : ℕ) → value < 2 ^ (2 * x) → IsGoodRewrite x (narrow_constant flags x value)
-narrow_constant_good x flags value fits = good_by x (narrow_constant flags x value) refl (narrow_constant_sound x flags value fits)
+pub narrow_constant_good : (x : ℕ) (flags : Flags) (value : ℕ) → (x ≡ 32) ⊎ (x ≡ 64) → value < 2 ^ (2 * x) → IsGoodRewrite x (narrow_constant flags x value)
+narrow_constant_good x flags value word fits =
+    at_words_if (λ x. narrow_constant flags x value) (λ x. value < 2 ^ (2 * x))
+    (λ less. rw (lt-ltb (value % 2 ^ 32) (2 ^ 32) (mod_below value (2 ^ 32) (pow_pos 32)), lt-ltb (value / 2 ^ 32) (2 ^ 32) (high_below 32 value less)) refl)
+    (λ less. rw (lt-ltb (value % 2 ^ 64) (2 ^ 64) (mod_below value (2 ^ 64) (pow_pos 64)), lt-ltb (value / 2 ^ 64) (2 ^ 64) (high_below 64 value less)) refl) x word fits (narrow_constant_sound x flags value fits)
 
 pub narrow_bswap_good : (x : ℕ) (flags : Flags) → (x ≡ 32) ⊎ (x ≡ 64) → IsGoodRewrite x (narrow_bswap flags 32)
 narrow_bswap_good x flags word = at_words (λ x. narrow_bswap flags 32) refl refl x word (narrow_bswap_sound x flags)

@@ -15,8 +15,9 @@ ghost use Rattle.gi_mir.specs.declared.operand.Flags.{Flags};
 ghost use Rattle.gi_mir.specs.declared.operand.Pred.{Pred};
 ghost use Rattle.gi_mir.specs.declared.operand.Pred.TheVariants.{Sge, Sgt, Sle, Slt, Uge, Ugt, Ult};
 ghost use Rattle.gi_rule_refines.specs.Good.{IsGoodRewrite};
+ghost use Rattle.gi_soundness.specs.Rules.{computes};
 ghost use Rattle.gi_rule_values.specs.Artifacts.{anyext_of_trunc_narrower, anyext_of_trunc_same, anyext_of_trunc_wider, freeze_to_copy, sext_of_trunc_narrower, sext_of_trunc_same, sext_of_trunc_wider, trunc_of_merge, trunc_of_trunc, zext_of_trunc_narrower, zext_of_trunc_same, zext_of_trunc_wider};
-ghost use Rattle.gi_rule_values.specs.Combining.{binop_same, binop_to_zero, constant_fold, constant_fold_cast, cut_extension, icmp_and_one, mul_to_shl, pointer_identity, right_identity, same_to_zero, select_same, sub_to_add, udiv_to_lshr, urem_to_mask};
+ghost use Rattle.gi_rule_values.specs.Combining.{binop_same, binop_to_zero, constant_fold, constant_fold_cast, cut_extension, icmp_and_one, mul_to_shl, pointer_identity, right_identity, same_to_zero, select_constant, select_same, sub_to_add, udiv_to_lshr, urem_to_mask};
 ghost use Rattle.gi_rule_values.specs.Forms.{s};
 ghost use Rattle.gi_rule_values.specs.Lowering.{lower_abs, lower_better, lower_bswap_32, lower_bswap_64, lower_rotate, lower_sext_inreg, lower_uadde, lower_uaddo, lower_usube, lower_usubo, lower_zero_undef, narrow_add, narrow_anyext, narrow_bswap, narrow_constant, narrow_implicit_def, narrow_logic, narrow_select, narrow_sub, narrow_zext};
 ghost use Rattle.gi_rule_values.specs.Selecting.{select_above, select_addi, select_below, select_below_number, select_eq_zero, select_icmp_eq, select_icmp_ne, select_icmp_ule, select_implicit_def, select_ne_zero, select_not_above, select_not_below, select_number, select_ptr_add, select_select, select_sext, select_sext_inreg, select_shift, select_two, select_zext};
@@ -66,12 +67,13 @@ pub fn combining_are_good()
     ensures and_same { (x : ℕ) (flags : Flags) (n : ℕ) → 1 ≤ n → n ≤ 2 * x → IsGoodRewrite x (binop_same op.GenericAnd flags n) }
     ensures or_same { (x : ℕ) (flags : Flags) (n : ℕ) → 1 ≤ n → n ≤ 2 * x → IsGoodRewrite x (binop_same op.GenericOr flags n) }
     ensures select_same { (x : ℕ) (flags : Flags) (c : ℕ) (type : Llt) → is_any x type ≡ true → IsGoodRewrite x (select_same flags c type) }
+    ensures select_constant { (x : ℕ) (flags more : Flags) (c value : ℕ) (type : Llt) → is_any x type ≡ true → IsGoodRewrite x (select_constant flags more c value type) }
     ensures icmp_and_one { (x : ℕ) (flags more other : Flags) (pred : Pred) (type : Llt) (n : ℕ) → 1 ≤ n → n ≤ 2 * x → IsGoodRewrite x (icmp_and_one flags more other pred type n) }
     ensures fold_trunc { (x : ℕ) (flags more : Flags) (m c n : ℕ) → 1 ≤ n → n ≤ 2 * x → IsGoodRewrite x (constant_fold_cast op.GenericTruncate flags more m c n (wrapped n c)) }
     ensures fold_zext { (x : ℕ) (flags more : Flags) (m c n : ℕ) → m < n → n ≤ 2 * x → c < 2 ^ m → IsGoodRewrite x (constant_fold_cast op.GenericZeroExtend flags more m c n c) }
     ensures fold_sext { (x : ℕ) (flags more : Flags) (m c n : ℕ) → 1 ≤ n → n ≤ 2 * x → IsGoodRewrite x (constant_fold_cast op.GenericSignExtend flags more m c n (sign_extended m n c)) }
     ensures fold_anyext { (x : ℕ) (flags more : Flags) (m c n : ℕ) → 1 ≤ m → m < n → n ≤ 2 * x → IsGoodRewrite x (constant_fold_cast op.GenericAnyExtend flags more m c n (sign_extended m n c)) }
-    ensures constant_fold { (x : ℕ) (root : Opcode) (flags first second : Flags) (l a m b n value : ℕ) (gives : List ℕ → List Argument → Given) → 1 ≤ n → n ≤ 2 * x → value < 2 ^ n → meaning_of flags root ≡ Generic gives → gives (n ∷ []) (Value l a ∷ Value m b ∷ []) ≡ one value → IsGoodRewrite x (constant_fold root flags first second l a m b n value) }
+    ensures constant_fold { (x : ℕ) (root : Opcode) (flags first second : Flags) (l a m b n value : ℕ) (gives : List ℕ → List Argument → Given) → 1 ≤ n → n ≤ 2 * x → value < 2 ^ n → computes root ≡ true → meaning_of flags root ≡ Generic gives → gives (n ∷ []) (Value l a ∷ Value m b ∷ []) ≡ one value → IsGoodRewrite x (constant_fold root flags first second l a m b n value) }
 {}
 
 /// Rules of the legaliser that widen, but those of products and divisions.
@@ -120,11 +122,11 @@ pub fn lowering_are_good()
     ensures lower_sext_inreg { (x : ℕ) (flags : Flags) (k : ℕ) → 1 ≤ k → k ≤ x → IsGoodRewrite x (lower_sext_inreg flags x k) }
     ensures narrow_add { (x : ℕ) (flags : Flags) → (x ≡ 32) ⊎ (x ≡ 64) → IsGoodRewrite x (narrow_add flags x) }
     ensures narrow_sub { (x : ℕ) (flags : Flags) → (x ≡ 32) ⊎ (x ≡ 64) → IsGoodRewrite x (narrow_sub flags x) }
-    ensures narrow_select { (x : ℕ) (flags : Flags) (c : ℕ) → is_condition x (s c) ≡ true → IsGoodRewrite x (narrow_select flags c x) }
+    ensures narrow_select { (x : ℕ) (flags : Flags) (c : ℕ) → (x ≡ 32) ⊎ (x ≡ 64) → is_condition x (s c) ≡ true → IsGoodRewrite x (narrow_select flags c x) }
     ensures narrow_zext { (x : ℕ) (flags : Flags) → (x ≡ 32) ⊎ (x ≡ 64) → IsGoodRewrite x (narrow_zext flags x) }
     ensures narrow_anyext { (x : ℕ) (flags : Flags) → (x ≡ 32) ⊎ (x ≡ 64) → IsGoodRewrite x (narrow_anyext flags x) }
     ensures narrow_implicit_def { (x : ℕ) (flags : Flags) → (x ≡ 32) ⊎ (x ≡ 64) → IsGoodRewrite x (narrow_implicit_def flags x) }
-    ensures narrow_constant { (x : ℕ) (flags : Flags) (value : ℕ) → value < 2 ^ (2 * x) → IsGoodRewrite x (narrow_constant flags x value) }
+    ensures narrow_constant { (x : ℕ) (flags : Flags) (value : ℕ) → (x ≡ 32) ⊎ (x ≡ 64) → value < 2 ^ (2 * x) → IsGoodRewrite x (narrow_constant flags x value) }
     ensures narrow_bswap { (x : ℕ) (flags : Flags) → (x ≡ 32) ⊎ (x ≡ 64) → IsGoodRewrite x (narrow_bswap flags 32) }
 {}
 
