@@ -7,6 +7,7 @@ pub mod Numbered
 pub mod Good
 pub mod Rewrites
 pub mod Passing
+pub mod ConstantRow
 pub mod ArtifactRows
 pub mod CombiningRows
 pub mod WideningRows

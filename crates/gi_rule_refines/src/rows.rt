@@ -20,7 +20,7 @@ ghost use Rattle.gi_rule_values.specs.Artifacts.{anyext_of_trunc_narrower, anyex
 ghost use Rattle.gi_rule_values.specs.Combining.{binop_same, binop_to_zero, constant_fold, constant_fold_cast, cut_extension, icmp_and_one, mul_to_shl, pointer_identity, right_identity, same_to_zero, select_constant, select_same, sub_to_add, udiv_to_lshr, urem_to_mask};
 ghost use Rattle.gi_rule_values.specs.Forms.{s};
 ghost use Rattle.gi_rule_values.specs.Lowering.{lower_abs, lower_better, lower_bswap_32, lower_bswap_64, lower_rotate, lower_sext_inreg, lower_uadde, lower_uaddo, lower_usube, lower_usubo, lower_zero_undef, narrow_add, narrow_anyext, narrow_bswap, narrow_constant, narrow_implicit_def, narrow_logic, narrow_select, narrow_sub, narrow_zext};
-ghost use Rattle.gi_rule_values.specs.Selecting.{select_above, select_addi, select_below, select_below_number, select_eq_zero, select_icmp_eq, select_icmp_ne, select_icmp_ule, select_implicit_def, select_ne_zero, select_not_above, select_not_below, select_number, select_ptr_add, select_select, select_sext, select_sext_inreg, select_shift, select_two, select_zext};
+ghost use Rattle.gi_rule_values.specs.Selecting.{materialize_constant, select_above, select_addi, select_below, select_below_number, select_eq_zero, select_icmp_eq, select_icmp_ne, select_icmp_ule, select_implicit_def, select_ne_zero, select_not_above, select_not_below, select_number, select_ptr_add, select_select, select_sext, select_sext_inreg, select_shift, select_two, select_zext};
 ghost use Rattle.gi_rule_values.specs.Widening.{widen_add, widen_and, widen_ashr, widen_cast, widen_condition, widen_constant, widen_ctpop, widen_icmp, widen_icmp_result, widen_implicit_def, widen_lshr, widen_or, widen_select, widen_sext_inreg, widen_shl, widen_sub, widen_xor};
 
 /// Rules of the legaliser for casts and parts.
@@ -136,6 +136,7 @@ pub fn selecting_are_good()
     ensures select_zext { (flags : Flags) → IsGoodRewrite 64 (select_zext flags) }
     ensures select_addi { (x : ℕ) (flags more : Flags) (i : ℤ) → (x ≡ 32) ⊎ (x ≡ 64) → is_immediate i ≡ true → IsGoodRewrite x (select_addi flags more x i) }
     ensures select_select { (x : ℕ) (flags : Flags) (type : Llt) → width_of x type ≡ x → IsGoodRewrite x (select_select flags x type) }
+    ensures materialize_constant { (x : ℕ) (flags : Flags) (type : Llt) (value : ℕ) → (x ≡ 32) ⊎ (x ≡ 64) → width_of x type ≡ x → value < 2 ^ x → IsGoodRewrite x (materialize_constant flags x type value) }
     ensures select_add { (x : ℕ) (flags : Flags) → (x ≡ 32) ⊎ (x ≡ 64) → IsGoodRewrite x (select_two op.GenericAdd op.Add flags x) }
     ensures select_sub { (x : ℕ) (flags : Flags) → (x ≡ 32) ⊎ (x ≡ 64) → IsGoodRewrite x (select_two op.GenericSubtract op.Subtract flags x) }
     ensures select_mul { (x : ℕ) (flags : Flags) → (x ≡ 32) ⊎ (x ≡ 64) → IsGoodRewrite x (select_two op.GenericMultiply op.Multiply flags x) }

@@ -1,3 +1,4 @@
+use Rattle.gi_rule_refines.proofs.ConstantRow.{materialize_constant_good}
 use Rattle.gi_rule_refines.proofs.SelectingRows.{select_add_good, select_addi_good, select_and_good, select_andi_good, select_ashr_by_good, select_ashr_good, select_eq_zero_good, select_icmp_eq_good, select_icmp_ne_good, select_icmp_sge_good, select_icmp_sgt_good, select_icmp_sle_good, select_icmp_slt_good, select_icmp_uge_good, select_icmp_ugt_good, select_icmp_ule_good, select_icmp_ult_good, select_implicit_def_good, select_lshr_by_good, select_lshr_good, select_mul_good, select_ne_zero_good, select_or_good, select_ori_good, select_ptr_add_good, select_sdiv_good, select_select_good, select_sext_good, select_sext_inreg_good, select_shl_by_good, select_shl_good, select_slti_good, select_sltiu_good, select_smulh_good, select_srem_good, select_sub_good, select_udiv_good, select_umulh_good, select_urem_good, select_xor_good, select_xori_good, select_zext_good}
 use Rattle.gi_rule_refines.proofs.rows.selecting_are_good.Goals as goal
 
@@ -7,6 +8,7 @@ returns c = record {
   select_zext = select_zext_good;
   select_addi = select_addi_good;
   select_select = select_select_good;
+  materialize_constant = materialize_constant_good;
   select_add = select_add_good;
   select_sub = select_sub_good;
   select_mul = select_mul_good;
