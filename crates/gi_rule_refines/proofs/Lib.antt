@@ -8,6 +8,7 @@ pub mod Good
 pub mod Rewrites
 pub mod Passing
 pub mod ConstantRow
+pub mod PartRows
 pub mod ArtifactRows
 pub mod CombiningRows
 pub mod WideningRows

@@ -1,6 +1,6 @@
 //! Rows of the rule tables that are good: sound, and each test of their own list is passed.
 
-ghost use Rattle.std.specs.Prelude.{◌≡◌, ◌⊎◌, ℕ, ℤ, ◌*◌, ◌^◌, ◌≤◌, ◌<◌, List, [], ◌∷◌, true};
+ghost use Rattle.std.specs.Prelude.{suc, ◌≡◌, ◌⊎◌, ℕ, ℤ, ◌*◌, ◌^◌, ◌≤◌, ◌<◌, List, [], ◌∷◌, true};
 ghost use Rattle.gi_llt.specs.Bits.{sign_extended, wrapped};
 ghost use Rattle.gi_llt.specs.Llt.{width_of};
 ghost use Rattle.gi_llt.specs.declared.Llt.{Llt};
@@ -16,10 +16,10 @@ ghost use Rattle.gi_mir.specs.declared.operand.Pred.{Pred};
 ghost use Rattle.gi_mir.specs.declared.operand.Pred.TheVariants.{Sge, Sgt, Sle, Slt, Uge, Ugt, Ult};
 ghost use Rattle.gi_rule_refines.specs.Good.{IsGoodRewrite};
 ghost use Rattle.gi_soundness.specs.Rules.{computes};
-ghost use Rattle.gi_rule_values.specs.Artifacts.{anyext_of_trunc_narrower, anyext_of_trunc_same, anyext_of_trunc_wider, freeze_to_copy, sext_of_trunc_narrower, sext_of_trunc_same, sext_of_trunc_wider, trunc_of_merge, trunc_of_trunc, zext_of_trunc_narrower, zext_of_trunc_same, zext_of_trunc_wider};
+ghost use Rattle.gi_rule_values.specs.Artifacts.{anyext_of_trunc_narrower, anyext_of_trunc_same, anyext_of_trunc_wider, freeze_to_copy, sext_of_trunc_narrower, sext_of_trunc_same, sext_of_trunc_wider, trunc_of_merge, trunc_of_trunc, unmerge_of_merge, zext_of_trunc_narrower, zext_of_trunc_same, zext_of_trunc_wider};
 ghost use Rattle.gi_rule_values.specs.Combining.{binop_same, binop_to_zero, constant_fold, constant_fold_cast, cut_extension, icmp_and_one, mul_to_shl, pointer_identity, right_identity, same_to_zero, select_constant, select_same, sub_to_add, udiv_to_lshr, urem_to_mask};
 ghost use Rattle.gi_rule_values.specs.Forms.{s};
-ghost use Rattle.gi_rule_values.specs.Lowering.{lower_abs, lower_better, lower_bswap_32, lower_bswap_64, lower_rotate, lower_sext_inreg, lower_uadde, lower_uaddo, lower_usube, lower_usubo, lower_zero_undef, narrow_add, narrow_anyext, narrow_bswap, narrow_constant, narrow_implicit_def, narrow_logic, narrow_select, narrow_sub, narrow_zext};
+ghost use Rattle.gi_rule_values.specs.Lowering.{lower_abs, lower_better, lower_bswap_32, lower_bswap_64, lower_merge, lower_rotate, lower_sext_inreg, lower_uadde, lower_uaddo, lower_unmerge, lower_usube, lower_usubo, lower_zero_undef, narrow_add, narrow_anyext, narrow_bswap, narrow_constant, narrow_implicit_def, narrow_logic, narrow_select, narrow_sub, narrow_zext};
 ghost use Rattle.gi_rule_values.specs.Selecting.{materialize_constant, select_above, select_addi, select_below, select_below_number, select_eq_zero, select_icmp_eq, select_icmp_ne, select_icmp_ule, select_implicit_def, select_ne_zero, select_not_above, select_not_below, select_number, select_ptr_add, select_select, select_sext, select_sext_inreg, select_shift, select_two, select_zext};
 ghost use Rattle.gi_rule_values.specs.Widening.{widen_add, widen_and, widen_ashr, widen_cast, widen_condition, widen_constant, widen_ctpop, widen_icmp, widen_icmp_result, widen_implicit_def, widen_lshr, widen_or, widen_select, widen_sext_inreg, widen_shl, widen_sub, widen_xor};
 
@@ -36,6 +36,7 @@ pub fn artifacts_are_good()
     ensures sext_of_trunc_same { (x : ℕ) (flags more : Flags) (m k : ℕ) → m < k → k ≤ 2 * x → IsGoodRewrite x (sext_of_trunc_same flags more m k) }
     ensures sext_of_trunc_narrower { (x : ℕ) (flags more : Flags) (m w k : ℕ) → m < k → k < w → w ≤ 2 * x → IsGoodRewrite x (sext_of_trunc_narrower flags more m w k) }
     ensures sext_of_trunc_wider { (x : ℕ) (flags more : Flags) (m w k : ℕ) → 1 ≤ m → m < w → w < k → k ≤ 2 * x → IsGoodRewrite x (sext_of_trunc_wider flags more m w k) }
+    ensures unmerge_of_merge { (x : ℕ) (flags more : Flags) (width further : ℕ) → (x ≡ 32) ⊎ (x ≡ 64) → 1 ≤ width → 1 ≤ further → further ≤ 15 → suc further * width ≤ 2 * x → IsGoodRewrite x (unmerge_of_merge flags more width (suc further)) }
     ensures trunc_of_merge_same { (x : ℕ) (flags more : Flags) (width : ℕ) → 1 ≤ width → width ≤ 2 * x → IsGoodRewrite x (trunc_of_merge op.Copy flags more width width) }
     ensures trunc_of_merge_narrower { (x : ℕ) (flags more : Flags) (width n : ℕ) → 1 ≤ n → n < width → width ≤ 2 * x → IsGoodRewrite x (trunc_of_merge op.GenericTruncate flags more width n) }
 {}
@@ -108,6 +109,7 @@ pub fn lowering_are_good()
     ensures narrow_xor { (x : ℕ) (flags : Flags) → (x ≡ 32) ⊎ (x ≡ 64) → IsGoodRewrite x (narrow_logic op.GenericXor flags x) }
     ensures lower_bswap_32 { (x : ℕ) (flags : Flags) → (x ≡ 32) ⊎ (x ≡ 64) → IsGoodRewrite x (lower_bswap_32 flags) }
     ensures lower_bswap_64 { (x : ℕ) (flags : Flags) → (x ≡ 32) ⊎ (x ≡ 64) → IsGoodRewrite x (lower_bswap_64 flags) }
+    ensures lower_merge { (x : ℕ) (flags : Flags) (width further : ℕ) → (x ≡ 32) ⊎ (x ≡ 64) → 1 ≤ width → 1 ≤ further → further ≤ 15 → suc further * width ≤ 2 * x → IsGoodRewrite x (lower_merge flags width further) }
     ensures lower_uaddo { (x : ℕ) (flags : Flags) (n : ℕ) → 1 ≤ n → n ≤ 2 * x → IsGoodRewrite x (lower_uaddo flags n) }
     ensures lower_usubo { (x : ℕ) (flags : Flags) (n : ℕ) → 1 ≤ n → n ≤ 2 * x → IsGoodRewrite x (lower_usubo flags n) }
     ensures lower_usube { (x : ℕ) (flags : Flags) (n : ℕ) → 2 ≤ n → n ≤ 2 * x → IsGoodRewrite x (lower_usube flags n) }
@@ -120,6 +122,7 @@ pub fn lowering_are_good()
     ensures lower_ctlz_zero_undef { (x : ℕ) (flags : Flags) (n : ℕ) → 1 ≤ n → n ≤ 2 * x → IsGoodRewrite x (lower_zero_undef op.GenericCountLeadingZerosNotOfZero op.GenericCountLeadingZeros flags n) }
     ensures lower_cttz_zero_undef { (x : ℕ) (flags : Flags) (n : ℕ) → 1 ≤ n → n ≤ 2 * x → IsGoodRewrite x (lower_zero_undef op.GenericCountTrailingZerosNotOfZero op.GenericCountTrailingZeros flags n) }
     ensures lower_sext_inreg { (x : ℕ) (flags : Flags) (k : ℕ) → 1 ≤ k → k ≤ x → IsGoodRewrite x (lower_sext_inreg flags x k) }
+    ensures lower_unmerge { (x : ℕ) (flags : Flags) (width further : ℕ) → (x ≡ 32) ⊎ (x ≡ 64) → 1 ≤ width → 1 ≤ further → further ≤ 15 → suc further * width ≤ 2 * x → IsGoodRewrite x (lower_unmerge flags width further) }
     ensures narrow_add { (x : ℕ) (flags : Flags) → (x ≡ 32) ⊎ (x ≡ 64) → IsGoodRewrite x (narrow_add flags x) }
     ensures narrow_sub { (x : ℕ) (flags : Flags) → (x ≡ 32) ⊎ (x ≡ 64) → IsGoodRewrite x (narrow_sub flags x) }
     ensures narrow_select { (x : ℕ) (flags : Flags) (c : ℕ) → (x ≡ 32) ⊎ (x ≡ 64) → is_condition x (s c) ≡ true → IsGoodRewrite x (narrow_select flags c x) }

@@ -1,4 +1,5 @@
 use Rattle.gi_rule_refines.proofs.ArtifactRows.{anyext_of_trunc_narrower_good, anyext_of_trunc_same_good, anyext_of_trunc_wider_good, freeze_to_copy_good, sext_of_trunc_narrower_good, sext_of_trunc_same_good, sext_of_trunc_wider_good, trunc_of_merge_narrower_good, trunc_of_merge_same_good, trunc_of_trunc_good, zext_of_trunc_narrower_good, zext_of_trunc_same_good, zext_of_trunc_wider_good}
+use Rattle.gi_rule_refines.proofs.PartRows.{unmerge_of_merge_good}
 use Rattle.gi_rule_refines.proofs.rows.artifacts_are_good.Goals as goal
 
 pub returns : goal.returns
@@ -14,6 +15,7 @@ returns c = record {
   sext_of_trunc_same = sext_of_trunc_same_good;
   sext_of_trunc_narrower = sext_of_trunc_narrower_good;
   sext_of_trunc_wider = sext_of_trunc_wider_good;
+  unmerge_of_merge = unmerge_of_merge_good;
   trunc_of_merge_same = trunc_of_merge_same_good;
   trunc_of_merge_narrower = trunc_of_merge_narrower_good;
 }
