@@ -7,6 +7,8 @@ pub mod Numbered
 pub mod Good
 pub mod Rewrites
 pub mod Passing
+pub mod Staged
+pub mod Begun
 pub mod ConstantRow
 pub mod PartRows
 pub mod ArtifactRows
