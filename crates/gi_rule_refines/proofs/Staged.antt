@@ -30,10 +30,10 @@ use Rattle.gi_rule_values.specs.declared.rewrite.Slot.{Slot}
 use Rattle.gi_rule_values.specs.declared.rewrite.Slot.TheVariants.{At, Stands}
 use Rattle.gi_rule_valid.specs.Keeping.{are_placed, gives_types, is_fixed, is_taken, on_each, on_places}
 use Rattle.gi_rule_valid.specs.Using.{UseData, all_instrs_for, all_registers, defined_as, instr_for, kind_in, made_of, next_for, operand_for, place_for, registers_for, rewritten_at, targets_of}
-use Rattle.gi_rule_valid.proofs.InPlace.{entry_stays, is_replaced_by, root_of, rewriting_at}
+use Rattle.gi_rule_valid.proofs.InPlace.{entry_stays, is_replaced_by}
 use Rattle.gi_rule_valid.proofs.Lists.{placed_one}
 use Rattle.gi_rule_valid.proofs.Typed.{AreAlike, all_alike}
-use Rattle.gi_rule_valid.proofs.Valid.{IsUse, inputs_typed, made_typed, seen}
+use Rattle.gi_rule_valid.proofs.Valid.{IsSeen, IsUse, inputs_typed, made_typed, rewriting_at, root_of, seen}
 use Rattle.gi_rule_refines.specs.Good.{IsGood, IsMade, after_all}
 use Rattle.gi_rule_refines.specs.Stages.{AreMadeAt, IsGoodAt, IsMadeAt, each_passes, has_banks, has_opcode, is_accepted, is_of_stage, may_be_made, phase_at, registers_of, stand_at}
 use Rattle.gi_rule_refines.specs.declared.stages.RuleStage.{RuleStage}
@@ -119,9 +119,7 @@ stand_after : (x : ℕ) (stage : RuleStage) (f : FunctionData) (id : ℕ) (u : U
     → may_be_made x stage u.rewrite ≡ true → stand_at x stage f ≡ true → stand_at x stage (rewritten_at f id u) ≡ true
 stand_after x stage f id u types c banked may stand = and_from _ _ of_stage accepted
   where
-    g : FunctionData
-    g = rewritten_at f id u
-
+    s : IsSeen f id u c.fits.line
     s = seen x (phase_at stage) f id u c
 
     is : IsRewritten (rewriting_at f id u c.fits.line) f (rewritten_at f id u)
