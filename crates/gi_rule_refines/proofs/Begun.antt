@@ -1,5 +1,5 @@
 -- The beginnings: a function that was checked, and one whose selection begins.
-use Rattle.std.proofs.Common.{◌≡◌, ◌⊎◌, ℕ, Bool, true, false, cond, ◌&&◌, List, [], ◌∷◌, ◌++◌, Option, Some, None, refl, sym, ap, ap₂, ◌∙◌, subst}
+use Rattle.std.proofs.Common.{◌≡◌, ◌⊎◌, ℕ, Bool, true, false, cond, List, [], ◌∷◌, ◌++◌, Option, Some, None, refl, sym, ap₂, subst}
 use Rattle.std.proofs.lemmas.Bool.{and_from, and_parts, or_left}
 use Rattle.std.specs.List.{list_all}
 use Rattle.std.specs.Option.{option_or}
@@ -10,12 +10,12 @@ use Rattle.gi_mir.specs.declared.stage.Stage.TheVariants as function_stage
 use Rattle.gi_meaning.specs.Runs.{setting_of}
 use Rattle.gi_rules.specs.Fitting.{stands_on}
 use Rattle.gi_valid.specs.Available.{Extent}
-use Rattle.gi_valid.specs.Faults.{Site, double_definitions, fault_in, faults, not_available, others_in, phi_entries, physical_across, sites, terminator, told, unknown_block, unknown_successors, with_fault}
-use Rattle.gi_valid.specs.Typing.{Phase, Selecting, Typed, joins_any, type_in, unsuited}
+use Rattle.gi_valid.specs.Faults.{Site, double_definitions, fault_in, not_available, others_in, phi_entries, physical_across, sites, terminator, told, unknown_block, unknown_successors, with_fault}
+use Rattle.gi_valid.specs.Typing.{Selecting, Typed, joins_any, type_in, unsuited}
 use Rattle.gi_valid.specs.Valid.{IsValid}
 use Rattle.gi_valid.specs.declared.invalid.Invalid.{Invalid}
 use Rattle.gi_valid.specs.declared.invalid.Invalid.TheVariants.{TypeMismatch}
-use Rattle.gi_valid.proofs.Sited.{neither, nothing_in_either, nothing_in_front}
+use Rattle.gi_valid.proofs.Sited.{nothing_in_either, nothing_in_front}
 use Rattle.gi_refining.specs.Known.{are_formed}
 use Rattle.gi_refining.specs.KnownTypes.{have_types}
 use Rattle.gi_refining.specs.Numbered.{is_numbered}

@@ -1,7 +1,6 @@
 -- A constant made by its sequence is a good row, whatever its steps are.
-use Rattle.std.proofs.Common.{◌≡◌, ◌⊎◌, ℕ, zero, suc, ◌+◌, ◌^◌, ◌<◌, Bool, true, nat_le, ◌==◌, List, [], ◌∷◌, ◌++◌, length, Some, option_map, slice_get, refl, sym, ap, ◌∙◌, subst, arith, le-leb, lt-ltb}
+use Rattle.std.proofs.Common.{◌≡◌, ◌⊎◌, ℕ, zero, suc, ◌+◌, ◌^◌, ◌<◌, Bool, true, nat_le, ◌==◌, List, [], ◌∷◌, ◌++◌, length, Some, slice_get, refl, sym, ap, ◌∙◌, subst, arith, le-leb, lt-ltb}
 use Rattle.std.specs.List.{list_all}
-use Rattle.std.specs.Option.{option_map_or}
 use Rattle.std.proofs.lemmas.Bool.{and_from, and_parts, eqb-true}
 use Rattle.std.proofs.lemmas.List.Folds.{list_all-append}
 use Rattle.gi_llt.specs.Bits.{signed}
@@ -12,14 +11,13 @@ use Rattle.gi_mir.specs.declared.operand.Operand.TheVariants as operand
 use Rattle.gi_riscv.specs.declared.constants.Step.{Step}
 use Rattle.gi_riscv.specs.declared.constants.Step.TheVariants.{Addi, Addiw, Lui, Slli}
 use Rattle.gi_riscv.specs.Materialised.{materialised}
-use Rattle.gi_rule_values.specs.Data.{RewriteData}
 use Rattle.gi_rule_values.specs.Selecting.{chain, chain_place, materialize_constant}
 use Rattle.gi_rule_values.specs.declared.rewrite.Slot.{Slot}
 use Rattle.gi_rule_values.specs.declared.rewrite.Slot.TheVariants.{At, Stands}
-use Rattle.gi_rule_values.proofs.ByNumbers.{get_here, get_left, longer}
+use Rattle.gi_rule_values.proofs.ByNumbers.{get_here, longer}
 use Rattle.gi_rule_values.proofs.Materialised.{has_first, materialize_constant_sound}
 use Rattle.gi_rule_values.proofs.Numbers.{same}
-use Rattle.gi_rule_valid.specs.Keeping.{all_types, are_met, are_placed, has_type, is_taken}
+use Rattle.gi_rule_valid.specs.Keeping.{all_types, are_met, are_placed, is_taken}
 use Rattle.gi_rule_refines.specs.Computing.{gives}
 use Rattle.gi_rule_refines.specs.Good.{IsGoodRewrite, all_fit, width_at}
 use Rattle.gi_rule_refines.proofs.Passing.{same_type_itself}

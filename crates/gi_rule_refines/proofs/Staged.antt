@@ -1,5 +1,5 @@
 -- What is asked of a function at a stage goes on through a rewrite.
-use Rattle.std.proofs.Common.{◌≡◌, ◌⊎◌, inl, inr, ⊎_elim, ℕ, ◌+◌, Bool, true, false, cond, ◌&&◌, ◌||◌, List, [], ◌∷◌, ◌++◌, Option, Some, None, length, map, slice_get, refl, sym, ap, ap₂, ◌∙◌, subst, eq-eqb}
+use Rattle.std.proofs.Common.{◌≡◌, ◌⊎◌, inl, inr, ⊎_elim, ℕ, true, ◌&&◌, List, [], ◌∷◌, ◌++◌, Option, length, map, refl, sym, ap, ap₂, ◌∙◌, subst, eq-eqb}
 use Rattle.std.proofs.lemmas.Bool.{and_from, and_parts, or_left, or_right}
 use Rattle.std.specs.List.{list_all, list_any}
 use Rattle.gi_llt.specs.declared.Llt.{Llt}
@@ -29,12 +29,12 @@ use Rattle.gi_rule_values.specs.Data.{OperationData}
 use Rattle.gi_rule_values.specs.declared.rewrite.Slot.{Slot}
 use Rattle.gi_rule_values.specs.declared.rewrite.Slot.TheVariants.{At, Stands}
 use Rattle.gi_rule_valid.specs.Keeping.{are_placed, gives_types, is_fixed, is_taken, on_each, on_places}
-use Rattle.gi_rule_valid.specs.Using.{UseData, all_instrs_for, all_registers, defined_as, instr_for, kind_in, made_of, next_for, operand_for, place_for, registers_for, rewritten_at, targets_of}
+use Rattle.gi_rule_valid.specs.Using.{UseData, all_instrs_for, defined_as, instr_for, kind_in, made_of, next_for, operand_for, place_for, registers_for, rewritten_at, targets_of}
 use Rattle.gi_rule_valid.proofs.InPlace.{entry_stays, is_replaced_by}
 use Rattle.gi_rule_valid.proofs.Lists.{placed_one}
 use Rattle.gi_rule_valid.proofs.Typed.{AreAlike, all_alike}
 use Rattle.gi_rule_valid.proofs.Valid.{IsSeen, IsUse, inputs_typed, made_typed, rewriting_at, root_of, seen}
-use Rattle.gi_rule_refines.specs.Good.{IsGood, IsMade, after_all}
+use Rattle.gi_rule_refines.specs.Good.{after_all}
 use Rattle.gi_rule_refines.specs.Stages.{AreMadeAt, IsGoodAt, IsMadeAt, each_passes, has_banks, has_opcode, is_accepted, is_of_stage, may_be_made, phase_at, registers_of, stand_at}
 use Rattle.gi_rule_refines.specs.declared.stages.RuleStage.{RuleStage}
 use Rattle.gi_rule_refines.specs.declared.stages.RuleStage.TheVariants as at
@@ -155,8 +155,8 @@ stand_after x stage f id u types c banked may stand = and_from _ _ of_stage acce
         same : (p : ℕ × InstrData) → IsOneOf p (all_instrs f.blocks) → is_accepted x (type_in (phase_at stage) (rewritten_at f id u)) p.1 ≡ is_accepted x (type_in (phase_at stage) f) p.1
         same p there =
             let each = types_same (type_in (phase_at stage) f) (type_in (phase_at stage) (rewritten_at f id u)) p.1.operands
-                (λ r named. type_kept r (old_kind x (phase_at stage) f id u c r
-                (⊎_elim (λ d. c.had.defined r (any_one (defines r) p (all_instrs f.blocks) there d)) (λ d. c.had.used r (any_one (uses r) p (all_instrs f.blocks) there d)) named))) in
+            (λ r named. type_kept r (old_kind x (phase_at stage) f id u c r
+            (⊎_elim (λ d. c.had.defined r (any_one (defines r) p (all_instrs f.blocks) there d)) (λ d. c.had.used r (any_one (uses r) p (all_instrs f.blocks) there d)) named))) in
             ap₂ (λ a b. each_passes (is_result_type x p.1.op) 0 a && each_passes (is_source_type x p.1.op) 0 b) each.0 each.1
           where
             type_kept : (r : ℕ) → kind_of (rewritten_at f id u) r ≡ kind_of f r → type_in (phase_at stage) (rewritten_at f id u) r ≡ type_in (phase_at stage) f r
