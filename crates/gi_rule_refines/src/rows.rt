@@ -1,6 +1,6 @@
 //! Rows of the rule tables that are good: sound, and each test of their own list is passed.
 
-ghost use Rattle.std.specs.Prelude.{suc, ◌≡◌, ◌⊎◌, ℕ, ℤ, ◌*◌, ◌^◌, ◌≤◌, ◌<◌, List, [], ◌∷◌, true};
+ghost use Rattle.std.specs.Prelude.{suc, ◌≡◌, ◌⊎◌, ℕ, ℤ, ◌*◌, ◌^◌, ◌≤◌, ◌<◌, List, [], ◌∷◌, true, false, pos};
 ghost use Rattle.gi_llt.specs.Bits.{sign_extended, wrapped};
 ghost use Rattle.gi_llt.specs.Llt.{width_of};
 ghost use Rattle.gi_llt.specs.declared.Llt.{Llt};
@@ -14,14 +14,17 @@ ghost use Rattle.gi_mir.specs.declared.opcode.Opcode.TheVariants as op;
 ghost use Rattle.gi_mir.specs.declared.operand.Flags.{Flags};
 ghost use Rattle.gi_mir.specs.declared.operand.Pred.{Pred};
 ghost use Rattle.gi_mir.specs.declared.operand.Pred.TheVariants.{Sge, Sgt, Sle, Slt, Uge, Ugt, Ult};
-ghost use Rattle.gi_rule_refines.specs.Good.{IsGoodRewrite};
+ghost use Rattle.gi_rule_refines.specs.Good.{IsGoodRewrite, makes_fit};
 ghost use Rattle.gi_soundness.specs.Rules.{computes};
 ghost use Rattle.gi_rule_values.specs.Artifacts.{anyext_of_trunc_narrower, anyext_of_trunc_same, anyext_of_trunc_wider, freeze_to_copy, sext_of_trunc_narrower, sext_of_trunc_same, sext_of_trunc_wider, trunc_of_merge, trunc_of_trunc, unmerge_of_merge, zext_of_trunc_narrower, zext_of_trunc_same, zext_of_trunc_wider};
 ghost use Rattle.gi_rule_values.specs.Combining.{binop_same, binop_to_zero, constant_fold, constant_fold_cast, cut_extension, icmp_and_one, mul_to_shl, pointer_identity, right_identity, same_to_zero, select_constant, select_same, sub_to_add, udiv_to_lshr, urem_to_mask};
 ghost use Rattle.gi_rule_values.specs.Forms.{s};
-ghost use Rattle.gi_rule_values.specs.Lowering.{lower_abs, lower_better, lower_bswap_32, lower_bswap_64, lower_merge, lower_rotate, lower_sext_inreg, lower_uadde, lower_uaddo, lower_unmerge, lower_usube, lower_usubo, lower_zero_undef, narrow_add, narrow_anyext, narrow_bswap, narrow_constant, narrow_implicit_def, narrow_logic, narrow_select, narrow_sub, narrow_zext};
-ghost use Rattle.gi_rule_values.specs.Selecting.{materialize_constant, select_above, select_addi, select_below, select_below_number, select_eq_zero, select_icmp_eq, select_icmp_ne, select_icmp_ule, select_implicit_def, select_ne_zero, select_not_above, select_not_below, select_number, select_ptr_add, select_select, select_sext, select_sext_inreg, select_shift, select_two, select_zext};
-ghost use Rattle.gi_rule_values.specs.Widening.{widen_add, widen_and, widen_ashr, widen_cast, widen_condition, widen_constant, widen_ctpop, widen_icmp, widen_icmp_result, widen_implicit_def, widen_lshr, widen_or, widen_select, widen_sext_inreg, widen_shl, widen_sub, widen_xor};
+ghost use Rattle.gi_rule_values.specs.Lowering.{lower_abs, lower_better, lower_bswap_32, lower_bswap_64, lower_ctpop_32, lower_ctpop_64, lower_merge, lower_rotate, lower_sext_inreg, lower_uadde, lower_uaddo, lower_unmerge, lower_usube, lower_usubo, lower_zero_undef, narrow_add, narrow_anyext, narrow_bswap, narrow_constant, narrow_implicit_def, narrow_logic, narrow_select, narrow_sub, narrow_zext};
+ghost use Rattle.gi_rule_values.specs.Selecting.{materialize_constant, select_above, select_addi, select_below, select_below_number, select_copy, select_eq_zero, select_icmp_eq, select_icmp_ne, select_icmp_ule, select_implicit_def, select_ne_zero, select_not_above, select_not_below, select_number, select_ptr_add, select_select, select_sext, select_sext_inreg, select_shift, select_two, select_zext};
+ghost use Rattle.gi_rule_values.specs.Widening.{widen_add, widen_and, widen_ashr, widen_cast, widen_condition, widen_constant, widen_ctpop, widen_icmp, widen_icmp_result, widen_implicit_def, widen_lshr, widen_mul, widen_or, widen_sdiv, widen_select, widen_sext_inreg, widen_shl, widen_srem, widen_sub, widen_udiv, widen_urem, widen_xor};
+ghost use Rattle.gi_llt.specs.declared.Llt.TheVariants.{Pointer};
+ghost use Rattle.gi_mir.specs.Data.{no_flags};
+ghost use Rattle.gi_rule_valid.specs.Keeping.{keeps};
 
 /// Rules of the legaliser for casts and parts.
 pub fn artifacts_are_good()
@@ -178,4 +181,33 @@ pub fn selecting_are_good()
     ensures select_sext { (flags : Flags) → IsGoodRewrite 64 (select_sext flags) }
     ensures select_sext_inreg { (flags : Flags) → IsGoodRewrite 64 (select_sext_inreg flags) }
     ensures select_implicit_def { (x : ℕ) (flags : Flags) (type : Llt) → is_any x type ≡ true → IsGoodRewrite x (select_implicit_def flags type) }
+{}
+
+/// These sound rows are refused by a test of their list: products and divisions, words of 32 bits on RV64, and copies that join types.
+pub fn rows_are_refused()
+    ensures widen_mul { keeps 32 (widen_mul no_flags 8 32) ≡ false }
+    ensures widen_sdiv { keeps 32 (widen_sdiv no_flags 8 32) ≡ false }
+    ensures widen_udiv { keeps 32 (widen_udiv no_flags 8 32) ≡ false }
+    ensures widen_urem { keeps 32 (widen_urem no_flags 8 32) ≡ false }
+    ensures widen_srem { keeps 32 (widen_srem no_flags 8 32) ≡ false }
+    ensures lower_ctpop_32 { keeps 32 (lower_ctpop_32 no_flags) ≡ false }
+    ensures lower_ctpop_64 { keeps 64 (lower_ctpop_64 no_flags) ≡ false }
+    ensures select_add_half { makes_fit 64 (select_two op.GenericAdd op.AddWord no_flags 32) ≡ false }
+    ensures select_sub_half { makes_fit 64 (select_two op.GenericSubtract op.SubtractWord no_flags 32) ≡ false }
+    ensures select_mul_half { makes_fit 64 (select_two op.GenericMultiply op.MultiplyWord no_flags 32) ≡ false }
+    ensures select_shl_half { makes_fit 64 (select_two op.GenericShiftLeft op.ShiftLeftLogicalWord no_flags 32) ≡ false }
+    ensures select_lshr_half { makes_fit 64 (select_two op.GenericLogicalShiftRight op.ShiftRightLogicalWord no_flags 32) ≡ false }
+    ensures select_ashr_half { makes_fit 64 (select_two op.GenericArithmeticShiftRight op.ShiftRightArithmeticWord no_flags 32) ≡ false }
+    ensures select_udiv_half { makes_fit 64 (select_two op.GenericUnsignedDivide op.DivideUnsignedWord no_flags 32) ≡ false }
+    ensures select_sdiv_half { makes_fit 64 (select_two op.GenericSignedDivide op.DivideWord no_flags 32) ≡ false }
+    ensures select_urem_half { makes_fit 64 (select_two op.GenericUnsignedRemainder op.RemainderUnsignedWord no_flags 32) ≡ false }
+    ensures select_srem_half { makes_fit 64 (select_two op.GenericSignedRemainder op.RemainderWord no_flags 32) ≡ false }
+    ensures select_addiw { makes_fit 64 (select_number op.GenericAdd op.AddImmediateWord no_flags no_flags 32 (pos 1)) ≡ false }
+    ensures select_shl_half_by { makes_fit 64 (select_shift op.GenericShiftLeft op.ShiftLeftLogicalImmediateWord no_flags no_flags 32 1) ≡ false }
+    ensures select_lshr_half_by { makes_fit 64 (select_shift op.GenericLogicalShiftRight op.ShiftRightLogicalImmediateWord no_flags no_flags 32 1) ≡ false }
+    ensures select_ashr_half_by { makes_fit 64 (select_shift op.GenericArithmeticShiftRight op.ShiftRightArithmeticImmediateWord no_flags no_flags 32 1) ≡ false }
+    ensures select_trunc { keeps 64 (select_copy op.GenericTruncate no_flags (s 64) (s 32)) ≡ false }
+    ensures select_anyext { keeps 64 (select_copy op.GenericAnyExtend no_flags (s 32) (s 64)) ≡ false }
+    ensures select_ptrtoint { keeps 32 (select_copy op.GenericPointerToInteger no_flags Pointer (s 32)) ≡ false }
+    ensures select_inttoptr { keeps 32 (select_copy op.GenericIntegerToPointer no_flags (s 32) Pointer) ≡ false }
 {}
