@@ -3,14 +3,11 @@
 ghost use Rattle.std.specs.Prelude.{◌≡◌, ◌⊎◌, List, false, true, ℕ};
 ghost use Rattle.gi_mir.specs.Data.{FunctionData, no_flags};
 ghost use Rattle.gi_mir.specs.declared.opcode.Opcode.TheVariants as op;
-ghost use Rattle.gi_meaning.specs.Runs.{setting_of};
 ghost use Rattle.gi_refine.specs.Refinement.{RefinesUnchecked};
 ghost use Rattle.gi_valid.specs.Typing.{Typed};
 ghost use Rattle.gi_valid.specs.Valid.{IsValid};
 ghost use Rattle.gi_refining.specs.Known.{are_formed};
-ghost use Rattle.gi_refining.specs.KnownTypes.{have_types};
 ghost use Rattle.gi_refining.specs.Numbered.{is_numbered};
-ghost use Rattle.gi_refining.specs.Widths.{has_machine_words};
 ghost use Rattle.gi_rule_values.specs.Combining.{mul_to_shl};
 ghost use Rattle.gi_rule_values.specs.Selecting.{select_two};
 ghost use Rattle.gi_rule_valid.specs.Keeping.{gives_types};
@@ -57,7 +54,7 @@ pub fn stages_tell_apart()
 /// A valid function whose instructions are formed and stand in a stage before selection is good there.
 pub fn checked_function_is_good()
     ensures { (x : ℕ) (stage : RuleStage) (names : List (List ℕ)) (f : FunctionData) → (x ≡ 32) ⊎ (x ≡ 64) → phase_at stage ≡ Typed
-        → IsValid x Typed f → is_numbered f ≡ true → are_formed f ≡ true → have_types f ≡ true → has_machine_words (setting_of x names f) f ≡ true
+        → IsValid x Typed f → is_numbered f ≡ true → are_formed f ≡ true
         → f.banked ≡ has_banks stage → stand_at x stage f ≡ true
         → IsGoodAt x stage names f }
 {}
