@@ -9,6 +9,7 @@ pub mod Rewrites
 pub mod Passing
 pub mod Staged
 pub mod Begun
+pub mod WasRead
 pub mod ConstantRow
 pub mod PartRows
 pub mod ArtifactRows

@@ -63,8 +63,11 @@ is_of_stage x stage i = has_opcode x stage i.op && list_all (is_defined_in (regi
 
 -- ══ A function ══
 
+abbrev pub are_accepted : (x : ℕ) → Phase → FunctionData → Bool
+are_accepted x phase f = list_all (λ p. is_accepted x (type_in phase f) p.1) (all_instrs f.blocks)
+
 abbrev pub stand_at : (x : ℕ) → RuleStage → FunctionData → Bool
-stand_at x stage f = list_all (λ p. is_of_stage x stage p.1) (all_instrs f.blocks) && list_all (λ p. is_accepted x (type_in (phase_at stage) f) p.1) (all_instrs f.blocks)
+stand_at x stage f = list_all (λ p. is_of_stage x stage p.1) (all_instrs f.blocks) && are_accepted x (phase_at stage) f
 
 -- It is good in the stage's phase; its registers are in banks where they are so at the stage; and its instructions are of the
 -- stage, and accept each type that they have.
