@@ -42,7 +42,7 @@ any_after w test stays (p ∷ is) h = by (p.0 == w.root.0) (any_after w test sta
         ⊎_elim (λ here. inl (or_left (test p) (list_any test is) (ap test (sym (stays p)) ∙ here))) (λ later. ⊎_elim (λ old. inl (or_right (test p) (list_any test is) old)) (λ made. inr made) (rest later))
         (or_cases (test (entry_renamed w.rename p)) (list_any test (rewritten w is)) h)
 
-all_after : (w : Rewriting) (old new : ℕ × InstrData → Bool) → ((p : ℕ × InstrData) → entry_renamed w.rename p ≡ p) → list_all new w.made ≡ true → (is : List (ℕ × InstrData)) → ((p : ℕ × InstrData) → IsOneOf p is → new p ≡ old p) → list_all old is ≡ true → list_all new (rewritten w is) ≡ true
+pub all_after : (w : Rewriting) (old new : ℕ × InstrData → Bool) → ((p : ℕ × InstrData) → entry_renamed w.rename p ≡ p) → list_all new w.made ≡ true → (is : List (ℕ × InstrData)) → ((p : ℕ × InstrData) → IsOneOf p is → new p ≡ old p) → list_all old is ≡ true → list_all new (rewritten w is) ≡ true
 all_after w old new stays made [] same h = refl
 all_after w old new stays made (p ∷ is) same h = by (p.0 == w.root.0) (all_after w old new stays made is (λ q there. same q (inr there)) each.1)
   where

@@ -6,4 +6,14 @@ pub mod Widths
 pub mod Numbered
 pub mod Good
 pub mod Rewrites
-pub mod Rows
+pub mod Passing
+pub mod Staged
+pub mod Begun
+pub mod WasRead
+pub mod ConstantRow
+pub mod PartRows
+pub mod ArtifactRows
+pub mod CombiningRows
+pub mod WideningRows
+pub mod LoweringRows
+pub mod SelectingRows

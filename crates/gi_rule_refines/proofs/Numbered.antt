@@ -50,7 +50,6 @@ above_more : (n : ℕ) (os : List Operand) → n ≤ above_registers n os
 above_more n [] = omega arith
 above_more n (o ∷ os) = let rest = above_more (max n (register_above o)) os in let more : n ≤ max n (register_above o) = grind (arith, nat_tests) in omega (arith, rest, more)
 
-
 named_above : (r : ℕ) (o : Operand) → (is_def_of r o || is_use_of r o) ≡ true → r < register_above o
 named_above r (operand.Def q kind) h = ⊎_elim (λ same. let is = eqb-true q.0 r same in omega (arith, is)) (λ none. cc) (or_cases (q.0 == r) false h)
 named_above r (operand.Use q) h = let is = eqb-true q.0 r h in omega (arith, is)

@@ -26,7 +26,7 @@ use Rattle.gi_rule_refines.specs.Good.{AreMade, IsGood, IsMade, after_all}
 use Rattle.gi_rule_refines.proofs.Good.{good_after}
 use Rattle.gi_rule_refines.proofs.Refined.{giving, use_refines}
 
-use_of : (x : ℕ) (phase : Phase) (names : List (List ℕ)) (f : FunctionData) (id : ℕ) (u : UseData) → IsGood x phase names f → IsMade x f id u → IsUse x phase f id u
+pub use_of : (x : ℕ) (phase : Phase) (names : List (List ℕ)) (f : FunctionData) (id : ℕ) (u : UseData) → IsGood x phase names f → IsMade x f id u → IsUse x phase f id u
 use_of x phase names f id u good made = record { valid = good.valid; own = good.own; had = good.had; live = made.live; fits = made.fits; keeps = keeping x u.rewrite made.rewrite.keeps }
 
 pub good_kept : (x : ℕ) (phase : Phase) (names : List (List ℕ)) (f : FunctionData) (id : ℕ) (u : UseData) → gives_types phase ≡ true → IsGood x phase names f → IsMade x f id u → IsGood x phase names (rewritten_at f id u)

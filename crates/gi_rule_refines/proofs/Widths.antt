@@ -210,7 +210,7 @@ all_made_fit s kind line targets registers types place next (o ∷ os) many are 
     let rs : List ℕ = registers_for targets place next o.types in
     let each = and_parts (keeps_values (on_types s.x (types ++ o.types)) (meaning_of o.flags o.op) (on_places (length types) o)) (all_fit s.x (types ++ o.types) os) fit in
     let parts = split_widths s.width rs (flat (all_registers targets (place_for place o.types) (next_for targets place next o.types) os)) (map (width_of s.x) o.types) (map (width_of s.x) (flat_types os))
-        (as_many targets place next o.types ∙ sym (mapped o.types)) (wide ∙ map_both (width_of s.x) o.types (flat_types os)) in
+    (as_many targets place next o.types ∙ sym (mapped o.types)) (wide ∙ map_both (width_of s.x) o.types (flat_types os)) in
     let same : map (widthed s.width) (instr_for kind registers rs o line).operands ≡ map (widthed (width_at s.x (types ++ o.types))) (on_places (length types) o).operands =
     operands_both s.width (defined_as kind rs o.types) (map (operand_for registers) o.slots)
     ∙ ap₂ (λ a b. a ++ b) (results_wide s.x s.width kind rs types o.types (length types) refl parts.0) (slots_wide s.x s.width registers types o.types place o.slots many are one.taken)

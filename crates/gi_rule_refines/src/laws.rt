@@ -1,10 +1,9 @@
 //! What is promised of functions in which sound rewrites are made.
 
-ghost use Rattle.std.specs.Prelude.{◌≡◌, ◌⊎◌, ◌^◌, ◌*◌, ◌≤◌, ◌<◌, List, true, ℕ};
+ghost use Rattle.std.specs.Prelude.{◌≡◌, ◌⊎◌, List, true, ℕ};
 ghost use Rattle.gi_mir.specs.Data.{FunctionData};
 ghost use Rattle.gi_mir.specs.Edit.{IsLive};
 ghost use Rattle.gi_mir.specs.Ids.{AreOwnIds};
-ghost use Rattle.gi_mir.specs.declared.operand.Flags.{Flags};
 ghost use Rattle.gi_meaning.specs.Runs.{setting_of};
 ghost use Rattle.gi_refine.specs.Refinement.{RefinesUnchecked};
 ghost use Rattle.gi_soundness.specs.Rules.{HasHadAll};
@@ -14,15 +13,11 @@ ghost use Rattle.gi_refining.specs.Known.{FitsAnywhere, are_formed};
 ghost use Rattle.gi_refining.specs.KnownTypes.{have_types};
 ghost use Rattle.gi_refining.specs.Numbered.{is_numbered};
 ghost use Rattle.gi_refining.specs.Widths.{has_machine_words};
-ghost use Rattle.gi_rule_values.specs.Combining.{mul_to_shl, sub_to_add};
-ghost use Rattle.gi_rule_values.specs.Lowering.{lower_uadde};
 ghost use Rattle.gi_rule_values.specs.Running.{IsSoundRewrite};
-ghost use Rattle.gi_rule_values.specs.Selecting.{select_icmp_ule};
-ghost use Rattle.gi_rule_values.specs.Widening.{widen_add};
 ghost use Rattle.gi_rule_valid.specs.Keeping.{gives_types, keeps};
 ghost use Rattle.gi_rule_valid.specs.Using.{FitsAt, UseData, rewritten_at};
 ghost use Rattle.gi_rule_refines.specs.Computing.{gives_all};
-ghost use Rattle.gi_rule_refines.specs.Good.{AreMade, IsGood, IsGoodRewrite, IsMade, after_all};
+ghost use Rattle.gi_rule_refines.specs.Good.{AreMade, IsGood, IsMade, after_all};
 
 /// A sound rewrite that passes the tests of its own list refines each valid function in which it fits, where values fit: however
 /// many results its root has, and whatever registers it makes.
@@ -52,14 +47,4 @@ pub fn good_rewrites_refine()
     ensures { (x : ℕ) (phase : Phase) (names : List (List ℕ)) (f : FunctionData) (us : List (ℕ × UseData)) → (x ≡ 32) ⊎ (x ≡ 64)
         → gives_types phase ≡ true → IsGood x phase names f → AreMade x f us
         → IsGood x phase names (after_all f us) × RefinesUnchecked x names f (after_all f us) }
-{}
-
-/// These rewrites are good.
-pub fn rewrites_are_good()
-    ensures mul_to_shl { (x : ℕ) (flags more : Flags) (n k : ℕ) → 1 ≤ n → n ≤ 2 * x → k < n → IsGoodRewrite x (mul_to_shl flags more n k) }
-    ensures sub_to_add { (x : ℕ) (flags more : Flags) (n c : ℕ) → 1 ≤ n → n ≤ 2 * x → c < 2 ^ n → IsGoodRewrite x (sub_to_add flags more n c) }
-    ensures widen_add { (x : ℕ) (flags : Flags) (n w : ℕ) → 1 ≤ n → n < w → w ≤ 2 * x → IsGoodRewrite x (widen_add flags n w) }
-    ensures lower_uadde { (x : ℕ) (flags : Flags) (n : ℕ) → 2 ≤ n → n ≤ 2 * x → IsGoodRewrite x (lower_uadde flags n) }
-    ensures select_icmp_ule_32 { (flags : Flags) → IsGoodRewrite 32 (select_icmp_ule flags 32) }
-    ensures select_icmp_ule_64 { (flags : Flags) → IsGoodRewrite 64 (select_icmp_ule flags 64) }
 {}

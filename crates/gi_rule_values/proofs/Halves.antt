@@ -184,9 +184,11 @@ narrow_constant_sound x flags value fits = record {
 pub narrow_bswap_sound : (x : ℕ) (flags : Flags) → IsSoundRewrite x (narrow_bswap flags 32)
 narrow_bswap_sound x flags = record {
   by = λ names world is_world a a_fits.
-      let high : a / 4294967296 % 4294967296 ≡ a / 4294967296 = high_half 32 a a_fits in
-      (refl, sym (pair_is 4294967296 (byte_swap_of 32 (a / 4294967296 % 4294967296)) (byte_swap_of 32 (a % 4294967296))
-      ∙ ap (λ h. byte_swap_of 32 (a % 4294967296) * 4294967296 + byte_swap_of 32 h) high ∙ reversed_halves a));
+      let high : a / 4294967296 % 4294967296 ≡ a / 4294967296 = high_half 32 a a_fits in (
+        refl,
+        sym (pair_is 4294967296 (byte_swap_of 32 (a / 4294967296 % 4294967296)) (byte_swap_of 32 (a % 4294967296))
+            ∙ ap (λ h. byte_swap_of 32 (a % 4294967296) * 4294967296 + byte_swap_of 32 h) high ∙ reversed_halves a),
+      );
 }
 
 -- ══ The lower of two parts ══

@@ -216,6 +216,9 @@ lower_unmerge_sound x flags width further some = record {
       let single : 1 * width ≡ width = omega arith in
       unmerge_runs x names w bits width whole further env 2 1 (RootMay (operation_on_values x names w (lower_unmerge flags width further).root) (lower_unmerge flags width further).results ((bits, whole) ∷ []))
       refl refl some (omega arith)
-      (λ more there. (refl, there (λ us. MayGive (Exactly (parts_of (width ∷ widths) whole)) (wrapped width whole ∷ us))
-      (subst (λ (k : ℕ). MayGive (Exactly (parts_of (width ∷ widths) whole)) (wrapped width whole ∷ parts_of widths (whole / 2 ^ k))) (sym single) (are_equal (parts_of (width ∷ widths) whole)))));
+      (λ more there. (
+        refl,
+        there (λ us. MayGive (Exactly (parts_of (width ∷ widths) whole)) (wrapped width whole ∷ us))
+            (subst (λ (k : ℕ). MayGive (Exactly (parts_of (width ∷ widths) whole)) (wrapped width whole ∷ parts_of widths (whole / 2 ^ k))) (sym single) (are_equal (parts_of (width ∷ widths) whole))),
+      ));
 }
