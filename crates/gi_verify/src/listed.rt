@@ -4,6 +4,7 @@ ghost use Rattle.std.specs.Prelude.{◌≡◌, ◌∷◌, ◌++◌, ◌<◌, ◌
 ghost use Rattle.std.specs.BTreeMap.{get};
 ghost use Rattle.std.specs.Ordering.{nat_cmp};
 ghost use Rattle.gi_meaning.specs.Runs.{is_among};
+ghost use Rattle.gi_verify.specs.Rounds.{place_of};
 
 use gi_llt::Memory;
 use std::alloc::Global;
@@ -79,6 +80,13 @@ impl Listed {
         ensures { result ≡ length self.now }
     {
         self.order.len()
+    }
+
+    /// The place of a number.
+    pub(crate) fn place(&self, k: u32) -> Option<usize>
+        ensures { result ≡ place_of self.now k }
+    {
+        self.set.get_index_of(&k)
     }
 
     /// The number at a place.

@@ -8,6 +8,7 @@ ghost use Rattle.gi_verify.specs.Sets.{AreAllFaults};
 
 use crate::definitions::push_double;
 use crate::lowest::of_lowest_line;
+use crate::noting::with_cover;
 use crate::predecessors::{has_way_back, predecessors_of};
 use crate::reached::reached;
 use crate::settled::order_of;
@@ -37,7 +38,8 @@ fn faults_of(
 {
     let reached = reached(alloc, function)?;
     let predecessors = predecessors_of(alloc, function)?;
-    let order = order_of(alloc, function, reached.as_slice(), &predecessors)?;
+    let settled = order_of(alloc, function, reached.as_slice(), &predecessors)?;
+    let order = with_cover(alloc, function, settled, reached.as_slice())?;
     let way_back = has_way_back(function, &predecessors);
     let mut all = Vec::new(alloc);
     push_double(alloc, function, &mut all)?;
