@@ -1,10 +1,8 @@
 -- What the front of a block makes of the registers of a round, one instruction after the other.
 use Rattle.std.proofs.Common.{◌≡◌, ℕ, ◌+◌, ◌<◌, Bool, true, false, cond, not, ◌&&◌, ◌||◌, ◌==◌, List, [], ◌∷◌, ◌++◌, Option, Some, None, length, take, get_or, inl, inr, ⊎_elim, refl, sym, ap, ap₂, ◌∙◌, subst, true≢false, add-one, take-suc, append-nil}
-use Rattle.std.specs.Prelude.{position, nat_eq}
 use Rattle.std.specs.List.{list_all, list_any}
 use Rattle.std.specs.Option.{option_map_or}
 use Rattle.std.proofs.lemmas.Bool.{or_cases, or_left, or_right, and_parts, and_from, eqb-true, eq-eqb}
-use Rattle.std.proofs.lemmas.List.Quantifiers.{position-Some}
 use Rattle.gi_mir.specs.Data.{InstrData}
 use Rattle.gi_mir.specs.Edit.{is_def_of, defines}
 use Rattle.gi_mir.specs.declared.operand.Operand.{Operand}
@@ -13,15 +11,17 @@ use Rattle.gi_meaning.specs.Runs.{is_phi, phis_of, after_phis}
 use Rattle.gi_valid.specs.Available.{is_origin, defines_origin, at_once, one_by_one, behind}
 use Rattle.gi_verify.specs.declared.change.Change.{Change}
 use Rattle.gi_verify.specs.declared.seen.Seen.{Seen}
-use Rattle.gi_verify.specs.Rounds.{has, is_named, is_taken, place_of, IsChange, IsSeen, IsWordOf, RoundData}
+use Rattle.gi_verify.specs.Rounds.{has, is_named, is_taken, IsChange, IsSeen, IsWordOf, RoundData}
+use Rattle.gi_verify.specs.Sets.{place_of}
+use Rattle.gi_verify.proofs.Listing.{place_is}
 use Rattle.gi_verify.proofs.Passing.{all_with, any_with, or_nothing}
 
 -- ══ Registers of a round ══
 
 -- two of one place are one
-named_at : (keys : List ℕ) (i x : ℕ) (o : Option ℕ) → position (nat_eq x) keys ≡ o → option_map_or (λ j. j == i) o false ≡ true → x ≡ get_or keys i 0
+named_at : (keys : List ℕ) (i x : ℕ) (o : Option ℕ) → place_of keys x ≡ o → option_map_or (λ j. j == i) o false ≡ true → x ≡ get_or keys i 0
 named_at keys i x None at h = cc
-named_at keys i x (Some j) at h = subst (λ n. x ≡ get_or keys n 0) (eqb-true j i h) (eqb-true x (get_or keys j 0) (position-Some (nat_eq x) keys j 0 at).1)
+named_at keys i x (Some j) at h = subst (λ n. x ≡ get_or keys n 0) (eqb-true j i h) (place_is keys x j at)
 
 pub one_named : (round : RoundData) (n x y : ℕ) → is_named round n x ≡ true → is_named round n y ≡ true → x ≡ y
 one_named round n x y h g = named_at round.keys (round.first + n) x (place_of round.keys x) refl h ∙ sym (named_at round.keys (round.first + n) y (place_of round.keys y) refl g)

@@ -9,9 +9,9 @@ use Rattle.gi_mir.specs.Places.{body_at}
 use Rattle.gi_meaning.specs.Runs.{entry_of, is_phi}
 use Rattle.gi_valid.proofs.Existing.{within_or_past}
 use Rattle.std.proofs.lemmas.List.{get_or_past}
-use Rattle.gi_verify.specs.Rounds.{is_before, is_named, place_of, AreSureOf, CoverData, IsCovered, IsCoveredEntry, IsCoverOf, IsShrunk, IsSure, RoundData}
+use Rattle.gi_verify.specs.Rounds.{is_before, is_named, AreSureOf, CoverData, IsCovered, IsCoveredEntry, IsCoverOf, IsShrunk, IsSure, RoundData}
 use Rattle.gi_verify.specs.Settled.{IsPlaced}
-use Rattle.gi_verify.specs.Sets.{marked, IsAnswer}
+use Rattle.gi_verify.specs.Sets.{marked, place_of, IsAnswer}
 
 pub in_block : (f : FunctionData) (b k : ℕ) (p : ℕ × InstrData) → slice_get (body_at f.blocks b).instrs k ≡ Some p → b < length f.blocks
 in_block f b k p at = ⊎_elim (λ l. l) (λ past. absurd (nothing (ap (λ block. slice_get block.instrs k) (sym (get_or_past f.blocks b empty_block past)) ∙ at))) (within_or_past b (length f.blocks))

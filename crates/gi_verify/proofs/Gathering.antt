@@ -44,9 +44,6 @@ over_one round p old new is_computed change same one front before = record {
       ⊎_elim (λ was. before.computed both.0 k q was) (λ last. subst (IsComputedAt round) (sym last.1) both.1) (got_last front p q k at);
 }
 
-pub over_next : (round : RoundData) (instrs : List (ℕ × InstrData)) (k : ℕ) (n : ℕ × InstrData) → k < length instrs → n ≡ get_or instrs k n → (block : Block) → IsPassedOver round (take k instrs ++ n ∷ []) block → IsPassedOver round (take (k + 1) instrs) block
-over_next round instrs k n within is block one = subst (λ l. IsPassedOver round l block) (ap (λ i. take k instrs ++ i ∷ []) is ∙ sym (ap (λ j. take j instrs) (add-one k) ∙ take-suc instrs k n within)) one
-
 pub over_all : (round : RoundData) (instrs : List (ℕ × InstrData)) (k : ℕ) → length instrs ≤ k → (block : Block) → IsPassedOver round (take k instrs) block → IsPassedOver round instrs block
 over_all round instrs k past block are = subst (λ l. IsPassedOver round l block) (take_all k instrs past) are
 

@@ -99,14 +99,13 @@ shrunk_none marks = record { by = λ k h. h }
 pub shrunk_then : (a b c : List Bool) → IsShrunk a b → IsShrunk b c → IsShrunk a c
 shrunk_then a b c first then = record { by = λ k h. first.by k (then.by k h) }
 
-pub sure_in_on : (f : FunctionData) (round : RoundData) (b k : ℕ) (old new : List Bool) (q d : ℕ × InstrData) (change : Change) → q ≡ get_or (body_at f.blocks b).instrs k d → AreSureTo f round old b k → IsShrunk old new
+pub sure_in_on : (f : FunctionData) (round : RoundData) (b k : ℕ) (old new : List Bool) (q : ℕ × InstrData) (change : Change) → slice_get (body_at f.blocks b).instrs k ≡ Some q → AreSureTo f round old b k → IsShrunk old new
     → (marked new q.0 ≡ true → (front : List (ℕ × InstrData)) → IsChange round front change → IsSure f round b front q) → IsChange round (take k (body_at f.blocks b).instrs) change → AreSureTo f round new b (k + 1)
-sure_in_on f round b k old new q d change is are shrunk one changed = record {
+sure_in_on f round b k old new q change here are shrunk one changed = record {
   by = λ j p h at mark.
       ⊎_elim (λ below. are.by j p below at (shrunk.by p.0 mark))
       (λ same.
-      let here : slice_get (body_at f.blocks b).instrs k ≡ Some p = ap (slice_get (body_at f.blocks b).instrs) (sym same) ∙ at in
-      let it : q ≡ p = is ∙ same_Some (get_or (body_at f.blocks b).instrs k d) p (sym (slice_get-get_or (body_at f.blocks b).instrs k d (place_within (body_at f.blocks b).instrs k p here)) ∙ here) in
+      let it : q ≡ p = same_Some q p (sym here ∙ ap (slice_get (body_at f.blocks b).instrs) (sym same) ∙ at) in
       subst (λ i. IsSure f round b (take i (body_at f.blocks b).instrs) p) (sym same)
       (subst (IsSure f round b (take k (body_at f.blocks b).instrs)) it (one (subst (λ (i : ℕ × InstrData). marked new i.0 ≡ true) (sym it) mark) (take k (body_at f.blocks b).instrs) changed)))
       (below_next j k h);

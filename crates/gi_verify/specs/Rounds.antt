@@ -1,5 +1,5 @@
 -- Rounds of 64 registers: words say of each of them what an instruction, a block or another register has to do with it.
-use Rattle.std.specs.Prelude.{◌≡◌, ℕ, ◌<◌, ◌+◌, Bool, true, false, not, ◌&&◌, ◌||◌, ◌==◌, List, Option, Some, get_or, slice_get, take, drop, length, nat_eq, nat_lt, position}
+use Rattle.std.specs.Prelude.{◌≡◌, ℕ, ◌<◌, ◌+◌, Bool, true, false, not, ◌&&◌, ◌||◌, ◌==◌, List, Option, Some, get_or, slice_get, take, drop, length, nat_lt}
 use Rattle.std.specs.List.{list_all, list_any}
 use Rattle.std.specs.Option.{option_map_or}
 use Rattle.std.specs.Int.{bit_at}
@@ -14,7 +14,7 @@ use Rattle.gi_valid.specs.Definitions.{is_pure}
 use Rattle.gi_verify.specs.declared.seen.Seen.{Seen}
 use Rattle.gi_verify.specs.declared.change.Change.{Change}
 use Rattle.gi_verify.specs.declared.rounds.Block.{Block}
-use Rattle.gi_verify.specs.Sets.{marked, IsAnswer, IsMarkedIn}
+use Rattle.gi_verify.specs.Sets.{marked, place_of, IsAnswer, IsMarkedIn}
 
 -- ══ Words ══
 
@@ -33,9 +33,6 @@ pub record RoundData : Type 0 where
   pub keys : List ℕ
   pub first : ℕ
   pub origins : List ℕ
-
-abbrev pub place_of : List ℕ → ℕ → Option ℕ
-place_of keys x = position (nat_eq x) keys
 
 -- a register stands at a place of the round
 abbrev pub is_named : RoundData → (n x : ℕ) → Bool

@@ -4,7 +4,7 @@ ghost use Rattle.std.specs.Prelude.{◌≡◌, ◌∷◌, ◌++◌, ◌<◌, ◌
 ghost use Rattle.std.specs.BTreeMap.{get};
 ghost use Rattle.std.specs.Ordering.{nat_cmp};
 ghost use Rattle.gi_meaning.specs.Runs.{is_among};
-ghost use Rattle.gi_verify.specs.Rounds.{place_of};
+ghost use Rattle.gi_verify.specs.Sets.{place_of};
 
 use gi_llt::Memory;
 use std::alloc::Global;
@@ -52,6 +52,7 @@ impl Listed {
     }
 
     /// Whether a number is in the list.
+    #[tactic(auto, using(crate::proofs::Listing::place_there))]
     pub(crate) fn has(&self, k: u32) -> bool
         ensures { result ≡ is_among k self.now }
     {
@@ -86,7 +87,7 @@ impl Listed {
     pub(crate) fn place(&self, k: u32) -> Option<usize>
         ensures { result ≡ place_of self.now k }
     {
-        self.set.get_index_of(&k)
+        self.places.get(&k).copied()
     }
 
     /// The number at a place.

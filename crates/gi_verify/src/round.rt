@@ -2,7 +2,8 @@
 
 ghost use Rattle.std.specs.Prelude.{◌≡◌, ◌<◌, ◌≤◌, ◌+◌, ◌==◌, ℕ, Bool, false, Some, get_or};
 ghost use Rattle.std.specs.Option.{option_map_or};
-ghost use Rattle.gi_verify.specs.Rounds.{IsWordOf, has, is_named, is_taken, place_of};
+ghost use Rattle.gi_verify.specs.Rounds.{IsWordOf, has, is_named, is_taken};
+ghost use Rattle.gi_verify.specs.Sets.{place_of};
 
 use crate::listed::Listed;
 use crate::words::{WIDTH, one, word_at};

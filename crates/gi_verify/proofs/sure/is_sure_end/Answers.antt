@@ -1,4 +1,4 @@
-use Rattle.std.proofs.Common.{refl, arith}
+use Rattle.std.proofs.Common.{refl, arith, rules}
 use Rattle.gi_verify.proofs.Using.{sure_end}
 use Rattle.gi_verify.proofs.sure.is_sure_end.Goals as goal
 
