@@ -8,7 +8,7 @@ use Rattle.std.proofs.lemmas.Option.{same_Some}
 use Rattle.gi_meaning.specs.Runs.{is_among}
 use Rattle.gi_verify.specs.Sets.{place_of, HasPlaces}
 
-pub place_there : (xs : List ℕ) (k : ℕ) → is_some (place_of xs k) ≡ is_among k xs
+place_there : (xs : List ℕ) (k : ℕ) → is_some (place_of xs k) ≡ is_among k xs
 place_there [] k = refl
 place_there (x ∷ xs) k = by (k == x) (place_of xs k) (place_there xs k)
   where
@@ -25,6 +25,9 @@ place_is (x ∷ xs) k i h = by (k == x) (place_of xs k) refl i h (λ j is. place
     by true o so i h rest = eqb-true k x so ∙ ap (λ j. get_or (x ∷ xs) j 0) (same_Some 0 i h)
     by false None so i h rest = cc
     by false (Some j) so i h rest = rest j refl ∙ ap (λ l. get_or (x ∷ xs) l 0) (same_Some (suc j) i h)
+
+pub has_place : (places : BTreeMap ℕ ℕ) (order : List ℕ) → HasPlaces places order → (k : ℕ) → is_some (get nat_cmp places k) ≡ is_among k order
+has_place places order are k = ap is_some (are.at k) ∙ place_there order k
 
 place_last : (xs : List ℕ) (k : ℕ) → is_among k xs ≡ false → place_of (xs ++ k ∷ []) k ≡ Some (length xs)
 place_last [] k h = ap (λ t. cond t (Some 0) None) (eq-eqb k k refl)

@@ -52,7 +52,7 @@ impl Listed {
     }
 
     /// Whether a number is in the list.
-    #[tactic(auto, using(crate::proofs::Listing::place_there))]
+    #[tactic(auto, using(crate::proofs::Listing::has_place))]
     pub(crate) fn has(&self, k: u32) -> bool
         ensures { result ≡ is_among k self.now }
     {

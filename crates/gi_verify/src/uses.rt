@@ -13,8 +13,8 @@ ghost use Rattle.gi_valid.specs.Faults as faults;
 ghost use Rattle.gi_valid.specs.Valid.{IsGreatest};
 ghost use Rattle.gi_valid.specs.declared.invalid.Invalid.TheVariants as Invalid;
 ghost use Rattle.gi_verify.specs.Masks.{IsMaskOf};
-ghost use Rattle.gi_verify.specs.Rounds.{IsCoveredEntry};
-ghost use Rattle.gi_verify.specs.Sets.{AreReachedBlocks, IsAnswer, IsMissing, IsThere};
+ghost use Rattle.gi_verify.specs.Rounds.{IsCoveredEntry, is_before};
+ghost use Rattle.gi_verify.specs.Sets.{AreReachedBlocks, IsAnswer, IsMissing, IsThere, marked};
 ghost use Rattle.gi_verify.specs.Settled.{IsOrderOf, IsPlaced};
 ghost use Rattle.gi_mir.specs.Instrs.{left};
 
@@ -67,6 +67,14 @@ fn is_within(function: &Function, order: &Order, r: u32, b: u32) -> bool
     comes_within(function, order, r, b)
 }
 
+/// Whether an instruction is marked, and a register was looked at in a round.
+fn covers(order: &Order, r: u32, id: InstrId) -> bool
+    ensures known { result ≡ true → is_before order.now.cover.keys order.now.cover.limit r ≡ true }
+    ensures fine { result ≡ true → marked order.now.cover.fine id.0 ≡ true }
+{
+    order.cover.covers(r, id)
+}
+
 /// Whether a register that an instruction uses, and that isn't of a phi, is found to be available in a round.
 fn is_covered(
     function: &Function,
@@ -84,8 +92,7 @@ fn is_covered(
 {
     let _ = function;
     let _ = front;
-    let id = id_of(numbered);
-    order.cover.covers(r, id)
+    covers(order, r, id_of(numbered))
 }
 
 /// Whether what an operand uses is available.
@@ -223,7 +230,7 @@ fn is_covered_entry(function: &Function, order: &Order, phi: InstrId, r: u32, b:
 {
     let _ = function;
     let _ = b;
-    order.cover.covers(r, phi)
+    covers(order, r, phi)
 }
 
 /// Whether a register is available at the end of a block.
