@@ -81,6 +81,10 @@ changes_on f round old new b block are one computed grown = record {
   computed = λ a k p h at. ⊎_elim (λ below. are.computed a k p below at) (λ same. one.computed computed k p (ap (λ n. slice_get (body_at f.blocks n).instrs k) (sym same) ∙ at)) (below_next a b h);
 }
 
+pub not_out : (t : Bool) → not t ≡ false → t ≡ true
+not_out true h = refl
+not_out false h = absurd (true≢false h)
+
 pub all_changes : (f : FunctionData) (round : RoundData) (changes : List Change) (b : ℕ) → b ≡ length f.blocks → AreChangesTo f round changes b → ((a k : ℕ) (p : ℕ × InstrData) → slice_get (body_at f.blocks a).instrs k ≡ Some p → a < length f.blocks) → AreChanges f round changes
 all_changes f round changes b whole are within = record { count = are.count ∙ whole; by = are.by; computed = λ a k p at. are.computed a k p (subst (λ n. a < n) (sym whole) (within a k p at)) at }
 

@@ -8,7 +8,7 @@ use Rattle.std.proofs.lemmas.Option.{same_Some}
 use Rattle.gi_meaning.specs.Runs.{is_among}
 use Rattle.gi_verify.specs.Sets.{place_of, HasPlaces}
 
-place_there : (xs : List ℕ) (k : ℕ) → is_some (place_of xs k) ≡ is_among k xs
+pub place_there : (xs : List ℕ) (k : ℕ) → is_some (place_of xs k) ≡ is_among k xs
 place_there [] k = refl
 place_there (x ∷ xs) k = by (k == x) (place_of xs k) (place_there xs k)
   where
@@ -25,9 +25,6 @@ place_is (x ∷ xs) k i h = by (k == x) (place_of xs k) refl i h (λ j is. place
     by true o so i h rest = eqb-true k x so ∙ ap (λ j. get_or (x ∷ xs) j 0) (same_Some 0 i h)
     by false None so i h rest = cc
     by false (Some j) so i h rest = rest j refl ∙ ap (λ l. get_or (x ∷ xs) l 0) (same_Some (suc j) i h)
-
-pub has_place : (places : BTreeMap ℕ ℕ) (order : List ℕ) → HasPlaces places order → (k : ℕ) → is_some (get nat_cmp places k) ≡ is_among k order
-has_place places order are k = ap is_some (are.at k) ∙ place_there order k
 
 place_last : (xs : List ℕ) (k : ℕ) → is_among k xs ≡ false → place_of (xs ++ k ∷ []) k ≡ Some (length xs)
 place_last [] k h = ap (λ t. cond t (Some 0) None) (eq-eqb k k refl)
@@ -50,3 +47,18 @@ noted_last old new order more k are absent noted grown = record { at = λ q. not
 
 pub noted_same : (old new : BTreeMap ℕ ℕ) (order : List ℕ) → HasPlaces old order → ((q : ℕ) → get nat_cmp new q ≡ get nat_cmp old q) → HasPlaces new order
 noted_same old new order are same = record { at = λ q. same q ∙ are.at q }
+
+place_absent : (xs : List ℕ) (k : ℕ) → is_among k xs ≡ false → place_of xs k ≡ None
+place_absent xs k h = by (place_of xs k) (place_there xs k ∙ h)
+  where
+    by : (o : Option ℕ) → is_some o ≡ false → o ≡ None
+    by None l = refl
+    by (Some i) l = absurd (true≢false l)
+
+pub noted_not : (old mid new : BTreeMap ℕ ℕ) (order more : List ℕ) (k place : ℕ) → HasPlaces old order → is_among k order ≡ false → ((q : ℕ) → get nat_cmp mid q ≡ (if k == q then Some place else get nat_cmp old q))
+    → ((q : ℕ) → get nat_cmp new q ≡ (if k == q then None else get nat_cmp mid q)) → more ≡ order → HasPlaces new more
+noted_not old mid new order more k place are absent noted forgot same = record { at = λ q. forgot q ∙ ap (λ o. if k == q then None else o) (noted q) ∙ by q (k == q) refl ∙ sym (ap (λ l. place_of l q) same) }
+  where
+    by : (q : ℕ) (t : Bool) → k == q ≡ t → (if t then None else (if t then Some place else get nat_cmp old q)) ≡ place_of order q
+    by q true h = sym (subst (λ n. place_of order n ≡ None) (eqb-true k q h) (place_absent order k absent))
+    by q false h = are.at q

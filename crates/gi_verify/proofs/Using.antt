@@ -68,15 +68,15 @@ sure_use f round starts closed b within p seen are other change there word insid
 pub sure_phi : (f : FunctionData) (round : RoundData) (b : ℕ) (p : ℕ × InstrData) → is_phi p.1 ≡ true → AreSureEntries f round p.1.operands → (front : List (ℕ × InstrData)) → IsSure f round b front p
 sure_phi f round b p phi are front = record { body = λ other. absurd (true≢false (sym phi ∙ other)); entries = λ l. are }
 
-pub sure_end : (f : FunctionData) (round : RoundData) (changes : List Change) (starts : List ℕ) → AreChanges f round changes → IsClosed f round starts → (r a : ℕ) → a < length f.blocks → (change d : Change) → change ≡ get_or changes a d → (named end : ℕ)
-    → IsWordOf (λ n. has change.made n || (has (get_or starts a 0) n && has change.kept n)) end → IsWordOf (λ n. is_named round n r) named → ((n : ℕ) → n < 64 → has named n ≡ true → has end n ≡ true) → IsSureEntry f round (Some (r, a))
-sure_end f round changes starts are closed r a within change d is named end word own inside = record {
+pub sure_end : (f : FunctionData) (round : RoundData) (changes : List Change) (starts : List ℕ) → AreChanges f round changes → IsClosed f round starts → (r a : ℕ) → a < length f.blocks → (change d : Change) → change ≡ get_or changes a d → (named start end : ℕ) → start ≡ get_or starts a 0
+    → IsWordOf (λ n. has change.made n || (has start n && has change.kept n)) end → IsWordOf (λ n. is_named round n r) named → ((n : ℕ) → n < 64 → has named n ≡ true → has end n ≡ true) → IsSureEntry f round (Some (r, a))
+sure_end f round changes starts are closed r a within change d is named start end from word own inside = record {
   by = λ n x c h place entry inside_c.
       let same : (r, a) ≡ (x, c) = same_Some (r, a) (x, c) entry in
       let here : slice_get changes a ≡ Some change = slice_get-get_or changes a d (subst (λ k. a < k) (sym are.count) within) ∙ ap Some (sym is) in
       let mine : is_named round n r ≡ true = subst (λ y. is_named round n y ≡ true) (sym (ap (λ e. e.0) same)) place in
       subst (λ (e : ℕ × ℕ). IsAnswer f e.0 e.1 (body_at f.blocks e.1).instrs true) same
-      (answer f round starts closed n r h mine a within (body_at f.blocks a).instrs change (are.by a change here) (sym (word.by n h) ∙ inside n h (own.by n h ∙ mine)));
+      (answer f round starts closed n r h mine a within (body_at f.blocks a).instrs change (are.by a change here) (ap (λ w. has change.made n || (has w n && has change.kept n)) (sym from) ∙ sym (word.by n h) ∙ inside n h (own.by n h ∙ mine)));
 }
 
 pub sure_past : (f : FunctionData) (round : RoundData) (r a : ℕ) → length f.blocks ≤ a → IsSureEntry f round (Some (r, a))
