@@ -1,23 +1,18 @@
 -- The sets of a round's registers are contained as asked.
-use Rattle.std.proofs.Common.{◌≡◌, ℕ, zero, suc, ◌+◌, ◌<◌, ◌≤◌, Bool, true, false, not, ◌&&◌, ◌||◌, ◌==◌, List, [], ◌∷◌, ◌++◌, find, Option, Some, None, length, take, get_or, ◌⊎◌, inl, inr, ⊎_elim, refl, sym, ap, ap₂, ◌∙◌, subst, true≢false, arith, cond}
+use Rattle.std.proofs.Common.{◌≡◌, ℕ, zero, suc, ◌<◌, ◌≤◌, Bool, true, false, not, ◌&&◌, ◌||◌, List, [], ◌∷◌, Option, Some, None, length, get_or, ◌⊎◌, inl, inr, ⊎_elim, refl, sym, ap, ◌∙◌, subst, true≢false, arith, cond}
 use Rattle.std.specs.Prelude.{slice_get}
 use Rattle.std.specs.List.{list_any}
-use Rattle.std.proofs.lemmas.Bool.{or_cases, or_left, or_right, and_parts, and_from}
+use Rattle.std.proofs.lemmas.Bool.{or_cases, or_left, or_right, and_parts}
 use Rattle.std.proofs.lemmas.List.{get_or_past}
 use Rattle.gi_mir.specs.Data.{InstrData, FunctionData}
-use Rattle.gi_mir.specs.Edit.{all_instrs, defines, uses as use_of}
-use Rattle.gi_mir.specs.Places.{body_at}
-use Rattle.gi_mir.specs.declared.operand.Operand.{Operand}
-use Rattle.gi_mir.specs.declared.operand.Operand.TheVariants as operand
-use Rattle.gi_meaning.specs.Runs.{is_among, is_phi, phis_of, after_phis}
-use Rattle.gi_valid.specs.Available.{defines_origin, Extent, IsExtent, IsReachedBlock, is_origin, at_once, one_by_one, behind, successors_of, IsDefinedInReach}
-use Rattle.gi_valid.specs.Definitions.{definition, is_pure, uses_purely, IsComputedOver, IsComputedFrom}
-use Rattle.gi_valid.specs.Valid.{IsGreatest}
+use Rattle.gi_mir.specs.Edit.{defines, uses as use_of}
+use Rattle.gi_meaning.specs.Runs.{is_phi, phis_of, after_phis}
+use Rattle.gi_valid.specs.Available.{defines_origin, IsReachedBlock, at_once, one_by_one, behind, IsDefinedInReach}
+use Rattle.gi_valid.specs.Definitions.{definition, is_pure, uses_purely, IsComputedOver}
 use Rattle.gi_valid.proofs.Existing.{source_within, within_or_past}
 use Rattle.gi_valid.proofs.Greatest.{more_behind}
 use Rattle.gi_verify.specs.declared.change.Change.{Change}
-use Rattle.gi_verify.specs.declared.seen.Seen.{Seen}
-use Rattle.gi_verify.specs.Rounds.{has, is_named, is_taken, is_user, extent_of, AreChanges, AreMadeInReach, AreWithin, IsApartAt, IsChange, IsClosed, IsComputedAt, IsJoinedAt, IsSeen, IsSure, IsWordOf, RoundData}
+use Rattle.gi_verify.specs.Rounds.{has, is_named, is_taken, extent_of, AreChanges, AreMadeInReach, IsApartAt, IsChange, IsClosed, IsJoinedAt, RoundData}
 use Rattle.gi_verify.specs.Sets.{marked, AreReachedBlocks, IsAnswer, IsMarkedIn}
 use Rattle.gi_verify.proofs.Bits.{none_in}
 use Rattle.gi_verify.proofs.Sooner.{IsFoundIn, found_in}

@@ -1,16 +1,16 @@
 -- Blocks of a round, one after the other.
-use Rattle.std.proofs.Common.{◌≡◌, ℕ, zero, suc, ◌+◌, ◌<◌, ◌≤◌, Bool, true, false, not, ◌&&◌, ◌||◌, ◌==◌, List, [], ◌∷◌, ◌++◌, Option, Some, None, length, take, get_or, ◌⊎◌, inl, inr, ⊎_elim, refl, sym, ap, ap₂, ◌∙◌, subst, true≢false, arith, add-one, take-suc, take_all, append-nil}
+use Rattle.std.proofs.Common.{◌≡◌, ℕ, zero, suc, ◌+◌, ◌<◌, ◌≤◌, Bool, true, false, not, ◌&&◌, ◌||◌, ◌==◌, List, [], ◌∷◌, ◌++◌, Some, None, length, take, get_or, ◌⊎◌, inl, inr, ⊎_elim, refl, sym, ap, ◌∙◌, subst, true≢false, arith, take_all}
 use Rattle.std.specs.Prelude.{slice_get}
-use Rattle.std.proofs.lemmas.Bool.{or_cases, and_parts, eqb-true}
+use Rattle.std.proofs.lemmas.Bool.{or_cases, eqb-true}
 use Rattle.std.proofs.lemmas.Option.{same_Some, slice_get-get_or}
 use Rattle.gi_mir.specs.Data.{InstrData, FunctionData}
 use Rattle.gi_mir.specs.Places.{body_at}
 use Rattle.gi_meaning.specs.Runs.{is_among}
-use Rattle.gi_valid.specs.Available.{successors_of, behind}
+use Rattle.gi_valid.specs.Available.{successors_of}
 use Rattle.gi_verify.specs.declared.change.Change.{Change}
 use Rattle.gi_verify.specs.declared.rounds.Block.{Block}
-use Rattle.gi_verify.specs.Rounds.{has, is_named, is_taken, AreChanges, AreMadeInReach, AreWithin, IsApartAt, IsChange, IsComputedAt, IsJoinedAt, IsPassedOver, IsWordOf, RoundData}
-use Rattle.gi_verify.specs.Sets.{marked, IsMarkedIn}
+use Rattle.gi_verify.specs.Rounds.{has, is_taken, AreChanges, AreMadeInReach, AreWithin, IsApartAt, IsChange, IsComputedAt, IsJoinedAt, IsPassedOver, IsWordOf, RoundData}
+use Rattle.gi_verify.specs.Sets.{marked}
 use Rattle.gi_verify.proofs.Bits.{none_in}
 use Rattle.gi_verify.proofs.Closing.{behind_made}
 use Rattle.gi_verify.proofs.Growing.{among_more}
@@ -125,7 +125,9 @@ made_on f round reached changes all a within mark change d is old new are one = 
       (λ here.
       let at : slice_get changes a ≡ Some change = slice_get-get_or changes a d (subst (λ k. a < k) (sym all.count) within) ∙ ap Some (sym is) in
       record {
-        block = a; within = within; is_marked = mark;
+        block = a;
+        within = within;
+        is_marked = mark;
         defined = behind_made r (is_taken round n) (body_at f.blocks a).instrs ((all.by a change at).by n r h named false (ap (λ t. t || false) here));
       })
       (or_cases (has old n) (has change.made n) (sym (one.by n h) ∙ l));

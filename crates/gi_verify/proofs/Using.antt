@@ -1,11 +1,11 @@
 -- What instructions use of the registers of a round.
-use Rattle.std.proofs.Common.{◌≡◌, ℕ, zero, suc, ◌+◌, ◌<◌, ◌≤◌, Bool, true, false, not, ◌&&◌, ◌||◌, ◌==◌, List, [], ◌∷◌, ◌++◌, Option, Some, None, length, take, drop, get_or, ◌⊎◌, inl, inr, ⊎_elim, refl, sym, ap, ap₂, ◌∙◌, subst, true≢false, arith}
+use Rattle.std.proofs.Common.{◌≡◌, ℕ, ◌+◌, ◌<◌, ◌≤◌, Bool, true, false, not, ◌&&◌, ◌||◌, ◌==◌, List, [], ◌∷◌, Some, None, length, take, get_or, ⊎_elim, refl, sym, ap, ◌∙◌, subst, true≢false, arith}
 use Rattle.std.specs.Prelude.{slice_get}
 use Rattle.std.specs.List.{list_any}
-use Rattle.std.proofs.lemmas.Bool.{or_cases, or_left, or_right, and_from, eqb-true}
+use Rattle.std.proofs.lemmas.Bool.{or_cases, or_left, or_right, eqb-true}
 use Rattle.std.proofs.lemmas.Option.{same_Some, slice_get-get_or}
 use Rattle.gi_mir.specs.Data.{InstrData, FunctionData}
-use Rattle.gi_mir.specs.Edit.{is_def_of, is_use_of, uses}
+use Rattle.gi_mir.specs.Edit.{is_def_of, is_use_of}
 use Rattle.gi_mir.specs.Places.{body_at}
 use Rattle.gi_mir.specs.declared.operand.Operand.{Operand}
 use Rattle.gi_mir.specs.declared.operand.Operand.TheVariants as operand
@@ -16,7 +16,6 @@ use Rattle.gi_verify.specs.declared.change.Change.{Change}
 use Rattle.gi_verify.specs.declared.seen.Seen.{Seen}
 use Rattle.gi_verify.specs.Rounds.{has, is_named, is_taken, is_user, AreChanges, AreSureEntries, AreSureIn, AreSureOf, AreSureTo, IsChange, IsClosed, IsComputedAt, IsSeen, IsShrunk, IsSure, IsSureEntry, IsWordOf, RoundData}
 use Rattle.gi_verify.specs.Sets.{marked, IsAnswer}
-use Rattle.gi_verify.proofs.Bits.{none_in}
 use Rattle.gi_verify.proofs.Closing.{answer}
 use Rattle.gi_verify.proofs.Marking.{below_next}
 use Rattle.gi_verify.proofs.Ordering.{place_within}

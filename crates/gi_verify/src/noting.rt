@@ -1,6 +1,6 @@
 //! Registers that are used where they aren't settled.
 
-ghost use Rattle.std.specs.Prelude.{◌≡◌, IfOk};
+ghost use Rattle.std.specs.Prelude.{IfOk};
 ghost use Rattle.gi_verify.specs.Sets.{AreReachedBlocks};
 ghost use Rattle.gi_verify.specs.Settled.{IsOrderOf};
 

@@ -1,9 +1,7 @@
 //! A round of 64 registers: a bit for each in a word.
 
-ghost use Rattle.std.specs.Prelude.{◌≡◌, ◌<◌, ◌≤◌, ◌+◌, ◌==◌, ℕ, Bool, false, Some, get_or};
-ghost use Rattle.std.specs.Option.{option_map_or};
+ghost use Rattle.std.specs.Prelude.{◌<◌, ◌+◌, ◌==◌, Some, get_or};
 ghost use Rattle.gi_verify.specs.Rounds.{IsWordOf, has, is_named, is_taken};
-ghost use Rattle.gi_verify.specs.Sets.{place_of};
 
 use crate::listed::Listed;
 use crate::words::{WIDTH, one, word_at};

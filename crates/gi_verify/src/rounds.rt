@@ -184,12 +184,7 @@ fn made_with(
 
 /// What is made in reached blocks.
 #[tactic(auto, using(crate::proofs::Gathering::made_none))]
-fn made_in_reach(
-    round: &Round,
-    function: &Function,
-    reached: &[bool],
-    changes: &[Change],
-) -> u64
+fn made_in_reach(round: &Round, function: &Function, reached: &[bool], changes: &[Change]) -> u64
     requires reached { length reached.now ≡ length function.now.blocks }
     requires changes { AreChanges function.now round.now changes.now }
     ensures { AreMadeInReach function.now round.now reached.now result }

@@ -1,16 +1,13 @@
 //! Guesses for a round: which registers are computed from each, and where they are available at the start of blocks.
 //! Nothing rests on them: they are looked at once they stand.
 
-ghost use Rattle.std.specs.Prelude.{◌≡◌};
-ghost use Rattle.gi_verify.specs.Settled.{IsOrderOf};
-
 use crate::change::{Change, there_with};
 use crate::listed::Listed;
 use crate::operands::is_pure;
 use crate::words::{ALL, WIDTH, both, either, one, word_at};
 use gi_llt::Memory;
-use gi_mir::instrs::Instrs;
 use gi_mir::function::Function;
+use gi_mir::instrs::Instrs;
 use gi_mir::operand::{Operand, Reg};
 use std::alloc::Global;
 
@@ -79,7 +76,11 @@ fn push_sources(
 }
 
 /// Puts the place of a register that is defined behind those of others.
-fn push_definition(keys: &Listed, by_layout: &mut Vec<usize>, operand: Operand) -> Result<(), Memory> {
+fn push_definition(
+    keys: &Listed,
+    by_layout: &mut Vec<usize>,
+    operand: Operand,
+) -> Result<(), Memory> {
     if let Operand::Def(r, _) = operand {
         if let Some(place) = keys.place(r.0) {
             by_layout.push(place).map_err(|_| Memory)?;
@@ -151,7 +152,11 @@ fn tell_sources(
         return Ok(false);
     }
     let mut is_new = false;
-    let begin = if place == 0 { 0 } else { number_at(sources.ends.as_slice(), place - 1) };
+    let begin = if place == 0 {
+        0
+    } else {
+        number_at(sources.ends.as_slice(), place - 1)
+    };
     for k in begin..number_at(sources.ends.as_slice(), place) {
         let source = number_at(sources.places.as_slice(), k);
         let grown = either(word_at(spread.words.as_slice(), source), word);
@@ -230,11 +235,7 @@ fn made_in_reach(reached: &[bool], changes: &[Change]) -> u64 {
 }
 
 /// What may be available at the start of blocks, before what they lose is known.
-fn first_starts(
-    alloc: Global,
-    reached: &[bool],
-    changes: &[Change],
-) -> Result<Vec<u64>, Memory> {
+fn first_starts(alloc: Global, reached: &[bool], changes: &[Change]) -> Result<Vec<u64>, Memory> {
     let apart = made_in_reach(reached, changes);
     let mut starts = Vec::new(alloc);
     for b in 0..changes.len() {
@@ -262,7 +263,11 @@ fn lose_behind(
     is_again: bool,
 ) -> Result<(), Memory> {
     let place = a as usize;
-    if a < function.block_count() && place < changes.len() && place < reached.len() && reached[place] {
+    if a < function.block_count()
+        && place < changes.len()
+        && place < reached.len()
+        && reached[place]
+    {
         let end = there_with(changes[place], word_at(starts.words.as_slice(), place));
         for b in function.block(a).successors.as_slice() {
             let left = both(word_at(starts.words.as_slice(), *b as usize), end);

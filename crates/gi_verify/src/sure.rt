@@ -1,8 +1,7 @@
 //! Instructions whose uses are sure: what they use of the registers of a round is available.
 
-ghost use Rattle.std.specs.Prelude.{◌≡◌, ◌<◌, ℕ, List, Some, true, false, OnOk, IfOk, length, get_or, slice_get, take};
+ghost use Rattle.std.specs.Prelude.{◌≡◌, ◌<◌, ℕ, List, Some, true, false, OnOk, IfOk, length};
 ghost use Rattle.gi_mir.specs.Data.{InstrData};
-ghost use Rattle.gi_mir.specs.Edit.{block_at};
 ghost use Rattle.gi_meaning.specs.Runs.{is_phi};
 ghost use Rattle.gi_verify.specs.Rounds.{AreChanges, AreSureEntries, AreSureIn, AreSureOf, IsChange, IsClosed, IsSeen, IsShrunk, IsSure, IsSureEntry};
 ghost use Rattle.gi_verify.specs.Sets.{AreReachedBlocks, marked};
@@ -107,7 +106,13 @@ fn is_sure(
     ensures { result ≡ true → (front : List (ℕ × InstrData)) → IsChange round.now front change → IsSure function.now round.now b front numbered.now }
 {
     if is_phi(&numbered.instr) {
-        are_sure_entries(round, function, changes, starts, numbered.instr.operands.as_slice())
+        are_sure_entries(
+            round,
+            function,
+            changes,
+            starts,
+            numbered.instr.operands.as_slice(),
+        )
     } else {
         is_within(seen.used, there_with(change, word_at(starts, b as usize)))
     }
@@ -155,7 +160,9 @@ fn look_in(
     let mut change = unchanged(round);
     for numbered in function.instrs(b) {
         let seen = seen_at(round, numbered);
-        look_at(round, function, changes, starts, b, change, seen, numbered, fine);
+        look_at(
+            round, function, changes, starts, b, change, seen, numbered, fine,
+        );
         change = change_with(round, change, seen, numbered);
     }
 }

@@ -320,7 +320,14 @@ fn missing_entries(
     ensures { (extents : ℕ → Extent) → ((q : ℕ) → IsGreatest function.now q (extents q)) → IfOk result (λ found. found ≡ faults.missing_entries function.now extents operands.now) }
 {
     for k in 0..operands.len() {
-        let found = missing_entry(alloc, function, reached, order, phi, entry_of(&operands[k..]))?;
+        let found = missing_entry(
+            alloc,
+            function,
+            reached,
+            order,
+            phi,
+            entry_of(&operands[k..]),
+        )?;
         if found.is_some() {
             return Ok(found);
         }

@@ -1,4 +1,4 @@
-use Rattle.std.proofs.Common.{◌≡◌, ◌&&◌, false, ap, sym, ◌∙◌, rules}
+use Rattle.std.proofs.Common.{◌≡◌, ◌&&◌, false, rules}
 use Rattle.gi_meaning.specs.Runs.{is_phi}
 use Rattle.gi_verify.proofs.Changing.{other_changed, phi_changed}
 use Rattle.gi_verify.proofs.change.change_with.Goals.{else-change-via-then-change+else-is_phi, else-change-via-else-change}

@@ -1,4 +1,4 @@
-use Rattle.std.proofs.Common.{◌≡◌, ◌+◌, ℕ, List, [], take, refl, ap, sym, subst, ◌∙◌}
+use Rattle.std.proofs.Common.{◌+◌, ℕ, List, take, ap, sym, subst, ◌∙◌}
 use Rattle.gi_mir.specs.Data.{InstrData}
 use Rattle.gi_mir.specs.Edit.{block_at}
 use Rattle.gi_mir.specs.Instrs.{left}
@@ -14,8 +14,7 @@ pub loop-numbered-preserved : goal.loop-numbered-preserved
 loop-numbered-preserved c =
     let all : List (ℕ × InstrData) = (block_at c.args.function.now c.args.b).instrs in
     let k : ℕ = c.loop-numbered.invariant.0 in
-    let split : IsSplit all k c.in-Some.numbered.now (left c.next.new.self) = split_at all k _ _ (sym c.in-Some.ensures.steps ∙ c.loop-numbered.invariant.1) in
-    (
+    let split : IsSplit all k c.in-Some.numbered.now (left c.next.new.self) = split_at all k _ _ (sym c.in-Some.ensures.steps ∙ c.loop-numbered.invariant.1) in (
       k + 1,
       sym split.behind,
       subst (λ l. IsPassedOver c.args.round.now l c.passed_with-passed.result) (sym split.front) (c.passed_with-passed.ensures (take k all) c.loop-numbered.invariant.2),

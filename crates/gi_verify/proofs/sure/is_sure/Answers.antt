@@ -1,4 +1,4 @@
-use Rattle.std.proofs.Common.{sym, ◌∙◌, rules}
+use Rattle.std.proofs.Common.{rules}
 use Rattle.gi_verify.proofs.Using.{sure_use}
 use Rattle.gi_verify.proofs.sure.is_sure.Goals as goal
 
