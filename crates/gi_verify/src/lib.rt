@@ -3,6 +3,8 @@
 
 mod available;
 mod blocks;
+mod change;
+mod cover;
 mod definitions;
 mod dominators;
 mod effects;
@@ -14,6 +16,7 @@ mod lowest;
 mod marks;
 mod mask;
 mod mismatch;
+mod noting;
 mod operands;
 mod passed;
 mod physical;
@@ -21,12 +24,18 @@ mod predecessors;
 mod reached;
 mod registers;
 mod room;
+mod round;
+mod rounds;
+mod seen;
 mod settled;
 mod site;
+mod spread;
+mod sure;
 mod tree;
 mod typing;
 mod uses;
 mod verifying;
+mod words;
 
 pub use laws::one_fault_is_told;
 pub use verifying::{VerifyError, verify};

@@ -241,3 +241,8 @@ pub(crate) fn marks_of(
     tell_all(function, &mut guess)?;
     Ok(Marks { by_id: guess.marks })
 }
+
+/// A mark for each instruction of a function.
+pub(crate) fn fresh_marks(alloc: Global, function: &Function) -> Result<Vec<bool>, Memory> {
+    all_marked(alloc, past_all(function))
+}

@@ -7,6 +7,7 @@ ghost use Rattle.gi_verify.specs.Refusal.{IsRefused};
 ghost use Rattle.gi_verify.specs.Sets.{IsLowestFault};
 
 use crate::definitions::lowest_double;
+use crate::noting::with_cover;
 use crate::predecessors::{has_way_back, predecessors_of};
 use crate::reached::reached;
 use crate::settled::order_of;
@@ -38,7 +39,8 @@ fn lowest_fault(
     let predecessors = predecessors_of(alloc, function)?;
     let double = lowest_double(alloc, function)?;
     let again = double.is_some();
-    let order = order_of(alloc, function, reached.as_slice(), &predecessors, again)?;
+    let settled = order_of(alloc, function, reached.as_slice(), &predecessors, again)?;
+    let order = with_cover(alloc, function, settled, reached.as_slice(), double)?;
     let way_back = has_way_back(function, &predecessors);
     let lowest = tell_sites(
         alloc,
