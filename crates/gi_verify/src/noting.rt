@@ -17,10 +17,18 @@ use gi_mir::operand::{Operand, Reg};
 use gi_valid::Fault;
 use std::alloc::Global;
 
-/// Notes a register, where it is defined and wasn't noted.
-fn note(function: &Function, keys: &mut Listed, r: u32) -> Result<(), Memory> {
-    if function.def_of(Reg(r)).is_some() && !keys.has(r) {
+/// Notes a register, where it wasn't.
+fn note(keys: &mut Listed, r: u32) -> Result<(), Memory> {
+    if !keys.has(r) {
         keys.add(r)?;
+    }
+    Ok(())
+}
+
+/// The same where it is defined.
+fn note_defined(function: &Function, keys: &mut Listed, r: u32) -> Result<(), Memory> {
+    if function.def_of(Reg(r)).is_some() {
+        note(keys, r)?;
     }
     Ok(())
 }
@@ -39,7 +47,7 @@ fn note_entry(
             if comes_within(function, order, r, a) {
                 Ok(())
             } else {
-                note(function, keys, r)
+                note_defined(function, keys, r)
             }
         }
         None => Ok(()),
@@ -74,7 +82,7 @@ fn note_use(
 {
     if let Operand::Use(r) = operand {
         if !(function.is_live(id) && comes_sooner(function, order, r.0, b, id)) {
-            note(function, keys, r.0)?;
+            note_defined(function, keys, r.0)?;
         }
     }
     Ok(())
@@ -120,10 +128,10 @@ fn note_all(
 }
 
 /// Notes the registers that operands name.
-fn note_others(function: &Function, keys: &mut Listed, operands: &[Operand]) -> Result<(), Memory> {
+fn note_others(keys: &mut Listed, operands: &[Operand]) -> Result<(), Memory> {
     for operand in operands {
         match *operand {
-            Operand::Def(r, _) | Operand::Use(r) => note(function, keys, r.0)?,
+            Operand::Def(r, _) | Operand::Use(r) => note(keys, r.0)?,
             _ => {}
         }
     }
@@ -134,7 +142,7 @@ fn note_others(function: &Function, keys: &mut Listed, operands: &[Operand]) -> 
 fn note_rest(function: &Function, keys: &mut Listed) -> Result<(), Memory> {
     for b in 0..function.block_count() {
         for numbered in function.instrs(b) {
-            note_others(function, keys, numbered.instr.operands.as_slice())?;
+            note_others(keys, numbered.instr.operands.as_slice())?;
         }
     }
     Ok(())

@@ -6,9 +6,10 @@ use crate::listed::Listed;
 use crate::operands::is_pure;
 use crate::words::{ALL, WIDTH, both, either, one, word_at};
 use gi_llt::Memory;
+use gi_mir::block::Numbered;
 use gi_mir::function::Function;
 use gi_mir::instrs::Instrs;
-use gi_mir::operand::{Operand, Reg};
+use gi_mir::operand::Operand;
 use std::alloc::Global;
 
 /// So many words.
@@ -35,55 +36,65 @@ fn number_at(list: &[usize], place: usize) -> usize {
     if place < list.len() { list[place] } else { 0 }
 }
 
-/// Of each register the places of those that its definition uses purely, one after the other, and the places of all
-/// registers in the order of their definitions.
+/// The place of a register that another one's definition uses, and the number of the next one.
+#[derive(Clone, Copy)]
+struct Link {
+    source: usize,
+    next: usize,
+}
+
+/// Of each register the number of the first of those that its pure definitions use (0 where there is none), and the places
+/// of all registers in the order of their definitions.
 #[derive(Drop)]
 pub(crate) struct Sources {
-    ends: Vec<usize>,
-    places: Vec<usize>,
+    firsts: Vec<usize>,
+    links: Vec<Link>,
     by_layout: Vec<usize>,
 }
 
-/// Puts the places of the registers that operands use behind others.
-fn push_places(keys: &Listed, places: &mut Vec<usize>, operands: &[Operand]) -> Result<(), Memory> {
+/// Puts a source of the register at a place in front of its others.
+fn push_source(sources: &mut Sources, place: usize, source: usize) -> Result<(), Memory> {
+    if place < sources.firsts.len() {
+        let next = sources.firsts[place];
+        sources
+            .links
+            .push(Link { source, next })
+            .map_err(|_| Memory)?;
+        sources.firsts[place] = sources.links.len();
+    }
+    Ok(())
+}
+
+/// Puts the registers that operands use in front of the sources of the register at a place.
+fn push_sources(
+    keys: &Listed,
+    sources: &mut Sources,
+    place: usize,
+    operands: &[Operand],
+) -> Result<(), Memory> {
     for operand in operands {
         if let Operand::Use(r) = *operand {
-            if let Some(place) = keys.place(r.0) {
-                places.push(place).map_err(|_| Memory)?;
+            if let Some(source) = keys.place(r.0) {
+                push_source(sources, place, source)?;
             }
         }
     }
     Ok(())
 }
 
-/// Puts the sources of the register at a place behind those of others.
-fn push_sources(
-    function: &Function,
-    keys: &Listed,
-    sources: &mut Sources,
-    place: usize,
-) -> Result<(), Memory> {
-    if place < keys.len() {
-        if let Some(id) = function.def_of(Reg(keys.at(place))) {
-            if function.is_live(id) && is_pure(function.instr(id)) {
-                let operands = function.instr(id).operands.as_slice();
-                push_places(keys, &mut sources.places, operands)?;
-            }
-        }
-    }
-    let end = sources.places.len();
-    sources.ends.push(end).map_err(|_| Memory)
-}
-
-/// Puts the place of a register that is defined behind those of others.
+/// Notes a register that an instruction defines, and its sources if it is pure.
 fn push_definition(
     keys: &Listed,
-    by_layout: &mut Vec<usize>,
+    sources: &mut Sources,
+    numbered: &Numbered,
     operand: Operand,
 ) -> Result<(), Memory> {
     if let Operand::Def(r, _) = operand {
         if let Some(place) = keys.place(r.0) {
-            by_layout.push(place).map_err(|_| Memory)?;
+            sources.by_layout.push(place).map_err(|_| Memory)?;
+            if is_pure(&numbered.instr) {
+                push_sources(keys, sources, place, numbered.instr.operands.as_slice())?;
+            }
         }
     }
     Ok(())
@@ -92,15 +103,24 @@ fn push_definition(
 /// The same of all definitions of a block.
 fn push_definitions(
     keys: &Listed,
-    by_layout: &mut Vec<usize>,
+    sources: &mut Sources,
     instrs: Instrs<'_>,
 ) -> Result<(), Memory> {
     for numbered in instrs {
         for operand in numbered.instr.operands.as_slice() {
-            push_definition(keys, by_layout, *operand)?;
+            push_definition(keys, sources, numbered, *operand)?;
         }
     }
     Ok(())
+}
+
+/// So many zeros.
+fn zeros(alloc: Global, count: usize) -> Result<Vec<usize>, Memory> {
+    let mut list = Vec::new(alloc);
+    for _ in 0..count {
+        list.push(0).map_err(|_| Memory)?;
+    }
+    Ok(list)
 }
 
 /// The sources of all registers.
@@ -110,15 +130,12 @@ pub(crate) fn sources_of(
     keys: &Listed,
 ) -> Result<Sources, Memory> {
     let mut sources = Sources {
-        ends: Vec::new(alloc),
-        places: Vec::new(alloc),
+        firsts: zeros(alloc, keys.len())?,
+        links: Vec::new(alloc),
         by_layout: Vec::new(alloc),
     };
-    for place in 0..keys.len() {
-        push_sources(function, keys, &mut sources, place)?;
-    }
     for b in 0..function.block_count() {
-        push_definitions(keys, &mut sources.by_layout, function.instrs(b))?;
+        push_definitions(keys, &mut sources, function.instrs(b))?;
     }
     Ok(sources)
 }
@@ -152,13 +169,13 @@ fn tell_sources(
         return Ok(false);
     }
     let mut is_new = false;
-    let begin = if place == 0 {
-        0
-    } else {
-        number_at(sources.ends.as_slice(), place - 1)
-    };
-    for k in begin..number_at(sources.ends.as_slice(), place) {
-        let source = number_at(sources.places.as_slice(), k);
+    let mut number = number_at(sources.firsts.as_slice(), place);
+    for _ in 0..sources.links.len() {
+        if number == 0 || sources.links.len() < number {
+            break;
+        }
+        let Link { source, next } = sources.links[number - 1];
+        number = next;
         let grown = either(word_at(spread.words.as_slice(), source), word);
         if set_word(&mut spread.words, source, grown) {
             is_new = true;
