@@ -1,6 +1,6 @@
 //! Second definitions of registers.
 
-ghost use Rattle.std.specs.Prelude.{◌≡◌, ◌++◌, ◌∷◌, ◌==◌, [], ℕ, Some, OnOk, IfOk, flat_map, map, if◌then◌else◌};
+ghost use Rattle.std.specs.Prelude.{◌≡◌, ◌++◌, ◌∷◌, ◌==◌, [], ◌/◌, ℕ, Some, None, OnOk, IfOk, flat_map, map, if◌then◌else◌};
 ghost use Rattle.gi_mir.specs.Data.{reg_of};
 ghost use Rattle.gi_valid.specs.declared.invalid.Invalid.TheVariants as Invalid;
 ghost use Rattle.gi_mir.specs.Edit.{all_instrs};
@@ -10,8 +10,11 @@ ghost use Rattle.gi_meaning.specs.InRow.{results_in};
 ghost use Rattle.gi_meaning.specs.Runs.{is_among};
 ghost use Rattle.gi_verify.specs.Counted.{AreCounted, AreTallied, counted, is_once, once_more};
 ghost use Rattle.gi_mir.specs.Instrs.{left};
+ghost use Rattle.std.specs.BTreeMap.{get};
+ghost use Rattle.std.specs.Ordering.{nat_cmp};
 
 use crate::lowest::of_lowest_line;
+use crate::page::{PAGE, Page};
 use gi_llt::Memory;
 use gi_mir::block::Numbered;
 use gi_mir::function::Function;
@@ -86,7 +89,8 @@ pub(crate) enum Times {
 /// How often each register was defined before.
 #[derive(Drop)]
 pub(crate) struct Counted {
-    times: BTreeMap<u32, Times>,
+    alloc: Global,
+    pages: BTreeMap<u32, Page>,
 }
 
 /// With one more definition.
@@ -112,7 +116,8 @@ impl Counted {
         ensures { AreCounted [] result }
     {
         Counted {
-            times: BTreeMap::new(alloc),
+            alloc,
+            pages: BTreeMap::new(alloc),
         }
     }
 
@@ -120,16 +125,30 @@ impl Counted {
     fn times(&self, r: u32) -> Option<Times>
         ensures { result ≡ counted self.now r }
     {
-        self.times.get(&r).copied()
+        match self.pages.get(&(r / PAGE)) {
+            Some(page) => page.at((r % PAGE) as usize),
+            None => None,
+        }
+    }
+
+    /// Puts a page in on which it is set how often one register was defined, where there was no page.
+    fn put_page(&mut self, r: u32, times: Times) -> Result<(), Memory>
+        requires { get nat_cmp self.old.pages (r / 256) ≡ None }
+        ensures { OnOk result ((q : ℕ) → counted self.new q ≡ (if r == q then Some times else counted self.old q)) }
+    {
+        let mut page = Page::new(self.alloc);
+        page.set((r % PAGE) as usize, times)?;
+        self.pages.insert(r / PAGE, page).map_err(|_| Memory)?;
+        Ok(())
     }
 
     /// Sets how often a register was defined.
     fn set(&mut self, r: u32, times: Times) -> Result<(), Memory>
         ensures { OnOk result ((q : ℕ) → counted self.new q ≡ (if r == q then Some times else counted self.old q)) }
     {
-        match self.times.insert(r, times) {
-            Ok(_) => Ok(()),
-            Err(_) => Err(Memory),
+        match self.pages.get_mut(&(r / PAGE)) {
+            Some(page) => page.set((r % PAGE) as usize, times),
+            None => self.put_page(r, times),
         }
     }
 

@@ -18,6 +18,7 @@ mod mask;
 mod mismatch;
 mod noting;
 mod operands;
+mod page;
 mod passed;
 mod physical;
 mod predecessors;
