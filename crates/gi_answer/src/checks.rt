@@ -138,9 +138,10 @@ fn check_sizes_for(alloc: Global, m: &Module, machine: Machine) -> Result<Machin
     ensures right { IfOk result (λ found. sized m.now (Ok machine) ≡ Ok found) }
     ensures refused { IfErr result (λ why. Tells why (λ message. sized m.now (Ok machine) ≡ Err message)) }
 {
-    match check_sizes(m, machine.target()) {
-        Ok(()) => Ok(machine),
-        Err(error) => Err(wrong_size(alloc, error)),
+    match check_sizes(alloc, m, machine.target()) {
+        Ok(None) => Ok(machine),
+        Ok(Some(error)) => Err(wrong_size(alloc, error)),
+        Err(_) => Err(Refused::Memory),
     }
 }
 

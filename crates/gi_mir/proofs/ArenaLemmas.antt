@@ -1,5 +1,5 @@
 -- The arena spells the blocks that it is linked as, and what an edit of its links makes of them.
-use Rattle.std.proofs.Common.{◌≡◌, ℕ, zero, suc, ◌+◌, ◌<◌, ◌≤◌, List, [], ◌∷◌, ◌++◌, Option, Some, None, length, get_or, map, set, refl, sym, ap, ◌∙◌, arith}
+use Rattle.std.proofs.Common.{◌≡◌, ℕ, zero, suc, ◌+◌, ◌≤◌, List, [], ◌∷◌, Option, Some, None, length, get_or, map, refl, ap, ◌∙◌, arith}
 use Rattle.std.specs.Prelude.{slice_get, option_map}
 use Rattle.std.specs.Option.{option_map_or}
 use Rattle.std.proofs.lemmas.Option.{same_Some}
@@ -9,7 +9,7 @@ use Rattle.gi_mir.specs.declared.block.Slot.{Slot}
 use Rattle.gi_mir.specs.Data.{InstrData, BlockData}
 use Rattle.gi_mir.specs.Edit.{empty_block}
 use Rattle.gi_mir.specs.Places.{nth_id, id_in}
-use Rattle.gi_mir.specs.Arena.{chain, spelled, blocks_in, id_named, nth_instr_id, id_ahead, slot_at, body_of, IsLinked}
+use Rattle.gi_mir.specs.Arena.{chain, spelled, blocks_in, nth_instr_id, slot_at, body_of, IsLinked}
 
 -- ---- what the arena spells
 

@@ -13,7 +13,7 @@ use Rattle.gi_mir.specs.Mentions.{definition_key, mentioning}
 use Rattle.gi_mir.specs.Places.{id_in}
 use Rattle.gi_mir.specs.Registers.{first_there, kind_in_operands, kind_in_instrs, kind_in_blocks}
 use Rattle.gi_mir.proofs.Keys.{first_definition}
-use Rattle.gi_mir.proofs.Located.{is_live-id_in, id_in-live, id_in-once, nth_id-once, HasDistinctIds-in, id_in-within}
+use Rattle.gi_mir.proofs.Located.{is_live-id_in, id_in-live, id_in-once, HasDistinctIds-in, id_in-within}
 
 -- ---- among operands
 

@@ -1,5 +1,5 @@
 -- What stands where in a list after an edit.
-use Rattle.std.proofs.Common.{◌≡◌, ◌≢◌, ℕ, zero, suc, ◌+◌, ◌<◌, ◌≤◌, Bool, true, false, ◌||◌, List, [], ◌∷◌, ◌++◌, Option, Some, None, ◌⊎◌, inl, inr, ⊎_elim, length, get_or, set, map, refl, sym, ap, ap₂, ◌∙◌, arith}
+use Rattle.std.proofs.Common.{◌≡◌, ◌≢◌, ℕ, zero, suc, ◌<◌, ◌≤◌, Bool, true, false, ◌||◌, List, [], ◌∷◌, ◌++◌, Some, ◌⊎◌, length, get_or, set, map, refl, ap, arith}
 use Rattle.std.specs.Prelude.{insert, remove, slice_get, option_map}
 use Rattle.std.specs.List.{list_any}
 use Rattle.gi_mir.specs.Edit.{changed_at}
@@ -127,16 +127,3 @@ none-set p (y ∷ ys) (suc k) x d was h = by (p y) h (none-set p ys k x d was)
     by : (a : Bool) → (a || list_any p (set ys k x)) ≡ false → (list_any p (set ys k x) ≡ false → list_any p ys ≡ false) → (a || list_any p ys) ≡ false
     by true h more = cc
     by false h more = more h
-
-pub none-get_or : {X : Type 0} (p : X → Bool) (xs : List X) (k : ℕ) (d : X) → k < length xs → list_any p xs ≡ false → p (get_or xs k d) ≡ false
-none-get_or p [] k d lt h = absurd (omega arith)
-none-get_or p (y ∷ ys) zero d lt h = by (p y) (list_any p ys) h
-  where
-    by : (a b : Bool) → (a || b) ≡ false → a ≡ false
-    by true b h = cc
-    by false b h = refl
-none-get_or p (y ∷ ys) (suc k) d lt h = none-get_or p ys k d (omega arith) (by (p y) (list_any p ys) h)
-  where
-    by : (a b : Bool) → (a || b) ≡ false → b ≡ false
-    by true b h = cc
-    by false b h = h

@@ -2,6 +2,7 @@ pub mod ArenaLemmas
 pub mod DefinedKinds
 pub mod Edits
 pub mod FormedLemmas
+pub mod Grouped
 pub mod IdsLemmas
 pub mod InstrsLemmas
 pub mod Keys
@@ -13,12 +14,15 @@ pub mod Linking
 pub mod Lists
 pub mod Located
 pub mod Mentioned
+pub mod Merging
 pub mod NamesLemmas
 pub mod Noted
 pub mod NumberingLaws
 pub mod OrLemmas
 pub mod Ordered
+pub mod Paged
 pub mod Places
+pub mod Ranks
 pub mod Replaced
 pub mod Replacing
 pub mod SpreadLemmas

@@ -1,7 +1,7 @@
 -- An arena that is linked as blocks: what is read of it.
-use Rattle.std.proofs.Common.{◌≡◌, ◌≢◌, ℕ, zero, suc, ◌+◌, ◌-◌, ◌<◌, ◌≤◌, Bool, true, false, cond, List, [], ◌∷◌, Option, Some, None, ◌⊎◌, inl, inr, ⊎_elim, length, get_or, set, map, refl, sym, subst, ap, ap₂, ◌∙◌, arith, eqb, eqb-true, eq-eqb}
+use Rattle.std.proofs.Common.{◌≡◌, ◌≢◌, ℕ, zero, suc, ◌-◌, ◌<◌, Bool, true, false, cond, List, [], ◌∷◌, Option, Some, None, ◌⊎◌, inl, inr, length, get_or, refl, sym, ap, ◌∙◌, arith}
 use Rattle.std.specs.Prelude.{slice_get, option_map, is_some, ◌==◌, Contains}
-use Rattle.std.specs.List.{list_any, position_or_len}
+use Rattle.std.specs.List.{position_or_len}
 use Rattle.std.proofs.lemmas.Bool.Decides.{nat_tests}
 use Rattle.std.proofs.lemmas.List.{get_or-map, length-map}
 use Rattle.std.proofs.lemmas.Option.{slice_get_past, slice_get_within, get_or_from_slice_get}
@@ -12,10 +12,9 @@ use Rattle.gi_mir.specs.declared.place.Place.{Place}
 use Rattle.gi_mir.specs.declared.room.Gap.{Gap}
 use Rattle.gi_mir.specs.Data.{InstrData, BlockData}
 use Rattle.gi_mir.specs.Edit.{empty_block, has_instr, ids_of, place_of}
-use Rattle.gi_mir.specs.Ids.{AreOwnIds}
 use Rattle.gi_mir.specs.Places.{body_at, comes_before, id_in, nth_id, place}
-use Rattle.gi_mir.specs.Arena.{HasOrder, IsLinked, body_of, gap_at, id_ahead, id_named, is_in, nth_instr_id, slot_at, spot_of}
-use Rattle.gi_mir.proofs.Located.{HasDistinctIds-in, has_instr-Contains, id_in-once, id_in-within, is_live-id_in, nth_id-place_of, nth_id-within}
+use Rattle.gi_mir.specs.Arena.{HasOrder, IsLinked, body_of, gap_at, id_ahead, id_named, is_in, slot_at, spot_of}
+use Rattle.gi_mir.proofs.Located.{has_instr-Contains, nth_id-place_of}
 use Rattle.gi_mir.proofs.Places.{position_or_len-passes}
 
 -- ---- where an id stands
@@ -23,15 +22,6 @@ use Rattle.gi_mir.proofs.Places.{position_or_len-passes}
 pub id_in-spot : (blocks : List BlockData) (id : ℕ) → is_in blocks id ≡ true → id_in blocks (spot_of blocks id).block (spot_of blocks id).at ≡ Some id
 id_in-spot blocks id live =
     nth_id-place_of id (get_or blocks (position_or_len (has_instr id) blocks) empty_block).instrs (position_or_len-passes (has_instr id) blocks empty_block live)
-
--- and nowhere else
-pub spot_of-once : (blocks : List BlockData) (n b k id : ℕ) → AreOwnIds blocks n → id_in blocks b k ≡ Some id → spot_of blocks id ≡ place b k
-spot_of-once blocks n b k id own h =
-    let s = spot_of blocks id in
-    let there = id_in-spot blocks id (is_live-id_in id blocks b k h) in
-    let block : s.block ≡ b = id_in-once id blocks n s.block b s.at k own there h in
-    let at : s.at ≡ k = (HasDistinctIds-in blocks n b (id_in-within id blocks b k h) own).once s.at k id (sym (ap (λ (x : ℕ). id_in blocks x s.at) block) ∙ there) h in
-    ap₂ (λ (x y : ℕ). place x y) block at
 
 -- the place of an id that is named in a block
 pub id_in-named : (blocks : List BlockData) (b id : ℕ) → Contains (ids_of (body_at blocks b)) id → id_in blocks b (place_of id (body_at blocks b).instrs) ≡ Some id

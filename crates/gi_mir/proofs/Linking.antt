@@ -1,5 +1,5 @@
 -- What an edit of one block makes of an arena that is linked.
-use Rattle.std.proofs.Common.{◌≡◌, ◌≢◌, ℕ, zero, suc, ◌+◌, ◌-◌, ◌<◌, ◌≤◌, Bool, true, false, cond, List, [], ◌∷◌, ◌++◌, Option, Some, None, ◌⊎◌, ⊎_elim, length, get_or, set, map, refl, sym, ap, ◌∙◌, arith, eqb-true, eq-eqb}
+use Rattle.std.proofs.Common.{◌≡◌, ◌≢◌, ℕ, zero, suc, ◌+◌, ◌-◌, ◌<◌, ◌≤◌, Bool, true, false, cond, List, [], ◌∷◌, ◌++◌, Option, Some, None, ◌⊎◌, ⊎_elim, length, get_or, set, refl, sym, ap, ◌∙◌, arith, eqb-true, eq-eqb}
 use Rattle.std.specs.Prelude.{insert, remove, slice_get, option_map, ◌==◌}
 use Rattle.std.specs.List.{list_any}
 use Rattle.std.specs.Option.{option_map_or}
@@ -7,7 +7,7 @@ use Rattle.std.proofs.lemmas.Bool.{cases_eq}
 use Rattle.std.proofs.lemmas.Bool.Decides.{nat_tests}
 use Rattle.std.proofs.lemmas.List.{get_or-map, get_or-set_same, get_or-set_other, set-get_or}
 use Rattle.std.proofs.lemmas.List.Edits.{length-remove, length-insert}
-use Rattle.std.proofs.lemmas.Option.{slice_get_past, slice_get_within}
+use Rattle.std.proofs.lemmas.Option.{slice_get_past}
 use Rattle.gi_mir.specs.declared.block.Body.{Body}
 use Rattle.gi_mir.specs.declared.block.InstrId.{InstrId}
 use Rattle.gi_mir.specs.declared.block.Slot.{Slot}
@@ -17,7 +17,7 @@ use Rattle.gi_mir.specs.Ids.{AreOwnIds}
 use Rattle.gi_mir.specs.Places.{HasDistinctIds, body_at, id_in, nth_id}
 use Rattle.gi_mir.specs.Arena.{IsLinked, body_gained, body_lost, body_of, end_with, id_ahead, id_named, next_set, nth_instr_id, previous_set, slot_at, slot_changed}
 use Rattle.gi_mir.proofs.Edits.{length-changed_at, less_or_not, map-set, none-set, none-set_here, slice_get-changed_other, slice_get-changed_same, slice_get-insert_at, slice_get-insert_before, slice_get-insert_behind, slice_get-push, slice_get-push_other, slice_get-pushed_before, slice_get-remove_before, slice_get-remove_behind}
-use Rattle.gi_mir.proofs.Located.{has_instr-nth_id, id_in-once, nth_id-changed_at, nth_id-place_of, nth_id-within}
+use Rattle.gi_mir.proofs.Located.{has_instr-nth_id, id_in-once, nth_id-changed_at, nth_id-place_of}
 
 -- ---- one block of several
 

@@ -114,7 +114,7 @@ pub record IsSplit (p : InstrId → Bool) (id : InstrId) (front back : List (ℕ
   pub last : Each (λ e. (p (instr_id e) ≡ false) × ((e.0 == id.0) ≡ false)) back
   pub own : p id ≡ false
 
-abbrev one_if : Bool → InstrId → List InstrId
+abbrev pub one_if : Bool → InstrId → List InstrId
 one_if b id = cond b (id ∷ []) []
 
 noted-back : (p : InstrId → Bool) (id : InstrId) (ys : List InstrId) → Each (λ x. (p x ≡ false) × ((x.0 == id.0) ≡ false)) ys → noted p id ys ≡ id ∷ ys
@@ -227,7 +227,7 @@ IsListedAs-forgotten p id front back old new between operands split as_so gone =
 
 -- ---- the lists are in order
 
-Each-get_or : {X : Type 0} (P : X → Type 0) (xs : List X) (k : ℕ) (d : X) → k < length xs → Each P xs → P (get_or xs k d)
+pub Each-get_or : {X : Type 0} (P : X → Type 0) (xs : List X) (k : ℕ) (d : X) → k < length xs → Each P xs → P (get_or xs k d)
 Each-get_or P [] k d h e = absurd (omega arith)
 Each-get_or P (x ∷ xs) zero d h e = e.0
 Each-get_or P (x ∷ xs) (suc k) d h e = Each-get_or P xs k d (omega arith) e.1
@@ -262,17 +262,17 @@ Lacks-as p id front back m split as_so = record {
 
 -- ---- a function is split at a place
 
-comes_first : (p spot : Place) → (p.block < spot.block) ⊎ ((p.block ≡ spot.block) × (p.at < spot.at)) → comes_before p spot ≡ true
+pub comes_first : (p spot : Place) → (p.block < spot.block) ⊎ ((p.block ≡ spot.block) × (p.at < spot.at)) → comes_before p spot ≡ true
 comes_first p spot h = grind (arith, nat_tests)
 
-comes_later : (p spot : Place) → (spot.block < p.block) ⊎ ((p.block ≡ spot.block) × (spot.at ≤ p.at)) → comes_before p spot ≡ false
+pub comes_later : (p spot : Place) → (spot.block < p.block) ⊎ ((p.block ≡ spot.block) × (spot.at ≤ p.at)) → comes_before p spot ≡ false
 comes_later p spot h = grind (arith, nat_tests)
 
-apart_test : (a b : ℕ) → a ≢ b → (a == b) ≡ false
+pub apart_test : (a b : ℕ) → a ≢ b → (a == b) ≡ false
 apart_test a b ne = ⊎_elim (λ (h : ((a == b) ≡ true) × (a ≡ b)). absurd (ne h.1)) (λ (h : ((a == b) ≡ false) × (a ≢ b)). h.0) (eqb_tells a b)
 
 -- whether a place that is written down comes before another
-precedes_by : (places : List Place) (spot : Place) (i : ℕ) (p : Place) (t : Bool) → slice_get places i ≡ Some p → comes_before p spot ≡ t → precedes places spot (record { 0 = i }) ≡ t
+pub precedes_by : (places : List Place) (spot : Place) (i : ℕ) (p : Place) (t : Bool) → slice_get places i ≡ Some p → comes_before p spot ≡ t → precedes places spot (record { 0 = i }) ≡ t
 precedes_by places spot i p t found tells = ap (λ (o : Option Place). option_map_or (λ q. comes_before q spot) o false) found ∙ tells
 
 -- around a place where an instruction may be put in

@@ -1,5 +1,5 @@
 -- Operands noted one after another, and taken out again.
-use Rattle.std.proofs.Common.{◌≡◌, ℕ, zero, suc, ◌+◌, ◌<◌, ◌≤◌, Bool, true, false, ◌||◌, cond, List, [], ◌∷◌, ◌⊎◌, inl, inr, ⊎_elim, length, take, drop, get_or, refl, sym, ap, ◌∙◌, arith, add-one}
+use Rattle.std.proofs.Common.{◌≡◌, ◌≢◌, ℕ, zero, suc, ◌+◌, ◌<◌, ◌≤◌, Bool, true, false, ◌||◌, cond, List, [], ◌∷◌, ◌⊎◌, inl, inr, ⊎_elim, length, take, drop, get_or, Some, refl, sym, subst, ap, ◌∙◌, arith, add-one, eqb-true, eq-eqb}
 use Rattle.std.specs.Prelude.{◌==◌}
 use Rattle.std.specs.List.{list_any}
 use Rattle.std.specs.List.Sorted.{IsPartitionedBy}
@@ -10,7 +10,7 @@ use Rattle.gi_mir.specs.declared.block.InstrId.{InstrId}
 use Rattle.gi_mir.specs.declared.mentions.Mentions.{Mentions}
 use Rattle.gi_mir.specs.declared.operand.Operand.{Operand}
 use Rattle.gi_mir.specs.declared.place.Place.{Place}
-use Rattle.gi_mir.specs.Mentions.{is_mention, precedes, noted, without, listed, HasSameLists, IsSorted, Lacks, IsNoted, IsForgotten}
+use Rattle.gi_mir.specs.Mentions.{IsListed, mention_of, is_mention, precedes, noted, without, listed, HasSameLists, IsSorted, Lacks, IsNoted, IsForgotten}
 use Rattle.gi_mir.proofs.Lists.{noted-twice, without-fresh, without-noted, without-twice}
 
 -- one more operand
@@ -29,6 +29,20 @@ neither false b h = (refl, h)
 test_cases : (b : Bool) → (b ≡ true) ⊎ (b ≡ false)
 test_cases true = inl refl
 test_cases false = inr refl
+
+-- of one operand
+pub IsForgotten-one : (old new : Mentions) (x : Operand) (id : InstrId) (at : ℕ) → Some at ≡ mention_of x → IsListed old new at (without id (listed old at)) → IsForgotten old new (x ∷ []) id
+IsForgotten-one old new x id at is gone = record {
+  here = λ key h. here key (at == key) refl (rw (← is) at h);
+  others = λ key h. gone.others key (apart key (rw (← is) at h));
+}
+  where
+    here : (key : ℕ) (b : Bool) → (at == key) ≡ b → (b || false) ≡ true → listed new key ≡ without id (listed old key)
+    here key true e h = subst (λ (k : ℕ). listed new k ≡ without id (listed old k)) (eqb-true at key e) gone.here
+    here key false e h = cc
+
+    apart : (key : ℕ) → ((at == key) || false) ≡ false → key ≢ at
+    apart key h same = cc (eq-eqb at key (sym same))
 
 pub IsForgotten-step : (old cur new : Mentions) (operands : List Operand) (i : ℕ) (x : Operand) (id : InstrId) → i < length operands → x ≡ get_or operands i x → IsForgotten old cur (take i operands) id → IsForgotten cur new (x ∷ []) id → IsForgotten old new (take (i + 1) operands) id
 IsForgotten-step old cur new operands i x id within is before one = record {

@@ -1,17 +1,14 @@
 -- What an edit of one block makes of the order that labels tell.
-use Rattle.std.proofs.Common.{◌≡◌, ◌≢◌, ℕ, zero, suc, ◌+◌, ◌-◌, ◌^◌, ◌<◌, ◌≤◌, Bool, true, false, List, [], ◌∷◌, ◌++◌, Option, Some, None, ◌⊎◌, inl, inr, ⊎_elim, length, get_or, set, refl, sym, ap, ◌∙◌, arith}
+use Rattle.std.proofs.Common.{◌≡◌, ◌≢◌, ℕ, zero, suc, ◌-◌, ◌^◌, ◌<◌, ◌≤◌, List, [], ◌∷◌, ◌++◌, Some, ◌⊎◌, inl, inr, ⊎_elim, length, set, refl, sym, ap, ◌∙◌, arith}
 use Rattle.std.specs.Prelude.{insert, remove, slice_get, option_map}
 use Rattle.std.proofs.lemmas.Bool.{cases_eq}
 use Rattle.std.proofs.lemmas.List.{get_or-set_same, get_or-set_other}
-use Rattle.std.proofs.lemmas.Option.{slice_get_within}
-use Rattle.gi_mir.specs.declared.block.InstrId.{InstrId}
 use Rattle.gi_mir.specs.declared.place.Place.{Place}
-use Rattle.gi_mir.specs.declared.room.Gap.{Gap}
 use Rattle.gi_mir.specs.Data.{InstrData, BlockData}
 use Rattle.gi_mir.specs.Edit.{empty_block, block_changed_at}
 use Rattle.gi_mir.specs.Places.{body_at, id_in, nth_id, place}
 use Rattle.gi_mir.specs.Arena.{FitsGap, HasOrder, gap_at, id_named}
-use Rattle.gi_mir.proofs.Edits.{less_or_not, slice_get-insert_at, slice_get-insert_before, slice_get-insert_behind, slice_get-push, slice_get-pushed_before, slice_get-remove_before, slice_get-remove_behind}
+use Rattle.gi_mir.proofs.Edits.{less_or_not, slice_get-insert_at, slice_get-insert_before, slice_get-insert_behind, slice_get-push, slice_get-pushed_before, slice_get-remove_behind}
 use Rattle.gi_mir.proofs.Linked.{order-place, order-within}
 use Rattle.gi_mir.proofs.Located.{nth_id-changed_at, nth_id-within}
 

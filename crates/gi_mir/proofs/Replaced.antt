@@ -1,5 +1,5 @@
 -- Uses that are replaced: which instructions are formed, and what they mention.
-use Rattle.std.proofs.Common.{◌≡◌, ◌≢◌, ℕ, ◌+◌, Bool, true, false, not, ◌&&◌, ◌||◌, cond, List, [], ◌∷◌, Option, Some, None, ◌⊎◌, inl, inr, ⊎_elim, refl, sym, ap, ap₂, ◌∙◌, ◌*◌, arith, eqb-true}
+use Rattle.std.proofs.Common.{◌≡◌, ◌≢◌, ℕ, Bool, true, false, ◌&&◌, ◌||◌, cond, List, [], ◌∷◌, Option, Some, None, refl, sym, ap, ap₂, ◌∙◌, arith, eqb-true}
 use Rattle.std.specs.Prelude.{◌==◌, map}
 use Rattle.std.specs.List.{list_all, list_any}
 use Rattle.std.specs.Option.{option_map_or}
@@ -16,7 +16,6 @@ use Rattle.gi_mir.specs.Formed.{admits, taken, fits, is_in_range, is_formed}
 use Rattle.gi_mir.specs.Edit.{is_use_of, uses}
 use Rattle.gi_mir.specs.Mentions.{use_key, is_mention}
 use Rattle.gi_mir.specs.Uses.{operand_replaced, instr_replaced, entry_replaced}
-use Rattle.gi_mir.proofs.OrLemmas.{or_left, or_right}
 
 -- ---- which register is used isn't looked at
 
@@ -105,10 +104,6 @@ is_formed-replaced old new i = rw (list_any-replaced old new i.operands (rows_of
 
 -- ---- what the operands mention
 
-test_of : (b : Bool) → (b ≡ true) ⊎ (b ≡ false)
-test_of true = inl refl
-test_of false = inr refl
-
 -- the number of a register after
 renumbered_cases : (old new r : ℕ) (P : ℕ → Type 0) → (r ≡ old → P new) → (r ≢ old → P r) → P (cond (r == old) new r)
 renumbered_cases old new r P same apart = by (r == old) refl
@@ -117,79 +112,15 @@ renumbered_cases old new r P same apart = by (r == old) refl
     by true e = same (eqb-true r old e)
     by false e = apart (eqb-false r old e)
 
-new_there : (old new key : ℕ) (x : Operand) → (use_key new == key) ≡ true → is_use_of old x ≡ true → is_mention key (operand_replaced old new x) ≡ true
-new_there old new key (Use r) e u = rw u e
-new_there old new key (Def r k) e u = cc
-new_there old new key (Phys n) e u = cc
-new_there old new key (PhysDef n) e u = cc
-new_there old new key (ImplicitUse n) e u = cc
-new_there old new key (ImplicitDef n) e u = cc
-new_there old new key (Int n) e u = cc
-new_there old new key (Constant bits v) e u = cc
-new_there old new key (Block b) e u = cc
-new_there old new key (Predicate p) e u = cc
-new_there old new key (Frame n) e u = cc
-new_there old new key (Global flag g) e u = cc
-new_there old new key (Routine flag r) e u = cc
-new_there old new key SavedMask e u = cc
-
-old_gone : (old new key : ℕ) (x : Operand) → (use_key old == key) ≡ true → (use_key new == key) ≡ false → is_mention key (operand_replaced old new x) ≡ false
-old_gone old new key (Use r) e u = renumbered_cases old new r.0 (λ n. (use_key n == key) ≡ false) (λ same. u) (λ apart. other r.0 apart)
-  where
-    other : (n : ℕ) → n ≢ old → (2 * n + 1 == key) ≡ false
-    other n apart = grind (arith, nat_tests, e)
-old_gone old new key (Def r k) e u = other r.0
-  where
-    other : (n : ℕ) → (2 * n == key) ≡ false
-    other n = grind (arith, nat_tests, e)
-old_gone old new key _ e u = refl
-
 others_same : (old new key : ℕ) (x : Operand) → (use_key old == key) ≡ false → (use_key new == key) ≡ false → is_mention key (operand_replaced old new x) ≡ is_mention key x
 others_same old new key (Use r) e u =
     renumbered_cases old new r.0 (λ n. (use_key n == key) ≡ (use_key r.0 == key)) (λ same. u ∙ sym (ap (λ n. use_key n == key) same ∙ e)) (λ apart. refl)
 others_same old new key _ e u = refl
 
-any_new : (old new key : ℕ) (xs : List Operand) → (use_key new == key) ≡ true → list_any (is_use_of old) xs ≡ true → list_any (is_mention key) (map (operand_replaced old new) xs) ≡ true
-any_new old new key [] e u = cc
-any_new old new key (x ∷ xs) e u = by (is_use_of old x) refl u (any_new old new key xs e)
-  where
-    by : (b : Bool) → is_use_of old x ≡ b → (b || list_any (is_use_of old) xs) ≡ true → (list_any (is_use_of old) xs ≡ true → list_any (is_mention key) (map (operand_replaced old new) xs) ≡ true) → (is_mention key (operand_replaced old new x) || list_any (is_mention key) (map (operand_replaced old new) xs)) ≡ true
-    by true h g more = or_left (is_mention key (operand_replaced old new x)) (list_any (is_mention key) (map (operand_replaced old new) xs)) (new_there old new key x e h)
-    by false h g more = or_right (is_mention key (operand_replaced old new x)) (list_any (is_mention key) (map (operand_replaced old new) xs)) (more g)
-
-none_old : (old new key : ℕ) (xs : List Operand) → (use_key old == key) ≡ true → (use_key new == key) ≡ false → list_any (is_mention key) (map (operand_replaced old new) xs) ≡ false
-none_old old new key [] e u = refl
-none_old old new key (x ∷ xs) e u = rw (old_gone old new key x e u) (none_old old new key xs e u)
-
-same_others : (old new key : ℕ) (xs : List Operand) → (use_key old == key) ≡ false → (use_key new == key) ≡ false → list_any (is_mention key) (map (operand_replaced old new) xs) ≡ list_any (is_mention key) xs
+pub same_others : (old new key : ℕ) (xs : List Operand) → (use_key old == key) ≡ false → (use_key new == key) ≡ false → list_any (is_mention key) (map (operand_replaced old new) xs) ≡ list_any (is_mention key) xs
 same_others old new key [] e u = refl
 same_others old new key (x ∷ xs) e u =
     ap₂ (λ a b. a || b) (others_same old new key x e u) (same_others old new key xs e u)
-
--- the new use is noted and the old one taken out
-pub mentions-replaced : (old new key : ℕ) (xs : List Operand) → old ≢ new → list_any (is_use_of old) xs ≡ true
-    → ((list_any (is_mention key) xs || list_any (is_mention key) (Use (record { 0 = new }) ∷ [])) && not (list_any (is_mention key) (Use (record { 0 = old }) ∷ []))) ≡ list_any (is_mention key) (map (operand_replaced old new) xs)
-mentions-replaced old new key xs apart u = ⊎_elim
-    (λ (is_new : (use_key new == key) ≡ true).
-    let not_old : (use_key old == key) ≡ false = grind (arith, nat_tests, is_new) in
-    rw (is_new, not_old) (or_and (list_any (is_mention key) xs) ∙ sym (any_new old new key xs is_new u)))
-    (λ (not_new : (use_key new == key) ≡ false). ⊎_elim
-    (λ (is_old : (use_key old == key) ≡ true). rw (not_new, is_old) (and_false (list_any (is_mention key) xs || false) ∙ sym (none_old old new key xs is_old not_new)))
-    (λ (not_old : (use_key old == key) ≡ false). rw (not_new, not_old) (and_true (list_any (is_mention key) xs) ∙ sym (same_others old new key xs not_old not_new)))
-    (test_of (use_key old == key)))
-    (test_of (use_key new == key))
-  where
-    or_and : (b : Bool) → ((b || true) && true) ≡ true
-    or_and true = refl
-    or_and false = refl
-
-    and_false : (b : Bool) → (b && false) ≡ false
-    and_false true = refl
-    and_false false = refl
-
-    and_true : (b : Bool) → ((b || false) && true) ≡ b
-    and_true true = refl
-    and_true false = refl
 
 -- where there is no use, nothing changes
 operands_without : (old new : ℕ) (xs : List Operand) → list_any (is_use_of old) xs ≡ false → map (operand_replaced old new) xs ≡ xs
@@ -226,7 +157,3 @@ uses-replaced old new p apart = by p.1.operands
     by : (xs : List Operand) → list_any (is_use_of old) (map (operand_replaced old new) xs) ≡ false
     by [] = refl
     by (x ∷ xs) = rw (one x) (by xs)
-
--- so that replacing twice is replacing once
-pub replaced-twice : (old new : ℕ) (p : ℕ × InstrData) → old ≢ new → entry_replaced old new (entry_replaced old new p) ≡ entry_replaced old new p
-replaced-twice old new p apart = entry_replaced-without old new (entry_replaced old new p) (uses-replaced old new p apart)

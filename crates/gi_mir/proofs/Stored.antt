@@ -1,5 +1,5 @@
 -- An arena that spells blocks, with all that is written down beside it, stays so under each edit.
-use Rattle.std.proofs.Common.{◌≡◌, ◌≢◌, ℕ, zero, suc, ◌+◌, ◌^◌, ◌<◌, ◌≤◌, Bool, true, false, not, ◌&&◌, ◌||◌, List, [], ◌∷◌, ◌++◌, Option, Some, None, ◌⊎◌, inl, inr, ⊎_elim, length, get_or, set, refl, sym, subst, ap, ◌∙◌, arith, eqb-true}
+use Rattle.std.proofs.Common.{◌≡◌, ◌≢◌, ℕ, zero, suc, ◌+◌, ◌<◌, ◌≤◌, Bool, true, false, not, ◌&&◌, ◌||◌, List, [], ◌∷◌, ◌++◌, Option, Some, None, ◌⊎◌, inl, inr, ⊎_elim, length, get_or, set, refl, sym, subst, ap, ◌∙◌, arith, eqb-true}
 use Rattle.std.specs.Prelude.{Contains, IfSome, insert, remove, slice_get, option_map, is_some}
 use Rattle.std.specs.List.{list_any}
 use Rattle.std.specs.Option.{option_map_or}
@@ -21,7 +21,7 @@ use Rattle.gi_mir.specs.Arena.{FitsGap, HasOrder, IsLinked, IsStored, blocks_in,
 use Rattle.gi_mir.specs.Data.{InstrData, BlockData}
 use Rattle.gi_mir.specs.Edit.{HeadData, empty_block, ids_of, spot_in, all_instrs, block_changed_at, block_with, changed_at, has_instr, of_kind, with_kind, with_operand}
 use Rattle.gi_mir.specs.Ids.{AreOwnIds, uses_in, uses_of}
-use Rattle.gi_mir.specs.Mentions.{is_mention, is_mentioned, mention_of, operands_of, mentions, mentioning, precedes, listed, HasSameLists, IsNoted, IsForgotten, IsSorted, Lacks}
+use Rattle.gi_mir.specs.Mentions.{is_mention, is_mentioned, mention_of, operands_of, mentions, mentioning, precedes, listed, IsNoted, IsForgotten, IsSorted, AreInRank, Lacks}
 use Rattle.gi_mir.specs.Places.{place, comes_before, body_at, id_in, nth_id, with_changed_at, with_inserted, with_removed}
 use Rattle.gi_mir.proofs.ArenaLemmas.{blocks_in-linked}
 use Rattle.gi_mir.proofs.Edits.{length-changed_at, set-as_changed, slice_get-push, slice_get-pushed_before}
@@ -32,6 +32,7 @@ use Rattle.gi_mir.proofs.Linking.{IsLinked-set, IsRelinked-changed, IsRelinked-i
 use Rattle.gi_mir.proofs.Located.{HasDistinctIds-in, get_or-within, id_in-within, nth_id-place_of, nth_id-within, uses_of-id_in}
 use Rattle.gi_mir.proofs.Mentioned.{IsSplit, IsListedAs, IsSplit-new, IsSplit-at, IsListedAs-with, IsListedAs-without, IsListedAs-noted, IsListedAs-forgotten, IsSorted-as, Lacks-as, mentions-with, mentions-without, ahead, behind, all-split, all-split-at, all-inserted, all-removed, all-changed}
 use Rattle.gi_mir.proofs.OrLemmas.{or_right}
+use Rattle.gi_mir.proofs.Ranks.{AreInRank-as}
 use Rattle.gi_mir.proofs.Ordered.{HasOrder-changed, HasOrder-inserted, HasOrder-push, HasOrder-removed, IsBetween, IsBetween-fits}
 
 -- ---- what an arena spells
@@ -68,15 +69,6 @@ spelled-stored l blocks spelled =
       order = here.order;
       has_mentions = here.has_mentions;
     }
-
-pub spelled-same_lists : (bodies : List Body) (slots : List Slot) (places : List Place) (old new : Mentions) (blocks : List BlockData) → HasSameLists old new → IsSpelled bodies slots places old blocks → IsSpelled bodies slots places new blocks
-spelled-same_lists bodies slots places old new blocks same spelled = record {
-  given = spelled.given;
-  own = spelled.own;
-  linked = spelled.linked;
-  order = spelled.order;
-  has_mentions = λ key. same.same key ∙ spelled.has_mentions key;
-}
 
 -- ---- what a call reads of an instruction
 
@@ -342,6 +334,13 @@ IsSorted-at bodies slots places m blocks b at id spot stands there spelled =
     (λ i h. IsSorted-as places spot id (ahead blocks b at) (behind blocks b (suc at)) m (λ key. mentions key (id.0, i)) (IsSplit-at places blocks b at id spot spelled.order stands there)
     (IsListedAs-with m (ahead blocks b at) (behind blocks b (suc at)) (id.0, i) (all_instrs blocks) (all-split-at blocks b at (id.0, i) (id_in-within id.0 blocks b at stands) h) spelled.has_mentions))
 
+-- and right behind those that precede it where it is listed
+pub AreInRank-at : (bodies : List Body) (slots : List Slot) (places : List Place) (m : Mentions) (blocks : List BlockData) (b at : ℕ) (id : InstrId) (spot : Place) → id_in blocks b at ≡ Some id.0 → slice_get places id.0 ≡ Some spot → IsSpelled bodies slots places m blocks → AreInRank places spot id m
+AreInRank-at bodies slots places m blocks b at id spot stands there spelled =
+    entry_of (AreInRank places spot id m) blocks b at id.0 stands
+    (λ i h. AreInRank-as places spot id (ahead blocks b at) (behind blocks b (suc at)) m (λ key. mentions key (id.0, i)) (IsSplit-at places blocks b at id spot spelled.order stands there)
+    (IsListedAs-with m (ahead blocks b at) (behind blocks b (suc at)) (id.0, i) (all_instrs blocks) (all-split-at blocks b at (id.0, i) (id_in-within id.0 blocks b at stands) h) spelled.has_mentions))
+
 -- the lists with the new operand noted
 pub after_note : (bodies : List Body) (slots : List Slot) (places : List Place) (old noted : Mentions) (blocks : List BlockData) (b at : ℕ) (id : InstrId) (spot : Place) (i : InstrData) (new : Operand) → id_in blocks b at ≡ Some id.0 → slice_get places id.0 ≡ Some spot → slice_get (body_at blocks b).instrs at ≡ Some (id.0, i)
     → IsNoted old noted (precedes places spot) (new ∷ []) id → IsSpelled bodies slots places old blocks
@@ -351,6 +350,13 @@ after_note bodies slots places old noted blocks b at id spot i new stands there 
     let back = behind blocks b (suc at) in
     IsListedAs-noted (precedes places spot) id front back old noted (λ key. mentions key (id.0, i)) (new ∷ []) (IsSplit-at places blocks b at id spot spelled.order stands there)
     (IsListedAs-with old front back (id.0, i) (all_instrs blocks) (all-split-at blocks b at (id.0, i) (id_in-within id.0 blocks b at stands) h) spelled.has_mentions) noted_so
+
+pub AreInRank-after_note : (bodies : List Body) (slots : List Slot) (places : List Place) (old noted : Mentions) (blocks : List BlockData) (b at : ℕ) (id : InstrId) (spot : Place) (new : Operand) → id_in blocks b at ≡ Some id.0 → slice_get places id.0 ≡ Some spot
+    → IsNoted old noted (precedes places spot) (new ∷ []) id → IsSpelled bodies slots places old blocks → AreInRank places spot id noted
+AreInRank-after_note bodies slots places old noted blocks b at id spot new stands there noted_so spelled =
+    entry_of (AreInRank places spot id noted) blocks b at id.0 stands
+    (λ i h. AreInRank-as places spot id (ahead blocks b at) (behind blocks b (suc at)) noted (λ key. mentions key (id.0, i) || list_any (is_mention key) (new ∷ [])) (IsSplit-at places blocks b at id spot spelled.order stands there)
+    (after_note bodies slots places old noted blocks b at id spot i new stands there h noted_so spelled))
 
 -- where the old operand was the last that mentions its register, and where it wasn't
 pub spelled-operand-last : (bodies : List Body) (slots after : List Slot) (places : List Place) (old noted final : Mentions) (blocks : List BlockData) (b at : ℕ) (id : InstrId) (spot : Place) (i : InstrData) (k : ℕ) (x new : Operand)

@@ -1,13 +1,12 @@
 -- How the instructions of a function are held: in an arena by id, each with its neighbours.
-use Rattle.std.specs.Prelude.{◌≡◌, ℕ, zero, suc, ◌+◌, ◌-◌, ◌^◌, ◌<◌, ◌≤◌, Bool, false, List, [], ◌∷◌, Option, Some, None, map, length, option_map, slice_get}
+use Rattle.std.specs.Prelude.{◌≡◌, ℕ, zero, suc, ◌+◌, ◌-◌, ◌^◌, ◌<◌, ◌≤◌, Bool, true, false, All, ◌==◌, List, [], ◌∷◌, Option, Some, None, map, length, option_map, slice_get}
 use Rattle.std.specs.List.{list_any, position_or_len}
 use Rattle.std.specs.Option.{option_map_or}
 use Rattle.gi_mir.specs.Data.{InstrData, BlockData}
-use Rattle.gi_mir.specs.Edit.{HeadData, all_instrs, changed_at, has_instr, head_of, place_of}
+use Rattle.gi_mir.specs.Edit.{HeadData, all_instrs, changed_at, has_instr, head_of, is_use_of, place_of}
 use Rattle.gi_mir.specs.Ids.{AreOwnIds}
 use Rattle.gi_mir.specs.Mentions.{listed, mentioning, operands_of}
 use Rattle.gi_mir.specs.Places.{body_at, id_in, nth_id, place}
-use Rattle.gi_mir.specs.Tables.{IsFirstMention}
 use Rattle.gi_mir.specs.declared.block.Body.{Body}
 use Rattle.gi_mir.specs.declared.block.InstrId.{InstrId}
 use Rattle.gi_mir.specs.declared.block.Slot.{Slot}
@@ -147,7 +146,7 @@ pub record FitsGap (places : List Place) (gap : Gap) (label : ℕ) : Type 0 wher
   pub positive : 0 < label
   pub small : label < 2 ^ 62
 
--- the first instruction that mentions a key, which has its place
-abbrev pub IsFirstOf : List BlockData → ℕ → Option InstrId → Type 0
-IsFirstOf blocks key None = mentioning key (all_instrs blocks) ≡ []
-IsFirstOf blocks key (Some id) = IsFirstMention blocks key id (spot_of blocks id.0)
+-- the ids of all instructions that use a register
+pub record AreUsers (slots : List Slot) (reg : ℕ) (users : List InstrId) : Type 0 where
+  pub given : All (λ id. id.0 < length slots) users
+  pub named : (id : ℕ) (s : Slot) → slice_get slots id ≡ Some s → list_any (is_use_of reg) (operands_of s.entry) ≡ true → list_any (λ user. user.0 == id) users ≡ true

@@ -1,17 +1,18 @@
 -- Which instructions mention a register, and how the lists of them change.
-use Rattle.std.specs.Prelude.{◌≡◌, ◌≢◌, ℕ, ◌+◌, ◌*◌, Bool, true, false, not, List, [], ◌∷◌, Option, Some, None, ◌==◌, map, filter, slice_get, if◌then◌else◌}
+use Rattle.std.specs.Prelude.{◌≡◌, ◌≢◌, ℕ, ◌+◌, ◌*◌, ◌/◌, ◌%◌, Bool, true, false, not, List, [], ◌∷◌, Option, Some, None, ◌==◌, map, filter, slice_get, if◌then◌else◌}
 use Rattle.std.specs.List.{list_any}
-use Rattle.std.specs.List.Sorted.{IsPartitionedBy}
+use Rattle.std.specs.List.Sorted.{IsPartitionedBy, IsPartitionPoint}
 use Rattle.std.specs.Option.{option_map_or}
 use Rattle.std.specs.BTreeMap.{get}
 use Rattle.std.specs.Ordering.{nat_cmp}
-use Rattle.gi_mir.specs.Data.{InstrData, BlockData}
+use Rattle.gi_mir.specs.Data.{InstrData}
 use Rattle.gi_mir.specs.declared.block.InstrId.{InstrId}
 use Rattle.gi_mir.specs.declared.mentions.Mentions.{Mentions}
 use Rattle.gi_mir.specs.declared.operand.Operand.{Operand}
 use Rattle.gi_mir.specs.declared.operand.Operand.TheVariants.{Def, Use}
 use Rattle.gi_mir.specs.declared.place.Place.{Place}
-use Rattle.gi_mir.specs.Places.{body_at, comes_before}
+use Rattle.gi_mir.specs.Pages.{listed_at}
+use Rattle.gi_mir.specs.Places.{comes_before}
 
 -- the keys of a register's definitions and of its uses
 abbrev pub definition_key : ℕ → ℕ
@@ -40,9 +41,6 @@ is_mentioned x operands = option_map_or (λ key. list_any (is_mention key) opera
 abbrev pub operands_of : Option (ℕ × InstrData) → List Operand
 operands_of found = option_map_or (λ p. p.1.operands) found []
 
-abbrev pub operands_at : List BlockData → Place → List Operand
-operands_at blocks spot = operands_of (slice_get (body_at blocks spot.block).instrs spot.at)
-
 -- the id of an instruction
 abbrev pub instr_id : ℕ × InstrData → InstrId
 instr_id p = record { 0 = p.0 }
@@ -69,9 +67,29 @@ noted before id (x ∷ xs) =
 abbrev pub without : InstrId → List InstrId → List InstrId
 without id ids = filter (λ x. not (x.0 == id.0)) ids
 
+-- whether the place that is written down for an id comes before that of another
+abbrev pub stands_before : List Place → InstrId → InstrId → Bool
+stands_before places id other = option_map_or (λ spot. precedes places spot id) (slice_get places other.0) false
+
+-- an id behind those of a list that come before it, and what becomes of the others
+abbrev pub one_merged : (InstrId → InstrId → Bool) → InstrId → (List InstrId → List InstrId) → List InstrId → List InstrId
+one_merged before x rest [] = x ∷ rest []
+one_merged before x rest (y ∷ ys) =
+    if before y x then y ∷ one_merged before x rest ys else (if y.0 == x.0 then x ∷ rest ys else x ∷ rest (y ∷ ys))
+
+-- the ids of two lists in one order, each once
+abbrev pub merged : (InstrId → InstrId → Bool) → List InstrId → List InstrId → List InstrId
+merged before [] ys = ys
+merged before (x ∷ xs) ys = one_merged before x (merged before xs) ys
+
+-- a list has the ids before some place first, and wherever it has a given one, that stands right behind these
+pub record IsInRank (before : InstrId → Bool) (id : InstrId) (ids : List InstrId) : Type 0 where
+  pub sorted : IsPartitionedBy before ids
+  pub ranked : (at : ℕ) → has_at ids at id ≡ true → IsPartitionPoint (λ x. before x ≡ true) (λ x. before x ≡ false) ids at
+
 -- the ids that are listed under a key
 abbrev pub listed : Mentions → ℕ → List InstrId
-listed m key = option_map_or (λ v. v.items) (get nat_cmp m.lists key) []
+listed m key = option_map_or (λ page. listed_at page (key % 128)) (get nat_cmp m.pages (key / 128)) []
 
 -- the lists before and after a change
 pub record HasSameLists (old new : Mentions) : Type 0 where
@@ -85,6 +103,10 @@ pub record IsListed (old new : Mentions) (key : ℕ) (ids : List InstrId) : Type
 pub record IsSorted (places : List Place) (spot : Place) (m : Mentions) : Type 0 where
   pub sorted : (key : ℕ) → IsPartitionedBy (precedes places spot) (listed m key)
 
+-- and an id right behind these, where it has it
+pub record AreInRank (places : List Place) (spot : Place) (id : InstrId) (m : Mentions) : Type 0 where
+  pub ranks : (key : ℕ) → IsInRank (precedes places spot) id (listed m key)
+
 -- no list has an id
 pub record Lacks (m : Mentions) (id : InstrId) : Type 0 where
   pub absent : (key : ℕ) → list_any (λ x. x.0 == id.0) (listed m key) ≡ false
@@ -97,3 +119,9 @@ pub record IsNoted (old new : Mentions) (before : InstrId → Bool) (operands : 
 pub record IsForgotten (old new : Mentions) (operands : List Operand) (id : InstrId) : Type 0 where
   pub here : (key : ℕ) → list_any (is_mention key) operands ≡ true → listed new key ≡ without id (listed old key)
   pub others : (key : ℕ) → list_any (is_mention key) operands ≡ false → listed new key ≡ listed old key
+
+-- the users of one register become users of another
+pub record AreUsersMoved (old new : Mentions) (places : List Place) (from to : ℕ) : Type 0 where
+  pub gone : listed new (use_key from) ≡ []
+  pub joined : listed new (use_key to) ≡ merged (stands_before places) (listed old (use_key from)) (listed old (use_key to))
+  pub others : (key : ℕ) → key ≢ use_key from → key ≢ use_key to → listed new key ≡ listed old key

@@ -1,5 +1,5 @@
 -- Where each instruction stands in layout.
-use Rattle.std.specs.Prelude.{◌≡◌, ℕ, ◌<◌, ◌≤◌, ◌==◌, ◌&&◌, ◌||◌, Bool, nat_lt, List, Option, Some, option_map, length, insert, remove, slice_get, slice_index_or, slice_set}
+use Rattle.std.specs.Prelude.{◌≡◌, ℕ, ◌<◌, ◌==◌, ◌&&◌, ◌||◌, Bool, nat_lt, List, Option, Some, option_map, insert, remove, slice_get, slice_index_or, slice_set}
 use Rattle.gi_mir.specs.Data.{InstrData, BlockData}
 use Rattle.gi_mir.specs.Edit.{empty_block, block_changed_at}
 use Rattle.gi_mir.specs.declared.place.Place.{Place}
@@ -17,10 +17,6 @@ nth_id instrs k = option_map (λ p. p.0) (slice_get instrs k)
 
 abbrev pub id_in : List BlockData → ℕ → ℕ → Option ℕ
 id_in blocks block at = nth_id (slice_index_or blocks block empty_block).instrs at
-
--- each instruction's place is written down
-pub record HasPlaces (places : List Place) (blocks : List BlockData) : Type 0 where
-  pub located : (id block at : ℕ) → id_in blocks block at ≡ Some id → slice_get places id ≡ Some (place block at)
 
 -- the block at this place in layout, and edits of the instruction at a place
 abbrev pub body_at : List BlockData → ℕ → BlockData
@@ -44,9 +40,3 @@ pub record HasGivenIds (instrs : List (ℕ × InstrData)) (next_id : ℕ) : Type
 
 pub record HasDistinctIds (instrs : List (ℕ × InstrData)) : Type 0 where
   pub once : (j k id : ℕ) → nth_id instrs j ≡ Some id → nth_id instrs k ≡ Some id → j ≡ k
-
--- the places of a block's instructions between two of its places are written down anew, and no others
-pub record IsRenumbered (old new : List Place) (block from end : ℕ) (instrs : List (ℕ × InstrData)) : Type 0 where
-  pub same_length : length new ≡ length old
-  pub numbered : (k id : ℕ) → from ≤ k → k < end → nth_id instrs k ≡ Some id → slice_get new id ≡ Some (place block k)
-  pub others : (id : ℕ) → ((k : ℕ) → from ≤ k → k < end → nth_id instrs k ≡ Some id → ⊥) → slice_get new id ≡ slice_get old id

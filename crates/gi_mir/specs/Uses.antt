@@ -1,8 +1,8 @@
 -- A register whose uses become those of another.
-use Rattle.std.specs.Prelude.{◌≡◌, ℕ, ◌+◌, max, List, ◌==◌, map, take, drop, if◌then◌else◌}
+use Rattle.std.specs.Prelude.{ℕ, ◌+◌, max, ◌==◌, map, if◌then◌else◌}
 use Rattle.std.specs.List.{list_any}
 use Rattle.gi_mir.specs.Data.{InstrData, BlockData, FunctionData}
-use Rattle.gi_mir.specs.Edit.{HeadData, head_of, ids_of, all_instrs, uses}
+use Rattle.gi_mir.specs.Edit.{all_instrs, uses}
 use Rattle.gi_mir.specs.declared.operand.Operand.{Operand}
 use Rattle.gi_mir.specs.declared.operand.Operand.TheVariants.{Use}
 
@@ -27,19 +27,3 @@ with_reg_replaced old new f =
       blocks = map (block_replaced old new) f.blocks;
       next_reg = if list_any (uses old) (all_instrs f.blocks) then max f.next_reg (new + 1) else f.next_reg;
     }
-
--- a block without what its instructions are
-abbrev pub frame_of : BlockData → HeadData × List ℕ
-frame_of b = (head_of b, ids_of b)
-
--- blocks in which the uses are replaced up to some place in layout, and none behind it
-pub record ArePartlyReplaced (old new : ℕ) (before after : List BlockData) : Type 0 where
-  pub done : ℕ
-  pub frames : map frame_of after ≡ map frame_of before
-  pub replaced : take done (all_instrs after) ≡ map (entry_replaced old new) (take done (all_instrs before))
-  pub left : drop done (all_instrs after) ≡ drop done (all_instrs before)
-
--- and all else of the function as it was, but that the new register counts as one that it has had
-pub record IsPartlyReplaced (old new : ℕ) (before after : FunctionData) : Type 0 where
-  pub blocks : ArePartlyReplaced old new before.blocks after.blocks
-  pub others : after ≡ record before { blocks = after.blocks; next_reg = max before.next_reg (new + 1) }

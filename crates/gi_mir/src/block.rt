@@ -154,13 +154,13 @@ impl Slot {
         old
     }
 
-    /// Makes each use of a register in the instruction one of another.
+    /// Makes each use of a register in the instruction, if there is one, one of another.
     pub(crate) fn replace_reg(&mut self, old: Reg, new: Reg)
-        requires { IsTrue (is_some self.old.entry) }
         ensures { self.new ≡ slot_changed (instr_replaced old.0 new.0) self.old }
     {
-        let entry = self.entry.as_mut().unwrap();
-        entry.replace_reg(old, new);
+        if let Some(entry) = self.entry.as_mut() {
+            entry.replace_reg(old, new);
+        }
     }
 
     /// Gives a definition of the instruction another kind.

@@ -7,7 +7,7 @@ ghost use Rattle.gi_mir.specs.Formed.{is_formed};
 ghost use Rattle.gi_mir.specs.Ids.{AreOwnIds};
 ghost use Rattle.gi_mir.specs.Instrs.{left};
 ghost use Rattle.gi_mir.specs.Registers.{kind_in_operand, kind_in_operands, kind_of};
-ghost use Rattle.gi_mir.specs.Uses.{with_reg_replaced, IsPartlyReplaced};
+ghost use Rattle.gi_mir.specs.Uses.{with_reg_replaced};
 
 use crate::block::{Block, InstrId};
 use crate::instr::Instr;
@@ -360,19 +360,16 @@ impl Function {
         !self.uses_of(reg).is_empty()
     }
 
-    /// Makes each use of a register one of another. Where memory runs out, the uses up to some place in layout
-    /// are replaced.
+    /// Makes each use of a register one of another. Where memory runs out, nothing is changed.
     pub fn replace_reg(&mut self, old: Reg, new: Reg) -> Result<(), Memory>
         ensures ok { OnOk result (self.new ≡ with_reg_replaced old.0 new.0 self.old) }
-        ensures err { OnErr result (IsPartlyReplaced old.0 new.0 self.old self.new) }
+        ensures err { OnErr result (self.new ≡ self.old) }
     {
         if !self.is_used(old) {
             return Ok(());
         }
+        self.layout.replace_reg(old, new)?;
         self.next_reg = self.next_reg.max(new.0 as u64 + 1);
-        if old.0 == new.0 {
-            return Ok(());
-        }
-        self.layout.replace_reg(old, new)
+        Ok(())
     }
 }

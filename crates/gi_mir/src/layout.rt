@@ -13,21 +13,33 @@
 
 ghost use Rattle.std.specs.List.{list_any};
 ghost use Rattle.std.specs.Prelude.{◌≡◌, ◌↔◌, IsTrue, ◌≢◌, map, ◌<◌, ◌≤◌, ◌+◌, ◌-◌, Contains, true, false, ◌++◌, ◌∷◌, [], length, OnOk, OnErr, IfOk, IfSome, Some, option_map, slice_get};
-ghost use Rattle.gi_mir.specs.Arena.{blocks_of, spot_of, is_in, IsStored, IsFirstOf, gap_at, id_named, operands_in, slot_between, next_set, previous_set};
-ghost use Rattle.gi_mir.specs.Edit.{head_of, block_with, with_operand, with_kind, ids_of, id_at, HasDefAt, is_use_of, spot_in};
+ghost use Rattle.gi_mir.specs.Arena.{blocks_of, spot_of, is_in, IsStored, AreUsers, slot_changed, gap_at, id_named, operands_in, slot_between, next_set, previous_set};
+ghost use Rattle.gi_mir.specs.Edit.{head_of, block_with, with_operand, with_kind, ids_of, id_at, HasDefAt, spot_in};
 ghost use Rattle.gi_mir.specs.Formed.{is_formed};
-ghost use Rattle.gi_mir.specs.Mentions.{HasSameLists, IsNoted, IsSorted, Lacks, listed, operands_at, precedes};
+ghost use Rattle.gi_mir.specs.Mentions.{HasSameLists, IsNoted, IsSorted, Lacks, precedes};
 ghost use Rattle.gi_mir.specs.Places.{body_at, place, comes_before, with_inserted, with_removed, with_changed_at};
-ghost use Rattle.gi_mir.specs.Uses.{instr_replaced, block_replaced, ArePartlyReplaced};
+ghost use Rattle.gi_mir.specs.Uses.{instr_replaced, block_replaced};
 
 use crate::block::{Block, Body, InstrId, Numbered, Slot};
 use crate::instr::Instr;
-use crate::mentions::{Mentions, first, use_key};
+use crate::mentions::Mentions;
 use crate::operand::{Kind, Operand, Reg};
 use crate::place::Place;
 use crate::room::Gap;
 use gi_llt::Memory;
 use std::alloc::Global;
+
+/// Makes each use of a register one of another, given the ids of all instructions that use it.
+fn replace_among(slots: &mut [Slot], users: &[InstrId], old: Reg, new: Reg)
+    requires users { AreUsers slots.old old.0 users.now }
+    requires apart { old.0 ≢ new.0 }
+    ensures { slots.new ≡ map (slot_changed (instr_replaced old.0 new.0)) slots.old }
+{
+    for id in users {
+        let slot = &mut slots[id.0];
+        slot.replace_reg(old, new);
+    }
+}
 
 /// Blocks, the arena, the place of each id, and those that mention each register.
 #[derive(Drop)]
@@ -259,16 +271,16 @@ impl Layout {
         ensures given { length self.new.slots.items ≡ length self.old.slots.items }
         ensures stored { IsStored self.new }
     {
-        let block = self.places[id.0].block;
+        let spot = self.places[id.0];
         let slot = &mut self.slots[id.0];
         let previous = slot.previous;
         let next = slot.next;
         let instr = slot.take();
         self.set_next(previous, next);
         self.set_previous(next, previous);
-        let body = &mut self.bodies[block as usize];
+        let body = &mut self.bodies[spot.block as usize];
         body.lose(previous, next);
-        self.mentions.forget_all(instr.operands.as_slice(), id);
+        self.mentions.forget_all(self.places.as_slice(), instr.operands.as_slice(), id, spot);
         instr
     }
 
@@ -288,52 +300,25 @@ impl Layout {
         let slot = &mut self.slots[id.0];
         let old = slot.set_operand(k, new);
         if !slot.mentions(old) {
-            self.mentions.forget_operand(old, id);
+            self.mentions
+                .forget_operand(self.places.as_slice(), old, id, spot);
         }
         Ok(())
     }
 
-    /// Makes each use of a register in an instruction one of another.
-    fn replace_at(&mut self, id: InstrId, old: Reg, new: Reg) -> Result<(), Memory>
-        requires stored { IsStored self.old }
-        requires stands { is_in (blocks_of self.old) id.0 ≡ true }
-        requires there { list_any (is_use_of old.0) (operands_at (blocks_of self.old) (spot_of (blocks_of self.old) id.0)) ≡ true }
-        requires apart { old.0 ≢ new.0 }
-        ensures ok { OnOk result (blocks_of self.new ≡ with_changed_at (instr_replaced old.0 new.0) (blocks_of self.old) (spot_of (blocks_of self.old) id.0)) }
+    /// Makes each use of a register one of another. Where memory runs out, nothing is changed.
+    pub(crate) fn replace_reg(&mut self, old: Reg, new: Reg) -> Result<(), Memory>
+        requires { IsStored self.old }
+        ensures ok { OnOk result (blocks_of self.new ≡ map (block_replaced old.0 new.0) (blocks_of self.old)) }
         ensures err { OnErr result (blocks_of self.new ≡ blocks_of self.old) }
         ensures given { length self.new.slots.items ≡ length self.old.slots.items }
         ensures stored { IsStored self.new }
     {
-        let spot = self.places[id.0];
-        self.mentions
-            .note_operand(self.places.as_slice(), Operand::Use(new), id, spot)?;
-        let slot = &mut self.slots[id.0];
-        slot.replace_reg(old, new);
-        self.mentions.forget_operand(Operand::Use(old), id);
-        Ok(())
-    }
-
-    /// The first instruction that is listed under a key.
-    fn first_of(&self, key: u64) -> Option<InstrId>
-        requires { IsStored self.now }
-        ensures { IsFirstOf (blocks_of self.now) key result }
-    {
-        first(self.mentions.of(key))
-    }
-
-    /// Makes each use of a register one of another. Where memory runs out, those up to some place in layout
-    /// are replaced.
-    pub(crate) fn replace_reg(&mut self, old: Reg, new: Reg) -> Result<(), Memory>
-        requires stored { IsStored self.old }
-        requires apart { old.0 ≢ new.0 }
-        ensures ok { OnOk result (blocks_of self.new ≡ map (block_replaced old.0 new.0) (blocks_of self.old)) }
-        ensures err { OnErr result (ArePartlyReplaced old.0 new.0 (blocks_of self.old) (blocks_of self.new)) }
-        ensures given { length self.new.slots.items ≡ length self.old.slots.items }
-        ensures stored { IsStored self.new }
-    {
-        while let Some(id) = self.first_of(use_key(old)) {
-            self.replace_at(id, old, new)?;
+        if old.0 == new.0 {
+            return Ok(());
         }
+        let users = self.mentions.replace(self.places.as_slice(), old, new)?;
+        replace_among(self.slots.as_mut_slice(), users.as_slice(), old, new);
         Ok(())
     }
 

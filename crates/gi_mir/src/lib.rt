@@ -15,6 +15,7 @@ pub mod module;
 pub mod names;
 pub mod opcode;
 pub mod operand;
+mod page;
 mod place;
 mod room;
 pub mod routine;

@@ -1,12 +1,16 @@
 //! Which instructions mention a register: which define it, and which use it, in layout order.
 
-ghost use Rattle.std.specs.Prelude.{◌≡◌, ℕ, [], ◌∷◌, ◌≤◌, length, insert, slice_get, true, false, OnOk, OnErr};
+ghost use Rattle.std.specs.Prelude.{◌≡◌, ◌≢◌, ℕ, ◌+◌, [], ◌∷◌, ◌++◌, ◌<◌, ◌≤◌, length, drop, insert, slice_get, slice_index_or, None, ◌/◌, ◌-◌, true, false, IfOk, OnOk, OnErr};
 ghost use Rattle.std.specs.List.{list_any};
+ghost use Rattle.std.specs.BTreeMap.{get};
+ghost use Rattle.std.specs.Ordering.{nat_cmp};
 ghost use Rattle.std.specs.List.Sorted.{IsPartitionedBy, IsPartitionPoint};
-ghost use Rattle.gi_mir.specs.Mentions.{definition_key, use_key, mention_of, is_mention, precedes, has_at, noted, without, listed, IsListed, HasSameLists, IsSorted, Lacks, IsNoted, IsForgotten};
+ghost use Rattle.gi_mir.specs.declared.block.InstrId.{InstrId};
+ghost use Rattle.gi_mir.specs.Mentions.{definition_key, use_key, mention_of, is_mention, precedes, has_at, noted, without, listed, IsInRank, stands_before, merged, IsListed, HasSameLists, IsSorted, AreInRank, Lacks, IsNoted, IsForgotten, AreUsersMoved};
 
 use crate::block::InstrId;
 use crate::operand::{Operand, Reg};
+use crate::page::{PAGE, Page};
 use crate::place::Place;
 use gi_llt::Memory;
 use std::alloc::Global;
@@ -17,7 +21,7 @@ use std::collections::BTreeMap;
 #[derive(Drop)]
 pub(crate) struct Mentions {
     alloc: Global,
-    lists: BTreeMap<u64, Vec<InstrId>>,
+    pages: BTreeMap<u64, Page>,
 }
 
 /// The key of the definitions of a register.
@@ -74,13 +78,27 @@ fn precedes(places: &[Place], id: InstrId, spot: Place) -> bool
     }
 }
 
+/// Whether the last instruction of a list stands before a place. It does where instructions come in layout order.
+fn is_last_before(places: &[Place], ids: &[InstrId], spot: Place) -> bool
+    ensures some { result ≡ true → 0 < length ids.now }
+    ensures last { result ≡ true → (other : InstrId) → precedes places.now spot (slice_index_or ids.now (length ids.now - 1) other) ≡ true }
+{
+    let count = ids.len();
+    0 < count && precedes(places, ids[count - 1], spot)
+}
+
 /// How many instructions of a list stand before a place.
+#[tactic(auto, using(crate::proofs::Paged::all_before))]
 fn rank(places: &[Place], ids: &[InstrId], spot: Place) -> usize
     requires { IsPartitionedBy (precedes places.now spot) ids.now }
     ensures point { IsPartitionPoint (λ id. precedes places.now spot id ≡ true) (λ id. precedes places.now spot id ≡ false) ids.now result }
     ensures bound { result ≤ length ids.now }
 {
-    ids.partition_point(|id| precedes(places, *id, spot))
+    if is_last_before(places, ids, spot) {
+        ids.len()
+    } else {
+        ids.partition_point(|id| precedes(places, *id, spot))
+    }
 }
 
 /// The first instruction of a list.
@@ -110,7 +128,12 @@ fn insert(ids: &mut Vec<InstrId>, at: usize, id: InstrId) -> Result<(), Memory>
 }
 
 /// Adds an instruction, which stands at this place, to a list unless it is there.
-fn put(ids: &mut Vec<InstrId>, places: &[Place], id: InstrId, spot: Place) -> Result<(), Memory>
+pub(crate) fn put(
+    ids: &mut Vec<InstrId>,
+    places: &[Place],
+    id: InstrId,
+    spot: Place,
+) -> Result<(), Memory>
     requires { IsPartitionedBy (precedes places.now spot) ids.old.items }
     ensures ok { OnOk result (ids.new.items ≡ noted (precedes places.now spot) id ids.old.items) }
     ensures err { OnErr result (ids.new.items ≡ ids.old.items) }
@@ -123,11 +146,89 @@ fn put(ids: &mut Vec<InstrId>, places: &[Place], id: InstrId, spot: Place) -> Re
     }
 }
 
-/// Takes an instruction out of a list.
-fn take_out(ids: &mut Vec<InstrId>, id: InstrId)
+/// Takes an instruction, which stands at this place, out of a list if it is there.
+pub(crate) fn take_out(ids: &mut Vec<InstrId>, places: &[Place], id: InstrId, spot: Place)
+    requires { IsInRank (precedes places.now spot) id ids.old.items }
     ensures { ids.new.items ≡ without id ids.old.items }
 {
-    ids.retain(|x| x.0 != id.0);
+    let at = rank(places, ids.as_slice(), spot);
+    if has_at(ids.as_slice(), at, id) {
+        ids.remove(at);
+    }
+}
+
+/// Whether the place of an instruction comes before that of another.
+fn stands_before(places: &[Place], id: InstrId, other: InstrId) -> bool
+    ensures { result ≡ stands_before places.now id other }
+{
+    match places.get(other.0).copied() {
+        Some(spot) => precedes(places, id, spot),
+        None => false,
+    }
+}
+
+/// How far a merge of two lists has come in each.
+#[derive(Clone, Copy)]
+struct Heads {
+    left: usize,
+    right: usize,
+}
+
+impl Heads {
+    fn new(left: usize, right: usize) -> Heads
+        ensures left { result.left ≡ left }
+        ensures right { result.right ≡ right }
+    {
+        Heads { left, right }
+    }
+}
+
+/// The next id of a merge of two lists, and how far it has come then.
+fn next_merged(places: &[Place], xs: &[InstrId], ys: &[InstrId], at: Heads) -> (InstrId, Heads)
+    requires left { at.left < length xs.now }
+    requires right { at.right < length ys.now }
+    ensures next { merged (stands_before places.now) (drop at.left xs.now) (drop at.right ys.now) ≡ result.0 ∷ merged (stands_before places.now) (drop result.1.left xs.now) (drop result.1.right ys.now) }
+    ensures within { (result.1.left ≤ length xs.now) × (result.1.right ≤ length ys.now) }
+    ensures further { at.left + at.right < result.1.left + result.1.right }
+{
+    let Heads { left, right } = at;
+    let x = xs[left];
+    let y = ys[right];
+    if stands_before(places, y, x) {
+        (y, Heads::new(left, right + 1))
+    } else if y.0 == x.0 {
+        (x, Heads::new(left + 1, right + 1))
+    } else {
+        (x, Heads::new(left + 1, right))
+    }
+}
+
+/// Adds the rest of a list behind another.
+fn append(ids: &mut Vec<InstrId>, more: &[InstrId]) -> Result<(), Memory>
+    ensures { OnOk result (ids.new.items ≡ ids.old.items ++ more.now) }
+{
+    ids.extend_from_slice(more).map_err(|_| Memory)
+}
+
+/// The ids of two lists in layout order, each once.
+fn merge(
+    alloc: Global,
+    places: &[Place],
+    xs: &[InstrId],
+    ys: &[InstrId],
+) -> Result<Vec<InstrId>, Memory>
+    ensures { IfOk result (λ ids. ids.items ≡ merged (stands_before places.now) xs.now ys.now) }
+{
+    let mut ids = Vec::new(alloc);
+    let mut at = Heads::new(0, 0);
+    while at.left < xs.len() && at.right < ys.len() {
+        let (id, next) = next_merged(places, xs, ys, at);
+        ids.push(id).map_err(|_| Memory)?;
+        at = next;
+    }
+    append(&mut ids, &xs[at.left..])?;
+    append(&mut ids, &ys[at.right..])?;
+    Ok(ids)
 }
 
 impl Mentions {
@@ -137,7 +238,7 @@ impl Mentions {
     {
         Mentions {
             alloc,
-            lists: BTreeMap::new(alloc),
+            pages: BTreeMap::new(alloc),
         }
     }
 
@@ -145,22 +246,55 @@ impl Mentions {
     pub(crate) fn of(&self, key: u64) -> &[InstrId]
         ensures { result.now ≡ listed self.now key }
     {
-        match self.lists.get(&key) {
-            Some(ids) => ids.as_slice(),
+        match self.pages.get(&(key / PAGE)) {
+            Some(page) => page.at((key % PAGE) as usize),
             None => &[],
         }
     }
 
-    /// Begins a list with one instruction.
+    /// Puts a page in on which there is one list, where there was no page.
+    fn put_page(&mut self, key: u64, ids: Vec<InstrId>) -> Result<(), Memory>
+        requires { get nat_cmp self.old.pages (key / 128) ≡ None }
+        ensures ok { OnOk result (IsListed self.old self.new key ids.items) }
+        ensures err { OnErr result (HasSameLists self.old self.new) }
+    {
+        let mut page = Page::new(self.alloc);
+        page.set(self.alloc, (key % PAGE) as usize, ids)?;
+        self.pages.insert(key / PAGE, page).map_err(|_| Memory)?;
+        Ok(())
+    }
+
+    /// Puts a list under a key.
+    fn set(&mut self, key: u64, ids: Vec<InstrId>) -> Result<(), Memory>
+        ensures ok { OnOk result (IsListed self.old self.new key ids.items) }
+        ensures err { OnErr result (HasSameLists self.old self.new) }
+    {
+        match self.pages.get_mut(&(key / PAGE)) {
+            Some(page) => page.set(self.alloc, (key % PAGE) as usize, ids),
+            None => self.put_page(key, ids),
+        }
+    }
+
+    /// Takes the list under a key.
+    fn take(&mut self, key: u64) -> Vec<InstrId>
+        ensures list { result.items ≡ listed self.old key }
+        ensures rest { IsListed self.old self.new key [] }
+    {
+        match self.pages.get_mut(&(key / PAGE)) {
+            Some(page) => page.take(self.alloc, (key % PAGE) as usize),
+            None => Vec::new(self.alloc),
+        }
+    }
+
+    /// Begins a page with one instruction.
     fn begin(&mut self, key: u64, id: InstrId) -> Result<(), Memory>
-        requires { listed self.old key ≡ [] }
+        requires { get nat_cmp self.old.pages (key / 128) ≡ None }
         ensures ok { OnOk result (IsListed self.old self.new key (id ∷ [])) }
         ensures err { OnErr result (HasSameLists self.old self.new) }
     {
         let mut ids = Vec::new(self.alloc);
         ids.push(id).map_err(|_| Memory)?;
-        self.lists.insert(key, ids).map_err(|_| Memory)?;
-        Ok(())
+        self.put_page(key, ids)
     }
 
     /// Lists an instruction, which stands at this place, under a key unless it is there.
@@ -169,18 +303,19 @@ impl Mentions {
         ensures ok { OnOk result (IsListed self.old self.new key (noted (precedes places.now spot) id (listed self.old key))) }
         ensures err { OnErr result (HasSameLists self.old self.new) }
     {
-        match self.lists.get_mut(&key) {
-            Some(ids) => put(ids, places, id, spot),
+        match self.pages.get_mut(&(key / PAGE)) {
+            Some(page) => page.note(self.alloc, places, (key % PAGE) as usize, id, spot),
             None => self.begin(key, id),
         }
     }
 
-    /// Takes an instruction out of the list under a key.
-    fn forget(&mut self, key: u64, id: InstrId)
+    /// Takes an instruction, which stands at this place, out of the list under a key.
+    fn forget(&mut self, places: &[Place], key: u64, id: InstrId, spot: Place)
+        requires { IsInRank (precedes places.now spot) id (listed self.old key) }
         ensures { IsListed self.old self.new key (without id (listed self.old key)) }
     {
-        if let Some(ids) = self.lists.get_mut(&key) {
-            take_out(ids, id);
+        if let Some(page) = self.pages.get_mut(&(key / PAGE)) {
+            page.forget(places, (key % PAGE) as usize, id, spot);
         }
     }
 
@@ -202,12 +337,19 @@ impl Mentions {
         }
     }
 
-    /// Takes an instruction out of the list under the key that an operand mentions.
-    pub(crate) fn forget_operand(&mut self, operand: Operand, id: InstrId)
+    /// Takes an instruction, which stands at this place, out of the list under the key that an operand mentions.
+    pub(crate) fn forget_operand(
+        &mut self,
+        places: &[Place],
+        operand: Operand,
+        id: InstrId,
+        spot: Place,
+    )
+        requires { AreInRank places.now spot id self.old }
         ensures { IsForgotten self.old self.new (operand ∷ []) id }
     {
         if let Some(key) = operand.mention() {
-            self.forget(key, id);
+            self.forget(places, key, id, spot);
         }
     }
 
@@ -230,7 +372,7 @@ impl Mentions {
             match self.note_operand(places, *x, id, spot) {
                 Ok(()) => {}
                 Err(_) => {
-                    self.forget_all(operands, id);
+                    self.forget_all(places, operands, id, spot);
                     return Err(Memory);
                 }
             }
@@ -238,12 +380,42 @@ impl Mentions {
         Ok(())
     }
 
-    /// Takes an instruction out of the lists under the keys that its operands mention.
-    pub(crate) fn forget_all(&mut self, operands: &[Operand], id: InstrId)
+    /// Lists the users of a register as users of another, and answers them. Where memory runs out, the lists are
+    /// as they were.
+    pub(crate) fn replace(
+        &mut self,
+        places: &[Place],
+        old: Reg,
+        new: Reg,
+    ) -> Result<Vec<InstrId>, Memory>
+        requires { old.0 ≢ new.0 }
+        ensures users { IfOk result (λ ids. ids.items ≡ listed self.old (use_key old.0)) }
+        ensures ok { OnOk result (AreUsersMoved self.old self.new places.now old.0 new.0) }
+        ensures err { OnErr result (HasSameLists self.old self.new) }
+    {
+        let from = use_key(old);
+        let to = use_key(new);
+        let olds = self.of(from);
+        let news = self.of(to);
+        let ids = merge(self.alloc, places, olds, news)?;
+        self.set(to, ids)?;
+        let users = self.take(from);
+        Ok(users)
+    }
+
+    /// Takes an instruction, which stands at this place, out of the lists under the keys that its operands mention.
+    pub(crate) fn forget_all(
+        &mut self,
+        places: &[Place],
+        operands: &[Operand],
+        id: InstrId,
+        spot: Place,
+    )
+        requires { AreInRank places.now spot id self.old }
         ensures { IsForgotten self.old self.new operands.now id }
     {
         for x in operands {
-            self.forget_operand(*x, id);
+            self.forget_operand(places, *x, id, spot);
         }
     }
 }

@@ -1,49 +1,76 @@
 //! The names of a module.
 
-ghost use Rattle.std.specs.Prelude.{◌≡◌, ◌-◌, ◌^◌, ◌<◌, [], ◌∷◌, ◌++◌, None, length, string_bytes, unwrap_or, OnOk, OnErr, IfOk, IfSome, IfNone};
-ghost use Rattle.indexmap.specs.IndexMap.{get_by_text, index_map_len};
-ghost use Rattle.gi_mir.specs.Names.{texts_of, number_of, with_name, name_at, AreDistinct};
+ghost use Rattle.std.specs.Prelude.{◌≡◌, ◌-◌, ◌^◌, ◌<◌, ℕ, List, [], ◌∷◌, ◌++◌, Some, None, length, string_bytes, bytes_eq, unwrap_or, OnOk, OnErr, IfOk};
+ghost use Rattle.std.specs.BTreeMap.{get_by_text};
+ghost use Rattle.std.specs.Map.{update};
+ghost use Rattle.gi_mir.specs.Names.{texts_of, number_of, with_name, name_at, AreDistinct, AreFound};
 
 use gi_llt::Memory;
-use indexmap::IndexMap;
 use std::alloc::Global;
+use std::collections::BTreeMap;
 use std::marker::Model;
 
-/// Names, numbered from 0 in the order in which they first appeared.
+/// Names, numbered from 0 in the order in which they first appeared, and a map that finds their numbers.
 #[derive(Drop)]
 pub struct Names {
-    map: IndexMap<String, u32>,
+    list: Vec<String>,
+    numbers: BTreeMap<String, u32>,
 }
 
 impl Model for Names {
     ghost use Rattle.std.specs.Prelude.{ℕ, ◌^◌, ◌<◌, List, length};
-    ghost use Rattle.gi_mir.specs.Names.{texts_of, AreDistinct};
+    ghost use Rattle.gi_mir.specs.Names.{texts_of, AreDistinct, AreFound};
 
     ghost Value = { List (List ℕ) };
 
-    ghost view = { λ a. texts_of a.map.entries };
+    ghost view = { λ a. texts_of a.list.items };
 
-    ghost invariant = { λ a. (length a.map.entries < 2 ^ 32) × AreDistinct (texts_of a.map.entries) };
+    ghost invariant = { λ a. (length a.list.items < 2 ^ 32) × AreDistinct (texts_of a.list.items) × AreFound a.numbers (texts_of a.list.items) };
 }
 
-/// The place of a name among the keys.
-fn place_among(map: &IndexMap<String, u32>, name: &str) -> Option<usize>
-    ensures value { result ≡ number_of (texts_of map.now.entries) name.now }
-    ensures within { IfSome result (λ place. place < length map.now.entries) }
-    ensures absent { IfNone result (get_by_text map.now name.now ≡ None) }
+/// Puts a name at the end of the list.
+fn push(list: &mut Vec<String>, name: String) -> Result<(), Memory>
+    ensures ok { OnOk result (list.new.items ≡ list.old.items ++ name ∷ []) }
+    ensures err { OnErr result (list.new.items ≡ list.old.items) }
 {
-    map.get_index_of(name)
+    list.push(name).map_err(|_| Memory)
 }
 
-/// Adds a name that isn't there.
-fn append(map: &mut IndexMap<String, u32>, name: String, number: u32) -> Result<(), Memory>
-    requires { get_by_text map.old (string_bytes name) ≡ None }
-    ensures ok { OnOk result (texts_of map.new.entries ≡ texts_of map.old.entries ++ string_bytes name ∷ []) }
-    ensures err { OnErr result (map.new.entries ≡ map.old.entries) }
+/// Puts the number of a name into the map.
+fn note(numbers: &mut BTreeMap<String, u32>, name: String, number: u32) -> Result<(), Memory>
+    ensures ok { OnOk result ((text : List ℕ) → get_by_text numbers.new text ≡ update bytes_eq (get_by_text numbers.old) (string_bytes name) (Some number) text) }
+    ensures err { OnErr result (numbers.new.entries ≡ numbers.old.entries) }
 {
-    match map.insert(name, number) {
+    match numbers.insert(name, number) {
         Ok(_) => Ok(()),
         Err(_) => Err(Memory),
+    }
+}
+
+/// Adds a name that isn't there, with a copy of its own in the map.
+fn append(
+    list: &mut Vec<String>,
+    numbers: &mut BTreeMap<String, u32>,
+    name: &str,
+) -> Result<(), Memory>
+    requires short { length list.old.items < 2 ^ 32 }
+    requires found { AreFound numbers.old (texts_of list.old.items) }
+    requires absent { number_of (texts_of list.old.items) name.now ≡ None }
+    ensures ok { OnOk result (texts_of list.new.items ≡ texts_of list.old.items ++ name.now ∷ []) }
+    ensures err { OnErr result (list.new.items ≡ list.old.items) }
+    ensures found { AreFound numbers.new (texts_of list.new.items) }
+{
+    let number = list.len() as u32;
+    let alloc = *list.allocator();
+    let listed = String::from_str(alloc, name).map_err(|_| Memory)?;
+    let key = String::from_str(alloc, name).map_err(|_| Memory)?;
+    push(list, listed)?;
+    match note(numbers, key, number) {
+        Ok(()) => Ok(()),
+        Err(Memory) => {
+            let _ = list.pop();
+            Err(Memory)
+        }
     }
 }
 
@@ -53,7 +80,8 @@ impl Names {
         ensures { result ≡ [] }
     {
         Names {
-            map: IndexMap::new(alloc),
+            list: Vec::new(alloc),
+            numbers: BTreeMap::new(alloc),
         }
     }
 
@@ -61,14 +89,14 @@ impl Names {
     pub fn count(&self) -> u32
         ensures { result ≡ length self.now }
     {
-        self.map.len() as u32
+        self.list.len() as u32
     }
 
     /// No two numbers have one name.
     pub fn are_distinct(&self)
         ensures { AreDistinct self.now }
     {
-        let _map = &self.map;
+        let _list = &self.list;
     }
 
     /// The number of a name, which gets the next one if it has none.
@@ -78,13 +106,11 @@ impl Names {
         ensures number { IfOk result (λ number. number ≡ unwrap_or (number_of self.old name.now) (length self.old)) }
         ensures err { OnErr result (self.new ≡ self.old) }
     {
-        let number = self.map.len() as u32;
-        match place_among(&self.map, name) {
-            Some(place) => Ok(place as u32),
+        match self.numbers.get(name).copied() {
+            Some(number) => Ok(number),
             None => {
-                let alloc = *self.map.allocator();
-                let owned = String::from_str(alloc, name).map_err(|_| Memory)?;
-                append(&mut self.map, owned, number)?;
+                let number = self.count();
+                append(&mut self.list, &mut self.numbers, name)?;
                 Ok(number)
             }
         }
@@ -94,8 +120,8 @@ impl Names {
     pub fn name(&self, number: u32) -> &str
         ensures { result.now ≡ name_at self.now number }
     {
-        match self.map.get_index(number as usize) {
-            Some((name, _)) => name.as_str(),
+        match self.list.get(number as usize) {
+            Some(name) => name.as_str(),
             None => "",
         }
     }

@@ -1,6 +1,7 @@
 //! The table of opcodes. All that is asked of an opcode is read from it.
 
-ghost use Rattle.std.specs.Prelude.{◌≡◌, ◌≢◌, map, option_map, IfSome, IfNone};
+ghost use Rattle.std.specs.Prelude.{◌≡◌, ◌≢◌, ◌<◌, [], bytes_eq, find, length, map, slice_index_or, option_map, IfSome, IfNone};
+ghost use Rattle.gi_mir.specs.Groups.{group_at};
 ghost use Rattle.gi_mir.specs.Typings.{typing_by};
 ghost use Rattle.gi_mir.specs.Row.{word_of, rows_of, access_of, memory_of, role_of, standing_of, typing_of, is_commutative_op, routine_call_of, is_generic_op, is_terminator_op, is_unconditional_op, is_branch_op, is_call_op, is_phi_op, is_wide_op, opcode_of};
 ghost use Rattle.gi_mir.specs.declared.opcode.Opcode.{Opcode};
@@ -151,132 +152,163 @@ const COPY: &[&[Form]] = &[
     &[Form::PhysicalDef, Form::TypedUse],
 ];
 
-/// Each opcode once.
-static OPCODES: [Opcode; 124] = [
-    Opcode::Copy,
-    Opcode::Phi,
-    Opcode::ImplicitDef,
-    Opcode::PseudoCall,
-    Opcode::PseudoReturn,
-    Opcode::AdjustCallStackDown,
-    Opcode::AdjustCallStackUp,
-    Opcode::GenericImplicitDef,
-    Opcode::GenericConstant,
-    Opcode::GenericFreeze,
-    Opcode::GenericFrameIndex,
-    Opcode::GenericGlobalValue,
-    Opcode::GenericPointerAdd,
-    Opcode::GenericPointerToInteger,
-    Opcode::GenericIntegerToPointer,
-    Opcode::GenericTruncate,
-    Opcode::GenericAnyExtend,
-    Opcode::GenericZeroExtend,
-    Opcode::GenericSignExtend,
-    Opcode::GenericSignExtendInRegister,
-    Opcode::GenericMergeValues,
-    Opcode::GenericUnmergeValues,
-    Opcode::GenericAdd,
-    Opcode::GenericSubtract,
-    Opcode::GenericMultiply,
-    Opcode::GenericAnd,
-    Opcode::GenericOr,
-    Opcode::GenericXor,
-    Opcode::GenericUnsignedDivide,
-    Opcode::GenericSignedDivide,
-    Opcode::GenericUnsignedRemainder,
-    Opcode::GenericSignedRemainder,
-    Opcode::GenericShiftLeft,
-    Opcode::GenericLogicalShiftRight,
-    Opcode::GenericArithmeticShiftRight,
-    Opcode::GenericUnsignedAddOverflow,
-    Opcode::GenericUnsignedSubtractOverflow,
-    Opcode::GenericUnsignedAddCarry,
-    Opcode::GenericUnsignedSubtractBorrow,
-    Opcode::GenericUnsignedMultiplyHigh,
-    Opcode::GenericSignedMultiplyHigh,
-    Opcode::GenericCompare,
-    Opcode::GenericSelect,
-    Opcode::GenericSignedMinimum,
-    Opcode::GenericSignedMaximum,
-    Opcode::GenericUnsignedMinimum,
-    Opcode::GenericUnsignedMaximum,
-    Opcode::GenericAbsolute,
-    Opcode::GenericCountLeadingZeros,
-    Opcode::GenericCountTrailingZeros,
-    Opcode::GenericPopulationCount,
-    Opcode::GenericCountLeadingZerosNotOfZero,
-    Opcode::GenericCountTrailingZerosNotOfZero,
-    Opcode::GenericByteSwap,
-    Opcode::GenericFunnelShiftLeft,
-    Opcode::GenericFunnelShiftRight,
-    Opcode::GenericRotateLeft,
-    Opcode::GenericRotateRight,
-    Opcode::GenericLoad,
-    Opcode::GenericZeroExtendLoad,
-    Opcode::GenericSignExtendLoad,
-    Opcode::GenericStore,
-    Opcode::GenericPhi,
-    Opcode::GenericBranch,
-    Opcode::GenericBranchConditional,
-    Opcode::Add,
-    Opcode::Subtract,
-    Opcode::And,
-    Opcode::Or,
-    Opcode::Xor,
-    Opcode::SetLess,
-    Opcode::SetLessUnsigned,
-    Opcode::ShiftLeftLogical,
-    Opcode::ShiftRightLogical,
-    Opcode::ShiftRightArithmetic,
-    Opcode::Multiply,
-    Opcode::MultiplyHigh,
-    Opcode::MultiplyHighUnsigned,
-    Opcode::Divide,
-    Opcode::DivideUnsigned,
-    Opcode::Remainder,
-    Opcode::RemainderUnsigned,
-    Opcode::AddImmediate,
-    Opcode::SetLessImmediate,
-    Opcode::SetLessImmediateUnsigned,
-    Opcode::AndImmediate,
-    Opcode::OrImmediate,
-    Opcode::XorImmediate,
-    Opcode::ShiftLeftLogicalImmediate,
-    Opcode::ShiftRightLogicalImmediate,
-    Opcode::ShiftRightArithmeticImmediate,
-    Opcode::LoadUpperImmediate,
-    Opcode::AddWord,
-    Opcode::SubtractWord,
-    Opcode::MultiplyWord,
-    Opcode::ShiftLeftLogicalWord,
-    Opcode::ShiftRightLogicalWord,
-    Opcode::ShiftRightArithmeticWord,
-    Opcode::DivideWord,
-    Opcode::DivideUnsignedWord,
-    Opcode::RemainderWord,
-    Opcode::RemainderUnsignedWord,
-    Opcode::AddImmediateWord,
-    Opcode::ShiftLeftLogicalImmediateWord,
-    Opcode::ShiftRightLogicalImmediateWord,
-    Opcode::ShiftRightArithmeticImmediateWord,
-    Opcode::LoadByte,
-    Opcode::LoadHalf,
-    Opcode::LoadWord,
-    Opcode::LoadByteUnsigned,
-    Opcode::LoadHalfUnsigned,
-    Opcode::LoadWordUnsigned,
-    Opcode::LoadDouble,
-    Opcode::StoreByte,
-    Opcode::StoreHalf,
-    Opcode::StoreWord,
-    Opcode::StoreDouble,
-    Opcode::BranchEqual,
-    Opcode::BranchNotEqual,
-    Opcode::BranchLess,
-    Opcode::BranchGreaterEqual,
-    Opcode::BranchLessUnsigned,
-    Opcode::BranchGreaterEqualUnsigned,
-    Opcode::PseudoBranch,
+/// Each opcode once, in the group of its word. The group's number is the word's length and its last byte, added modulo 32.
+static GROUPS: [&[Opcode]; 32] = [
+    &[
+        Opcode::GenericCountLeadingZeros,
+        Opcode::GenericCountTrailingZeros,
+    ],
+    &[Opcode::GenericMergeValues],
+    &[],
+    &[Opcode::GenericUnmergeValues],
+    &[
+        Opcode::ShiftRightArithmetic,
+        Opcode::LoadByte,
+        Opcode::StoreByte,
+    ],
+    &[Opcode::GenericFrameIndex, Opcode::Subtract],
+    &[Opcode::LoadDouble, Opcode::StoreDouble],
+    &[Opcode::GenericSubtract, Opcode::Add, Opcode::And],
+    &[Opcode::BranchNotEqual, Opcode::BranchGreaterEqual],
+    &[Opcode::GenericAdd, Opcode::GenericAnd],
+    &[
+        Opcode::GenericTruncate,
+        Opcode::GenericLoad,
+        Opcode::LoadHalf,
+        Opcode::StoreHalf,
+    ],
+    &[],
+    &[
+        Opcode::Phi,
+        Opcode::GenericUnsignedAddCarry,
+        Opcode::GenericUnsignedSubtractBorrow,
+        Opcode::GenericStore,
+        Opcode::GenericBranchConditional,
+        Opcode::MultiplyHigh,
+        Opcode::OrImmediate,
+        Opcode::LoadUpperImmediate,
+    ],
+    &[
+        Opcode::GenericFreeze,
+        Opcode::GenericPointerAdd,
+        Opcode::AddImmediate,
+        Opcode::SetLessImmediate,
+        Opcode::AndImmediate,
+        Opcode::XorImmediate,
+        Opcode::ShiftLeftLogicalImmediate,
+        Opcode::ShiftRightLogicalImmediate,
+        Opcode::ShiftRightArithmeticImmediate,
+    ],
+    &[
+        Opcode::GenericZeroExtendLoad,
+        Opcode::GenericSignExtendLoad,
+        Opcode::GenericPhi,
+    ],
+    &[
+        Opcode::GenericUnsignedMultiplyHigh,
+        Opcode::GenericSignedMultiplyHigh,
+        Opcode::ShiftLeftLogical,
+        Opcode::ShiftRightLogical,
+        Opcode::Multiply,
+    ],
+    &[Opcode::Remainder],
+    &[Opcode::GenericMultiply, Opcode::GenericShiftLeft],
+    &[
+        Opcode::ImplicitDef,
+        Opcode::GenericFunnelShiftLeft,
+        Opcode::GenericRotateLeft,
+    ],
+    &[
+        Opcode::GenericGlobalValue,
+        Opcode::GenericSignExtendInRegister,
+        Opcode::GenericUnsignedRemainder,
+        Opcode::GenericSignedRemainder,
+    ],
+    &[
+        Opcode::GenericImplicitDef,
+        Opcode::GenericSignedMinimum,
+        Opcode::GenericUnsignedMinimum,
+        Opcode::Or,
+        Opcode::BranchEqual,
+    ],
+    &[Opcode::Xor],
+    &[
+        Opcode::PseudoCall,
+        Opcode::GenericOr,
+        Opcode::GenericUnsignedAddOverflow,
+        Opcode::GenericUnsignedSubtractOverflow,
+        Opcode::GenericCompare,
+        Opcode::GenericBranch,
+    ],
+    &[
+        Opcode::GenericXor,
+        Opcode::GenericPopulationCount,
+        Opcode::GenericCountLeadingZerosNotOfZero,
+        Opcode::GenericCountTrailingZerosNotOfZero,
+        Opcode::GenericByteSwap,
+        Opcode::SetLess,
+        Opcode::BranchLess,
+    ],
+    &[
+        Opcode::GenericLogicalShiftRight,
+        Opcode::GenericArithmeticShiftRight,
+        Opcode::GenericAbsolute,
+        Opcode::GenericFunnelShiftRight,
+        Opcode::GenericRotateRight,
+        Opcode::LoadByteUnsigned,
+        Opcode::LoadHalfUnsigned,
+        Opcode::LoadWordUnsigned,
+    ],
+    &[
+        Opcode::SetLessUnsigned,
+        Opcode::Divide,
+        Opcode::DivideUnsigned,
+        Opcode::RemainderUnsigned,
+        Opcode::LoadWord,
+        Opcode::StoreWord,
+        Opcode::BranchLessUnsigned,
+        Opcode::BranchGreaterEqualUnsigned,
+    ],
+    &[
+        Opcode::GenericZeroExtend,
+        Opcode::GenericSignExtend,
+        Opcode::MultiplyHighUnsigned,
+        Opcode::SetLessImmediateUnsigned,
+        Opcode::PseudoBranch,
+    ],
+    &[
+        Opcode::AddWord,
+        Opcode::SubtractWord,
+        Opcode::MultiplyWord,
+        Opcode::ShiftLeftLogicalWord,
+        Opcode::ShiftRightLogicalWord,
+        Opcode::ShiftRightArithmeticWord,
+        Opcode::DivideWord,
+        Opcode::RemainderWord,
+    ],
+    &[
+        Opcode::GenericIntegerToPointer,
+        Opcode::GenericAnyExtend,
+        Opcode::GenericUnsignedDivide,
+        Opcode::GenericSignedDivide,
+        Opcode::GenericSelect,
+        Opcode::DivideUnsignedWord,
+        Opcode::RemainderUnsignedWord,
+        Opcode::AddImmediateWord,
+        Opcode::ShiftLeftLogicalImmediateWord,
+        Opcode::ShiftRightLogicalImmediateWord,
+        Opcode::ShiftRightArithmeticImmediateWord,
+    ],
+    &[Opcode::Copy, Opcode::PseudoReturn],
+    &[
+        Opcode::AdjustCallStackDown,
+        Opcode::AdjustCallStackUp,
+        Opcode::GenericConstant,
+        Opcode::GenericPointerToInteger,
+        Opcode::GenericSignedMaximum,
+        Opcode::GenericUnsignedMaximum,
+    ],
+    &[],
 ];
 
 /// An entry of the table: where an opcode stands, whether a machine of 64 bits alone has it, its word, the rows of its
@@ -687,16 +719,36 @@ impl Opcode {
     }
 }
 
-/// The first opcode of the list that has this word.
-#[tactic(auto, unfolding(crate::specs::Row::opcode_of))]
+/// The first of these opcodes that has this word.
+fn first_among(ops: &[Opcode], word: &[u8]) -> Option<Opcode>
+    ensures { result ≡ find (λ op. bytes_eq (word_of op) word.now) ops.now }
+{
+    ops.iter().copied().find(|op| op.word().as_bytes() == word)
+}
+
+/// The opcodes at a place of a table.
+fn opcodes_at<'a>(table: &[&'a [Opcode]], place: usize) -> &'a [Opcode]
+    requires { place < length table.now }
+    ensures { result.now ≡ slice_index_or (map (λ ops. ops.now) table.now) place [] }
+{
+    table[place]
+}
+
+/// The opcodes of a group.
+fn group(number: usize) -> &'static [Opcode]
+    requires { number < 32 }
+    ensures { result.now ≡ group_at number }
+{
+    opcodes_at(&GROUPS, number)
+}
+
+/// The opcode that has this word, which stands in the word's group.
 fn first_with_word(word: &[u8]) -> Option<Opcode>
     ensures exact { result ≡ opcode_of word.now }
     ensures found { IfSome result (λ op. word_of op ≡ word.now) }
 {
-    OPCODES
-        .iter()
-        .copied()
-        .find(|op| op.word().as_bytes() == word)
+    let last = usize::from(*word.last()?);
+    first_among(group((word.len() % 32 + last) % 32), word)
 }
 
 /// Two opcodes with one word are one opcode.

@@ -1,10 +1,8 @@
 -- Notes on registers, one after the other.
-use Rattle.std.proofs.Common.{◌≡◌, Bool, true, false, cond, is_some, ℕ, ◌+◌, ◌-◌, ◌≤◌, if◌then◌else◌, List, length, get_or, unwrap_or, position, nat_eq, arith, subst, [], ◌∷◌, ◌++◌, Option, Some, None, refl, sym, ap, ◌∙◌}
+use Rattle.std.proofs.Common.{◌≡◌, ℕ, ◌+◌, ◌-◌, ◌≤◌, if◌then◌else◌, List, length, get_or, unwrap_or, position, nat_eq, arith, subst, [], ◌∷◌, ◌++◌, Option, Some, None, refl, sym, ap, ◌∙◌}
 use Rattle.std.specs.Prelude.{fold, flat_map}
 use Rattle.std.proofs.lemmas.List.Sums.{fold-append}
 use Rattle.gi_mir.specs.declared.operand.Kind.{Kind}
-use Rattle.std.specs.Map.{lookup}
-use Rattle.std.proofs.lemmas.Bool.Decides.{nat_tests}
 use Rattle.gi_mir.specs.declared.operand.Operand.TheVariants.{Def}
 use Rattle.gi_mir.specs.declared.operand.Reg.{Reg}
 use Rattle.std.proofs.lemmas.Bool.{lt-ltb, le-ltb, eqb-true}
@@ -14,16 +12,9 @@ use Rattle.gi_mir.specs.Data.{InstrData, BlockData}
 use Rattle.gi_mir.specs.Numbering.{with_register, number_in, registers_in_operand, registers_in_instr, registers_in_block}
 use Rattle.gi_mir.specs.Registers.{first_there, kind_in_operand, kind_in_operands, kind_in_instrs, kind_in_blocks}
 use Rattle.gi_mir.specs.declared.operand.Operand.{Operand}
-use Rattle.gi_registers.specs.Noted.{kind_noted, with_kind}
+use Rattle.gi_registers.proofs.Defining.{first_there_assoc, first_there_none, with_kind_noted}
+use Rattle.gi_registers.specs.Noted.{kind_noted, kind_or_class, with_kind}
 use Rattle.gi_mir_print.specs.Shown.{RegistersData, IsNoted, kind_at, register_at}
-
-pub first_there_none : (kind : Option Kind) → first_there kind None ≡ kind
-first_there_none None = refl
-first_there_none (Some kind) = refl
-
-pub first_there_assoc : (a b c : Option Kind) → first_there (first_there a b) c ≡ first_there a (first_there b c)
-first_there_assoc None b c = refl
-first_there_assoc (Some kind) b c = refl
 
 pub noted_none : (d : RegistersData) → IsNoted d d [] (λ r. None)
 noted_none d = record { order = refl; kinds = λ r. sym (first_there_none (kind_noted d.kinds r)) }
@@ -47,36 +38,9 @@ register_at-placed order r None h =
 pub register_at-number_in : (order : List ℕ) (r : ℕ) → register_at order (number_in order r) ≡ r
 register_at-number_in order r = register_at-placed order r (position (nat_eq r) order) refl
 
-pub kind_at-number_in : (d : RegistersData) (r : ℕ) → unwrap_or (kind_noted d.kinds r) Class ≡ kind_at d (number_in d.order r)
+pub kind_at-number_in : (d : RegistersData) (r : ℕ) → kind_or_class d.kinds r ≡ kind_at d (number_in d.order r)
 unfolding kind_at
 kind_at-number_in d r = ap (λ reg. unwrap_or (kind_noted d.kinds reg) Class) (sym (register_at-number_in d.order r))
-
--- the kind of one more register
-lookup_more : (kinds : List (ℕ × Kind)) (reg r : ℕ) (kind : Kind) → lookup (nat_eq r) (kinds ++ (reg, kind) ∷ []) ≡ first_there (lookup (nat_eq r) kinds) (cond (nat_eq r reg) (Some kind) None)
-lookup_more [] reg r kind = refl
-lookup_more (e ∷ es) reg r kind = by (nat_eq r e.0) (lookup_more es reg r kind)
-  where
-    by : (b : Bool) → lookup (nat_eq r) (es ++ (reg, kind) ∷ []) ≡ first_there (lookup (nat_eq r) es) (cond (nat_eq r reg) (Some kind) None)
-        → cond b (Some e.1) (lookup (nat_eq r) (es ++ (reg, kind) ∷ [])) ≡ first_there (cond b (Some e.1) (lookup (nat_eq r) es)) (cond (nat_eq r reg) (Some kind) None)
-    by true h = refl
-    by false h = h
-
-with_kind_noted : (kinds : List (ℕ × Kind)) (reg r : ℕ) (kind : Kind) → kind_noted (with_kind kinds reg kind) r ≡ first_there (kind_noted kinds r) (if nat_eq reg r then Some kind else None)
-with_kind_noted kinds reg r kind = by (nat_eq reg r) (kind_noted kinds reg) refl refl (turned reg r)
-  where
-    turned : (a b : ℕ) → nat_eq b a ≡ nat_eq a b
-    turned a b = grind (arith, nat_tests)
-
-    by : (b : Bool) (own : Option Kind) → nat_eq reg r ≡ b → kind_noted kinds reg ≡ own → nat_eq r reg ≡ nat_eq reg r → kind_noted (if is_some own then kinds else kinds ++ (reg, kind) ∷ []) r ≡ first_there (kind_noted kinds r) (if b then Some kind else None)
-    by b (Some k) same is turn = there b same
-      where
-        there : (b : Bool) → nat_eq reg r ≡ b → kind_noted kinds r ≡ first_there (kind_noted kinds r) (if b then Some kind else None)
-        there true same = at same ∙ sym (ap (λ o. first_there o (Some kind)) (at same))
-          where
-            at : nat_eq reg r ≡ true → kind_noted kinds r ≡ Some k
-            at same = ap (kind_noted kinds) (sym (eqb-true reg r same)) ∙ is
-        there false same = sym (first_there_none (kind_noted kinds r))
-    by b None same is turn = lookup_more kinds reg r kind ∙ ap (λ t. first_there (kind_noted kinds r) (cond t (Some kind) None)) (turn ∙ same)
 
 pub noted_definition : (a : RegistersData) (reg : Reg) (kind : Kind) (order : List ℕ) (kinds : List (ℕ × Kind)) → order ≡ with_register a.order reg.0 → kinds ≡ with_kind a.kinds reg.0 kind
     → IsNoted a (record { order = order; kinds = kinds }) (registers_in_operand (Def reg kind)) (λ r. kind_in_operand r (Def reg kind))

@@ -1,5 +1,5 @@
 -- What a printer knows of a function's registers, and what it shows by it.
-use Rattle.std.specs.Prelude.{◌≡◌, ℕ, ◌-◌, Bool, true, false, ◌∷◌, List, [], ◌++◌, ◌&&◌, Option, nat_eq, nat_lt, if◌then◌else◌, length, fold, map, slice_index, unwrap_or, codes}
+use Rattle.std.specs.Prelude.{◌≡◌, ℕ, ◌-◌, Bool, true, false, ◌∷◌, List, [], ◌++◌, ◌&&◌, Option, nat_lt, if◌then◌else◌, length, fold, map, slice_index, unwrap_or, codes}
 use Rattle.gi_mir.specs.Names.{name_at}
 use Rattle.gi_mir.specs.Data.{InstrData, BlockData, FunctionData}
 use Rattle.gi_mir.specs.Numbering.{number_in, with_register}

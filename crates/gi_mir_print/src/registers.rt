@@ -1,6 +1,6 @@
 //! What a printer knows of a function's registers.
 
-ghost use Rattle.std.specs.Prelude.{◌≡◌, ℕ, [], unwrap_or, flat_map, OnOk, IfOk};
+ghost use Rattle.std.specs.Prelude.{◌≡◌, ℕ, [], flat_map, OnOk, IfOk};
 ghost use Rattle.gi_mir.specs.Instrs.{left};
 ghost use Rattle.gi_mir.specs.Numbering.{number_in, with_register, order_of, registers_in_operand, registers_in_instr};
 ghost use Rattle.gi_mir.specs.Registers.{first_there, kind_in_operand, kind_in_operands, kind_in_instrs, kind_in_blocks};
@@ -45,13 +45,6 @@ fn number_among(order: &RegisterSet, reg: Reg) -> u64
     }
 }
 
-/// The kind of a register, and `Class` where none is noted.
-fn kind_among(kinds: &RegisterKinds, reg: Reg) -> Kind
-    ensures { result ≡ unwrap_or (kind_noted kinds.now reg.0) Kind.Class }
-{
-    kinds.kind_of(reg).unwrap_or(Kind::Class)
-}
-
 impl Registers {
     /// No registers.
     pub(crate) fn new(alloc: Global) -> Registers
@@ -75,7 +68,7 @@ impl Registers {
     pub(crate) fn kind(&self, reg: Reg) -> Kind
         ensures { result ≡ kind_at self.now (number_in self.now.order reg.0) }
     {
-        kind_among(&self.kinds, reg)
+        self.kinds.kind_or_class(reg)
     }
 
     /// Notes the register of an operand, and its kind where it is defined.

@@ -1,3 +1,4 @@
+pub mod BeginningLemmas
 pub mod KeptLemmas
 pub mod NumberLemmas
 pub mod SplitLemmas

@@ -1,3 +1,4 @@
+pub mod Beginnings
 pub mod Flagged
 pub mod Readings
 pub mod Splits

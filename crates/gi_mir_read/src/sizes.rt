@@ -1,15 +1,16 @@
 //! What passes the limits of what is handled.
 
-ghost use Rattle.std.specs.Prelude.{◌≡◌, ◌≤◌, ◌<◌, ◌^◌, ◌⊎◌, ℕ, ◌+◌, None, Some, flat_map, length, if◌then◌else◌, OnOk, IfErr};
+ghost use Rattle.std.specs.Prelude.{◌≡◌, ◌≤◌, ◌<◌, ◌^◌, ◌⊎◌, ℕ, ◌+◌, None, Some, flat_map, length, if◌then◌else◌, IfOk};
 ghost use Rattle.std.specs.List.{list_any};
 ghost use Rattle.gi_mir.specs.Instrs.{left};
-ghost use Rattle.gi_mir.specs.Registers.{kind_of, type_of_kind};
+ghost use Rattle.gi_mir.specs.Registers.{type_of_kind};
 ghost use Rattle.gi_mir.specs.Row.{rows_of};
 ghost use Rattle.gi_mir.specs.Types.{is_any};
+ghost use Rattle.gi_registers.specs.Noted.{kind_or_class};
 ghost use Rattle.gi_spelling.specs.Printed.{definitions_of, first_row, is_definition, sources_of, forms_after, is_typed_by, is_typed_form, source_forms};
 ghost use Rattle.gi_mir_read.specs.Sizes.{above, access_faults, blocks_faults, count_after, count_faults, counted, first_line, forms_behind, function_faults, functions_faults, head_faults, line_of, low_faults, is_before, is_copy, is_definition_form, is_extension, is_physical, is_physical_copy, is_right_result, is_right_source, instr_faults, instrs_faults, is_word, sooner_fault, lowest_after, memory_faults, number_faults, numbers_faults, numbers_of, object_faults, objects_faults, operand_faults, operands_faults, parts_of, register_faults, result_type, results_after, shown_faults, size_fault, sources_after, told_number, type_faults, width_unless};
 
-use gi_llt::{Llt, Target, width};
+use gi_llt::{Llt, Memory, Target, width};
 use gi_mir::accepted::{
     is_constant_type, is_in_register, is_memory_type, is_result_type, is_source_type,
 };
@@ -22,7 +23,9 @@ use gi_mir::opcode::Opcode;
 use gi_mir::operand::{Kind, MemOp, Operand, Reg, StackObject};
 use gi_mir::row::Form;
 use gi_mir::types::{is_any, is_pointer, is_register, scalar_bits};
+use gi_registers::kinds::RegisterKinds;
 use gi_text::SizeError;
+use std::alloc::Global;
 
 /// A fault of a line: its line, its place among the kinds of faults, and what is told.
 #[derive(Clone, Copy, Debug, PartialEq, Eq)]
@@ -389,11 +392,11 @@ fn sources_after(sources: usize, operand: Operand) -> usize
 }
 
 /// The type that a use shows, if it shows one.
-fn type_shown(f: &Function, forms: &[Form], reg: Reg) -> Option<Llt>
-    ensures { result ≡ (if is_typed_by forms.now then type_of_kind (kind_of f.now reg.0) else None) }
+fn type_shown(kinds: &RegisterKinds, forms: &[Form], reg: Reg) -> Option<Llt>
+    ensures { result ≡ (if is_typed_by forms.now then type_of_kind (kind_or_class kinds.now reg.0) else None) }
 {
     if is_typed_by(forms) {
-        type_of(f.kind_of(reg))
+        type_of(kinds.kind_or_class(reg))
     } else {
         None
     }
@@ -412,20 +415,20 @@ struct Standing<'a> {
 fn with_operand(
     lowest: Option<Fault>,
     target: Target,
-    f: &Function,
+    kinds: &RegisterKinds,
     instr: &Instr,
     standing: Standing,
     operand: Operand,
 ) -> Option<Fault>
     requires { (target.xlen ≡ 32) ⊎ (target.xlen ≡ 64) }
-    ensures { result ≡ lowest_after lowest (operand_faults target.xlen (kind_of f.now) instr.now standing.entry.results standing.entry.sources standing.entry.forms.now operand) }
+    ensures { result ≡ lowest_after lowest (operand_faults target.xlen (kind_or_class kinds.now) instr.now standing.entry.results standing.entry.sources standing.entry.forms.now operand) }
 {
     match operand {
         Operand::Def(_, kind) => {
             with_result(lowest, target, instr, standing.results, type_of(kind))
         }
         Operand::Use(reg) => {
-            let ty = type_shown(f, standing.forms, reg);
+            let ty = type_shown(kinds, standing.forms, reg);
             with_source(lowest, target, instr, standing.sources, ty)
         }
         Operand::Constant(bits, _) => {
@@ -441,13 +444,13 @@ fn with_operand(
 fn with_operands(
     lowest: Option<Fault>,
     target: Target,
-    f: &Function,
+    kinds: &RegisterKinds,
     instr: &Instr,
     forms: &[Form],
     operands: &[Operand],
 ) -> Option<Fault>
     requires { (target.xlen ≡ 32) ⊎ (target.xlen ≡ 64) }
-    ensures { result ≡ lowest_after lowest (operands_faults target.xlen (kind_of f.now) instr.now 0 0 forms.now operands.now) }
+    ensures { result ≡ lowest_after lowest (operands_faults target.xlen (kind_or_class kinds.now) instr.now 0 0 forms.now operands.now) }
 {
     let mut lowest = lowest;
     let mut results = 0;
@@ -459,7 +462,7 @@ fn with_operands(
             sources,
             forms,
         };
-        lowest = with_operand(lowest, target, f, instr, standing, *operand);
+        lowest = with_operand(lowest, target, kinds, instr, standing, *operand);
         results = results_after(results, *operand);
         sources = sources_after(sources, *operand);
         forms = forms_behind(forms, *operand);
@@ -541,12 +544,24 @@ fn parts_of(op: Opcode, operands: &[Operand]) -> usize
 }
 
 /// The lowest, where an instruction may show what is wrong.
-fn with_shown(lowest: Option<Fault>, target: Target, f: &Function, instr: &Instr) -> Option<Fault>
+fn with_shown(
+    lowest: Option<Fault>,
+    target: Target,
+    kinds: &RegisterKinds,
+    instr: &Instr,
+) -> Option<Fault>
     requires { (target.xlen ≡ 32) ⊎ (target.xlen ≡ 64) }
-    ensures { result ≡ lowest_after lowest (shown_faults target.xlen (kind_of f.now) instr.now) }
+    ensures { result ≡ lowest_after lowest (shown_faults target.xlen (kind_or_class kinds.now) instr.now) }
 {
     let forms = source_forms(first_row(instr.op));
-    with_operands(lowest, target, f, instr, forms, instr.operands.as_slice())
+    with_operands(
+        lowest,
+        target,
+        kinds,
+        instr,
+        forms,
+        instr.operands.as_slice(),
+    )
 }
 
 /// The lowest, where an instruction may have a wrong memory operand.
@@ -591,15 +606,15 @@ fn with_numbers(lowest: Option<Fault>, before: u32, instr: &Instr) -> Option<Fau
 fn with_instr(
     lowest: Option<Fault>,
     target: Target,
-    f: &Function,
+    kinds: &RegisterKinds,
     before: u32,
     instr: &Instr,
 ) -> Option<Fault>
     requires target { (target.xlen ≡ 32) ⊎ (target.xlen ≡ 64) }
     requires before { before ≤ 262145 }
-    ensures { result ≡ lowest_after lowest (instr_faults target.xlen (kind_of f.now) before instr.now) }
+    ensures { result ≡ lowest_after lowest (instr_faults target.xlen (kind_or_class kinds.now) before instr.now) }
 {
-    let shown = with_shown(lowest, target, f, instr);
+    let shown = with_shown(lowest, target, kinds, instr);
     let in_memory = with_access(shown, target, instr);
     with_numbers(in_memory, before, instr)
 }
@@ -608,17 +623,17 @@ fn with_instr(
 fn with_numbered(
     lowest: Option<Fault>,
     target: Target,
-    f: &Function,
+    kinds: &RegisterKinds,
     before: u32,
     numbered: &Numbered,
 ) -> (Option<Fault>, u32)
     requires target { (target.xlen ≡ 32) ⊎ (target.xlen ≡ 64) }
     requires before { before ≤ 262145 }
-    ensures lowest { result.0 ≡ lowest_after lowest (instr_faults target.xlen (kind_of f.now) before numbered.now.1) }
+    ensures lowest { result.0 ≡ lowest_after lowest (instr_faults target.xlen (kind_or_class kinds.now) before numbered.now.1) }
     ensures counted { result.1 ≡ count_after before (length numbered.now.1.operands) }
     ensures within { result.1 ≤ 262145 }
 {
-    let lowest = with_instr(lowest, target, f, before, &numbered.instr);
+    let lowest = with_instr(lowest, target, kinds, before, &numbered.instr);
     (lowest, count_after(before, numbered.instr.operands.len()))
 }
 
@@ -626,33 +641,38 @@ fn with_numbered(
 fn with_instrs(
     lowest: Option<Fault>,
     target: Target,
-    f: &Function,
+    kinds: &RegisterKinds,
     before: u32,
     instrs: Instrs<'_>,
 ) -> (Option<Fault>, u32)
     requires target { (target.xlen ≡ 32) ⊎ (target.xlen ≡ 64) }
     requires before { before ≤ 262145 }
-    ensures lowest { result.0 ≡ lowest_after lowest (instrs_faults target.xlen (kind_of f.now) before (left instrs.entry)) }
+    ensures lowest { result.0 ≡ lowest_after lowest (instrs_faults target.xlen (kind_or_class kinds.now) before (left instrs.entry)) }
     ensures counted { result.1 ≡ counted before (left instrs.entry) }
     ensures within { result.1 ≤ 262145 }
 {
     let mut lowest = lowest;
     let mut count = before;
     for instr in instrs {
-        (lowest, count) = with_numbered(lowest, target, f, count, instr);
+        (lowest, count) = with_numbered(lowest, target, kinds, count, instr);
     }
     (lowest, count)
 }
 
 /// The lowest, where the blocks of a function may have faults.
-fn with_blocks(lowest: Option<Fault>, target: Target, f: &Function) -> Option<Fault>
+fn with_blocks(
+    lowest: Option<Fault>,
+    target: Target,
+    kinds: &RegisterKinds,
+    f: &Function,
+) -> Option<Fault>
     requires target { (target.xlen ≡ 32) ⊎ (target.xlen ≡ 64) }
-    ensures { result ≡ lowest_after lowest (blocks_faults target.xlen (kind_of f.now) 0 f.now.blocks) }
+    ensures { result ≡ lowest_after lowest (blocks_faults target.xlen (kind_or_class kinds.now) 0 f.now.blocks) }
 {
     let mut lowest = lowest;
     let mut count = 0;
     for block in 0..f.block_count() {
-        (lowest, count) = with_instrs(lowest, target, f, count, f.instrs(block));
+        (lowest, count) = with_instrs(lowest, target, kinds, count, f.instrs(block));
     }
     lowest
 }
@@ -707,36 +727,48 @@ fn with_head(lowest: Option<Fault>, line: u32, place: usize, f: &Function) -> Op
 }
 
 /// The lowest, where a function may have faults, with so many functions before it.
-fn with_function(lowest: Option<Fault>, target: Target, place: usize, f: &Function) -> Option<Fault>
+fn with_function(
+    lowest: Option<Fault>,
+    alloc: Global,
+    target: Target,
+    place: usize,
+    f: &Function,
+) -> Result<Option<Fault>, Memory>
     requires target { (target.xlen ≡ 32) ⊎ (target.xlen ≡ 64) }
     requires place { place < 2 ^ 63 }
-    ensures { result ≡ lowest_after lowest (function_faults target.xlen place f.now) }
+    ensures { IfOk result (λ found. found ≡ lowest_after lowest (function_faults target.xlen place f.now)) }
 {
+    let kinds = RegisterKinds::of(alloc, f)?;
     let in_head = with_head(lowest, first_line(f), place, f);
-    with_blocks(in_head, target, f)
+    Ok(with_blocks(in_head, target, &kinds, f))
 }
 
 /// The lowest fault of functions.
-fn lowest_fault(target: Target, functions: &[Function]) -> Option<Fault>
+fn lowest_fault(
+    alloc: Global,
+    target: Target,
+    functions: &[Function],
+) -> Result<Option<Fault>, Memory>
     requires target { (target.xlen ≡ 32) ⊎ (target.xlen ≡ 64) }
-    ensures { result ≡ lowest_after None (functions_faults target.xlen 0 functions.now) }
+    ensures { IfOk result (λ found. found ≡ lowest_after None (functions_faults target.xlen 0 functions.now)) }
 {
     let mut lowest = None;
     for (place, f) in functions.iter().enumerate() {
-        lowest = with_function(lowest, target, place, f);
+        lowest = with_function(lowest, alloc, target, place, f)?;
     }
-    lowest
+    Ok(lowest)
 }
 
 /// Nothing where no line of a module passes what is handled, and else the fault of the lowest line that
 /// does.
-pub fn check_sizes(module: &Module, target: Target) -> Result<(), SizeError>
+pub fn check_sizes(
+    alloc: Global,
+    module: &Module,
+    target: Target,
+) -> Result<Option<SizeError>, Memory>
     requires { (target.xlen ≡ 32) ⊎ (target.xlen ≡ 64) }
-    ensures right { OnOk result (size_fault target.xlen «module».now ≡ None) }
-    ensures fault { IfErr result (λ error. size_fault target.xlen «module».now ≡ Some error) }
+    ensures { IfOk result (λ found. size_fault target.xlen «module».now ≡ found) }
 {
-    match lowest_fault(target, module.functions.as_slice()) {
-        Some(fault) => Err(fault.error),
-        None => Ok(()),
-    }
+    let lowest = lowest_fault(alloc, target, module.functions.as_slice())?;
+    Ok(lowest.map(|fault| fault.error))
 }

@@ -3,7 +3,7 @@
 ghost use Rattle.std.specs.Prelude.{◌≡◌, ◌⊎◌, ◌<◌, ◌-◌, ◌^◌, [], ◌∷◌, ◌++◌, IsTrue, length, Contains, IfOk, IfSome, OnOk, OnErr, Some, true};
 ghost use Rattle.gi_mir.specs.Edit.{IsLive, block_at, ids_of, instr_of, with_instr, with_new_reg, without_instr};
 ghost use Rattle.gi_mir.specs.Formed.{is_formed};
-ghost use Rattle.gi_mir.specs.Uses.{with_reg_replaced, IsPartlyReplaced};
+ghost use Rattle.gi_mir.specs.Uses.{with_reg_replaced};
 ghost use Rattle.gi_observe.specs.Replay.{IsReplay, TellsPart, change_of, replacement, replacements};
 
 use crate::change::{Change, ChangeKind};
@@ -109,8 +109,8 @@ impl<'a, O: ChangeObserver> Editor<'a, O> {
         self.tell(ChangeKind::Erased { id, instr })
     }
 
-    /// Makes each use of a register one of another. Where memory runs out, the uses up to some place in layout may be
-    /// replaced, and a front part of the changes may be told.
+    /// Makes each use of a register one of another. Where memory runs out, the function is as it was, and a front
+    /// part of the changes may be told.
     pub fn replace(&mut self, old: Reg, new: Reg) -> Result<(), Memory>
         ensures same_function { self.new.function.ghost_name ≡ self.old.function.ghost_name }
         ensures same_observer { self.new.observer.ghost_name ≡ self.old.observer.ghost_name }
@@ -119,7 +119,7 @@ impl<'a, O: ChangeObserver> Editor<'a, O> {
         ensures tells_stays { O.tells self.new.observer.now ≡ O.tells self.old.observer.now }
         ensures told { OnOk result (IsTrue (O.tells self.old.observer.now) → O.seen self.new.observer.now ≡ O.seen self.old.observer.now ++ replacements self.old.function.now self.old.pass old.0 new.0) }
         ensures replay { OnOk result (IsReplay (replacements self.old.function.now self.old.pass old.0 new.0) self.old.function.now self.new.function.now) }
-        ensures err { OnErr result ((self.new.function.now ≡ self.old.function.now) ⊎ IsPartlyReplaced old.0 new.0 self.old.function.now self.new.function.now) }
+        ensures err { OnErr result (self.new.function.now ≡ self.old.function.now) }
         ensures told_in_part { OnErr result (IsTrue (O.tells self.old.observer.now) → TellsPart (replacements self.old.function.now self.old.pass old.0 new.0) (O.seen self.old.observer.now) (O.seen self.new.observer.now)) }
     {
         self.function.own_ids();

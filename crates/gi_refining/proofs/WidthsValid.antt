@@ -46,6 +46,7 @@ use Rattle.gi_meaning.specs.InRow.{holds_more, results_in, sources_in}
 use Rattle.gi_valid.specs.Typing.{Typed, is_roomy, known, may_relate, meets, places_of_letter, roomless, type_in, unmet}
 use Rattle.gi_valid.specs.Valid.{IsValid}
 use Rattle.gi_valid.proofs.Suited.{IsSuited, suited}
+use Rattle.gi_soundness.specs.Rewriting.{IsOneOf}
 use Rattle.gi_soundness.proofs.Rule.{one_passes}
 use Rattle.gi_soundness.proofs.Valid.{instr_met}
 use Rattle.gi_refining.specs.Known.{FitsAnywhere, are_formed, is_sized}
@@ -665,8 +666,10 @@ instruction_passes x names f i Returning is accepted h = refl
 instruction_passes x names f i Nothing is accepted h = refl
 instruction_passes x names f i Joining is accepted h = phi_passes x names f i.flags i.op i.operands (subst (λ m. is_joining m ≡ true) (sym is) refl) h.operands.row h.operands.owned h.operands.met
 
-pub widths_valid : (x : ℕ) (names : List (List ℕ)) (f : FunctionData) → (x ≡ 32) ⊎ (x ≡ 64) → IsValid x Typed f → are_formed f ≡ true → have_types f ≡ true → has_machine_words (setting_of x names f) f ≡ true → FitsAnywhere x names f
-widths_valid x names f word valid formed owned accepted = all_kept x names f word (λ p there.
+-- each instruction keeps it
+pub keeps_valid : (x : ℕ) (names : List (List ℕ)) (f : FunctionData) → (x ≡ 32) ⊎ (x ≡ 64) → IsValid x Typed f → are_formed f ≡ true → have_types f ≡ true → has_machine_words (setting_of x names f) f ≡ true
+    → (p : ℕ × InstrData) → IsOneOf p (all_instrs f.blocks) → keeps_values (setting_of x names f) (meaning_of p.1.flags p.1.op) p.1 ≡ true
+keeps_valid x names f word valid formed owned accepted p there =
     let has : HasRow p.1 = has_row p.1 (one_passes (λ q. is_formed q.1) p (all_instrs f.blocks) formed there) in
     let suits : IsSuited x (type_in Typed f) p.1 = suited x Typed f p.1 refl (instr_met x Typed f valid p there) in
     instruction_passes x names f p.1 (meaning_of p.1.flags p.1.op) refl
@@ -680,7 +683,10 @@ widths_valid x names f word valid formed owned accepted = all_kept x names f wor
       };
       access = has.access;
       room = suits.room;
-    }))
+    })
+
+pub widths_valid : (x : ℕ) (names : List (List ℕ)) (f : FunctionData) → (x ≡ 32) ⊎ (x ≡ 64) → IsValid x Typed f → are_formed f ≡ true → have_types f ≡ true → has_machine_words (setting_of x names f) f ≡ true → FitsAnywhere x names f
+widths_valid x names f word valid formed owned accepted = all_kept x names f word (keeps_valid x names f word valid formed owned accepted)
 
 -- so nothing is left to be asked of states
 pub ready_tested : (x : ℕ) (names : List (List ℕ)) (f : FunctionData) → (x ≡ 32) ⊎ (x ≡ 64) → IsValid x Typed f → is_numbered f ≡ true → are_formed f ≡ true → have_types f ≡ true → has_machine_words (setting_of x names f) f ≡ true

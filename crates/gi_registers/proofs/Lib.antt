@@ -1,2 +1,3 @@
+pub mod Defining
 pub mod Noting
 pub mod Paging

@@ -101,7 +101,7 @@ over : (n r : ℕ) → n ≤ r → r < n → ⊥
 over n r more less = omega (arith, more, less)
 
 -- each input was had, and is no result
-input_place : (x : ℕ) (phase : Phase) (f : FunctionData) (id : ℕ) (u : UseData) → (c : IsUse x phase f id u) → (r : ℕ) → among r u.inputs ≡ true → (among r u.results ≡ false) × (r < f.next_reg)
+pub input_place : (x : ℕ) (phase : Phase) (f : FunctionData) (id : ℕ) (u : UseData) → (c : IsUse x phase f id u) → (r : ℕ) → among r u.inputs ≡ true → (among r u.results ≡ false) × (r < f.next_reg)
 input_place x phase f id u c r inside =
     let s = seen x phase f id u c in
     let at = stands_at r u.inputs inside in
@@ -109,20 +109,20 @@ input_place x phase f id u c r inside =
 
 -- ══ Widths ══
 
-inputs_wide : (x : ℕ) (f : FunctionData) (rs : List ℕ) (types : List Llt) → AreOfTypes f rs types → map (width_in x f) rs ≡ map (width_of x) types
+pub inputs_wide : (x : ℕ) (f : FunctionData) (rs : List ℕ) (types : List Llt) → AreOfTypes f rs types → map (width_in x f) rs ≡ map (width_of x) types
 inputs_wide x f [] [] are = refl
 inputs_wide x f [] (t ∷ types) are = absurd are
 inputs_wide x f (r ∷ rs) [] are = absurd are
 inputs_wide x f (r ∷ rs) (t ∷ types) are = ap₂ (λ a l. a ∷ l) (ap (width_of_kind x) are.0 ∙ wide_kind x f.banked t) (inputs_wide x f rs types are.1)
 
 -- registers of one kind in two functions are as wide
-same_widths : (x : ℕ) (f g : FunctionData) (rs : List ℕ) → ((r : ℕ) → among r rs ≡ true → kind_of g r ≡ kind_of f r) → map (width_in x g) rs ≡ map (width_in x f) rs
+pub same_widths : (x : ℕ) (f g : FunctionData) (rs : List ℕ) → ((r : ℕ) → among r rs ≡ true → kind_of g r ≡ kind_of f r) → map (width_in x g) rs ≡ map (width_in x f) rs
 same_widths x f g [] same = refl
 same_widths x f g (r ∷ rs) same =
     ap₂ (λ a l. a ∷ l) (ap (width_of_kind x) (same r (or_left (r == r) (among r rs) (eq-eqb r r refl)))) (same_widths x f g rs (λ q inside. same q (or_right (r == q) (among q rs) inside)))
 
 -- each register that the function has had keeps its kind
-old_kind : (x : ℕ) (phase : Phase) (f : FunctionData) (id : ℕ) (u : UseData) → (c : IsUse x phase f id u) → (r : ℕ) → r < f.next_reg → kind_of (rewritten_at f id u) r ≡ kind_of f r
+pub old_kind : (x : ℕ) (phase : Phase) (f : FunctionData) (id : ℕ) (u : UseData) → (c : IsUse x phase f id u) → (r : ℕ) → r < f.next_reg → kind_of (rewritten_at f id u) r ≡ kind_of f r
 old_kind x phase f id u c r below = kind_kept (rewriting_at f id u c.fits.line) f (rewritten_at f id u) is r (by (among r u.results) refl)
   where
     s : IsSeen f id u c.fits.line
@@ -144,7 +144,7 @@ all_wide x g banked [] (t ∷ types) many each = cc
 all_wide x g banked (r ∷ rs) [] many each = cc
 all_wide x g banked (r ∷ rs) (t ∷ types) many each = ap₂ (λ a l. a ∷ l) (each 0 r t refl refl) (all_wide x g banked rs types (omega (arith, many)) (λ k q ty at has. each (suc k) q ty at has))
 
-made_wide : (x : ℕ) (phase : Phase) (f : FunctionData) (id : ℕ) (u : UseData) → (c : IsUse x phase f id u) → map (width_in x (rewritten_at f id u)) (flat (made_registers f u)) ≡ map (width_of x) (flat_types u.rewrite.made)
+pub made_wide : (x : ℕ) (phase : Phase) (f : FunctionData) (id : ℕ) (u : UseData) → (c : IsUse x phase f id u) → map (width_in x (rewritten_at f id u)) (flat (made_registers f u)) ≡ map (width_of x) (flat_types u.rewrite.made)
 made_wide x phase f id u c =
     let s = seen x phase f id u c in
     let is = is_replaced_by f id (root_of f u c.fits.line) (made_of f id u) c.own c.live c.fits.root in

@@ -1,1 +1,3 @@
 pub mod Computing
+pub mod Good
+pub mod Stages

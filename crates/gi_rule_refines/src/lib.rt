@@ -2,3 +2,6 @@
 #![tactic(auto)]
 
 pub mod laws;
+pub mod reading;
+pub mod rows;
+pub mod stages;

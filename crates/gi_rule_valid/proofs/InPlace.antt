@@ -1,16 +1,16 @@
 -- Instructions in the place of one are a rewriting that renames nothing.
-use Rattle.std.proofs.Common.{◌≡◌, ℕ, zero, suc, ◌+◌, ◌≤◌, Bool, true, false, cond, not, ◌==◌, List, [], ◌∷◌, ◌++◌, Option, Some, None, option_map, map, flat_map, take, drop, get_or, set, slice_get, inl, inr, ⊎_elim, refl, sym, ap, ap₂, ◌∙◌, subst, arith}
+use Rattle.std.proofs.Common.{◌≡◌, ℕ, suc, ◌+◌, ◌≤◌, Bool, true, false, cond, not, ◌==◌, List, [], ◌∷◌, ◌++◌, Some, map, flat_map, take, drop, get_or, set, ⊎_elim, refl, sym, ap, ap₂, ◌∙◌, subst, arith}
 use Rattle.std.proofs.lemmas.Bool.{or_cases, or_parts, eq-eqb}
 use Rattle.std.specs.List.{list_any, position_or_len}
 use Rattle.gi_mir.specs.Data.{InstrData, BlockData, FunctionData}
-use Rattle.gi_mir.specs.Edit.{IsLive, all_instrs, empty_block, has_instr, home_block, home_of, instr_of, place_in_block, place_of}
-use Rattle.gi_mir.specs.Ids.{AreOwnIds, uses_among, uses_in, uses_of}
+use Rattle.gi_mir.specs.Edit.{IsLive, all_instrs, empty_block, has_instr, instr_of, place_of}
+use Rattle.gi_mir.specs.Ids.{AreOwnIds, uses_among}
 use Rattle.gi_mir.specs.declared.operand.Operand.{Operand}
 use Rattle.gi_mir.specs.declared.operand.Operand.TheVariants as operand
 use Rattle.gi_pattern.specs.Applying.{root_replaced}
 use Rattle.gi_pattern.specs.InPlace.{block_with, entry_renamed, operand_renamed, with_ids}
 use Rattle.gi_pattern.proofs.InPlace.{blocks-replaced}
-use Rattle.gi_soundness.specs.Rewriting.{Rewriting, IsRewritten, block_rewritten, IsOneOf, rewritten, standing_for}
+use Rattle.gi_soundness.specs.Rewriting.{Rewriting, IsRewritten, block_rewritten, IsOneOf, rewritten}
 use Rattle.gi_soundness.proofs.Placed.{counted, found_by_id, one_with, uses_both, uses_first, uses_in_all}
 
 -- ══ In the place of one ══
@@ -105,7 +105,7 @@ operands_stay : (os : List Operand) → map (operand_renamed (λ r. r)) os ≡ o
 operands_stay [] = refl
 operands_stay (o ∷ os) = ap₂ (λ p ps. p ∷ ps) (operand_stays o) (operands_stay os)
 
-entry_stays : (p : ℕ × InstrData) → entry_renamed (λ r. r) p ≡ p
+pub entry_stays : (p : ℕ × InstrData) → entry_renamed (λ r. r) p ≡ p
 entry_stays p = ap (λ os. (p.0, record p.1 { operands = os })) (operands_stay p.1.operands)
 
 all_stand : (w : Rewriting) → ((p : ℕ × InstrData) → entry_renamed w.rename p ≡ p) → (is : List (ℕ × InstrData)) → flat_map (put w.root.0 w.made) is ≡ rewritten w is

@@ -1,5 +1,5 @@
 -- The registers and kinds of what is made, as one list.
-use Rattle.std.proofs.Common.{◌≡◌, ℕ, zero, suc, ◌+◌, ◌≤◌, ◌<◌, Bool, true, false, cond, not, ◌&&◌, ◌||◌, ◌==◌, nat_lt, List, [], ◌∷◌, ◌++◌, Option, Some, None, length, map, slice_get, inl, inr, ⊎_elim, ◌⊎◌, refl, sym, ap, ap₂, ◌∙◌, subst, arith, append_assoc}
+use Rattle.std.proofs.Common.{◌≡◌, ℕ, suc, ◌+◌, Bool, true, false, cond, ◌&&◌, ◌||◌, ◌==◌, nat_lt, List, [], ◌∷◌, ◌++◌, Option, Some, None, length, map, refl, sym, ap, ap₂, ◌∙◌, arith}
 use Rattle.std.proofs.lemmas.Bool.{and_parts}
 use Rattle.std.specs.List.{list_all, list_any}
 use Rattle.gi_llt.specs.declared.Llt.{Llt}
@@ -18,7 +18,7 @@ use Rattle.gi_rule_values.specs.Data.{OperationData}
 use Rattle.gi_rule_values.specs.declared.rewrite.Slot.{Slot}
 use Rattle.gi_rule_values.specs.declared.rewrite.Slot.TheVariants.{At, Stands}
 use Rattle.gi_rule_valid.specs.Keeping.{are_placed, is_fixed, is_quiet, is_taken}
-use Rattle.gi_rule_valid.specs.Using.{all_instrs_for, all_registers, defined_as, instr_for, next_behind, next_for, operand_for, or_new, place_for, registers_for, target_at}
+use Rattle.gi_rule_valid.specs.Using.{all_instrs_for, all_registers, defined_as, next_behind, next_for, operand_for, or_new, place_for, registers_for, target_at}
 
 -- ══ Lists ══
 

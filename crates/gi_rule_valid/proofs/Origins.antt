@@ -1,22 +1,21 @@
 -- What is made computes from what the root's results are computed from.
-use Rattle.std.proofs.Common.{◌≡◌, ℕ, zero, suc, ◌+◌, ◌-◌, ◌≤◌, ◌<◌, Bool, true, false, cond, not, ◌&&◌, ◌||◌, ◌==◌, nat_le, nat_lt, List, [], ◌∷◌, ◌++◌, Option, Some, None, length, map, slice_get, inl, inr, ⊎_elim, ◌⊎◌, refl, sym, ap, ap₂, ◌∙◌, subst, arith, true≢false, ltb-true, append_assoc}
-use Rattle.std.proofs.lemmas.Bool.{and_parts, and_from, or_cases, or_left, or_right, eqb-true, eq-eqb, not-true, cases_lt, lt-ltb}
+use Rattle.std.proofs.Common.{◌≡◌, ℕ, zero, suc, ◌+◌, ◌≤◌, ◌<◌, Bool, true, false, not, ◌&&◌, ◌||◌, ◌==◌, nat_lt, List, [], ◌∷◌, ◌++◌, Some, length, map, slice_get, inl, inr, ⊎_elim, ◌⊎◌, refl, sym, ap, ap₂, ◌∙◌, subst, arith, ltb-true, append_assoc}
+use Rattle.std.proofs.lemmas.Bool.{and_parts, and_from, or_cases, or_left, or_right, eqb-true, eq-eqb, not-true}
 use Rattle.std.proofs.lemmas.List.Folds.{list_any-append}
 use Rattle.std.proofs.lemmas.Bool.Decides.{nat_tests}
 use Rattle.std.specs.List.{list_all, list_any}
 use Rattle.std.specs.Option.{option_map_or}
 use Rattle.gi_llt.specs.declared.Llt.{Llt}
-use Rattle.gi_mir.specs.Data.{InstrData, FunctionData, reg_of}
-use Rattle.gi_mir.specs.Edit.{all_instrs, defines, is_use_of, uses}
+use Rattle.gi_mir.specs.Data.{InstrData, FunctionData}
+use Rattle.gi_mir.specs.Edit.{all_instrs, is_use_of, uses}
 use Rattle.gi_mir.specs.Formed.{is_def, is_physical, is_physical_def, is_implicit_def}
-use Rattle.gi_mir.specs.Row.{is_call_op, is_phi_op, is_terminator_op, access_of}
 use Rattle.gi_mir.specs.declared.operand.Kind.{Kind}
 use Rattle.gi_mir.specs.declared.operand.Operand.{Operand}
 use Rattle.gi_mir.specs.declared.operand.Operand.TheVariants as operand
 use Rattle.gi_meaning.specs.InRow.{results_in}
 use Rattle.gi_refine.specs.Lifting.{grown}
-use Rattle.gi_valid.specs.Definitions.{IsComputedFrom, definition, defines_any_physical, is_copy, is_erasable, is_load, is_pure, uses_purely}
-use Rattle.gi_valid.specs.Faults.{definitions, is_division, is_product, is_wider, may_call, times}
+use Rattle.gi_valid.specs.Definitions.{definition, defines_any_physical, is_copy, is_erasable, is_pure, uses_purely}
+use Rattle.gi_valid.specs.Faults.{definitions, is_division, is_product, is_wider, times}
 use Rattle.gi_valid.specs.Typing.{Phase}
 use Rattle.gi_soundness.specs.Conditions.{is_plain, is_plain_operand}
 use Rattle.gi_soundness.specs.Rewriting.{IsOneOf}
@@ -25,13 +24,13 @@ use Rattle.gi_soundness.proofs.Binding.{in_first_or_rest}
 use Rattle.gi_soundness.proofs.Circles.{computed_on, is_definition, joining_is}
 use Rattle.gi_soundness.proofs.Found.{FromRoot}
 use Rattle.gi_soundness.proofs.Made.{ReadsWell, has_def, never_calls}
-use Rattle.gi_soundness.proofs.Matching.{Computes, computing}
+use Rattle.gi_soundness.proofs.Matching.{computing}
 use Rattle.gi_rule_values.specs.Data.{DefinitionData, OperationData}
 use Rattle.gi_rule_values.specs.declared.rewrite.Slot.{Slot}
 use Rattle.gi_rule_values.specs.declared.rewrite.Slot.TheVariants.{At, Stands}
 use Rattle.gi_rule_valid.specs.Keeping.{are_origins, are_placed, is_asked, is_fixed, is_number, is_quiet, is_taken, places_from, places_taken}
-use Rattle.gi_rule_valid.specs.Using.{AreDefined, IsDefinedBy, all_instrs_for, defined_as, instr_for, kind_in, next_for, operand_for, place_for, register_at, registers_for}
-use Rattle.gi_rule_valid.proofs.Lists.{among, as_many, defines_are, placed_one, slots_none}
+use Rattle.gi_rule_valid.specs.Using.{AreDefined, all_instrs_for, defined_as, instr_for, kind_in, next_for, operand_for, place_for, register_at, registers_for}
+use Rattle.gi_rule_valid.proofs.Lists.{as_many, defines_are, placed_one, slots_none}
 use Rattle.gi_rule_valid.proofs.Targets.{among_at}
 
 -- ══ Operands ══

@@ -1,10 +1,10 @@
 -- The types of what is made meet their rows on registers, where they do on places.
-use Rattle.std.proofs.Common.{◌≡◌, ℕ, zero, suc, ◌+◌, ◌-◌, ◌≤◌, ◌<◌, Bool, true, false, cond, not, ◌&&◌, ◌||◌, ◌==◌, nat_le, nat_lt, List, [], ◌∷◌, ◌++◌, Option, Some, None, length, map, slice_get, inl, inr, ⊎_elim, ◌⊎◌, refl, sym, ap, ap₂, ◌∙◌, subst, arith, ltb-true}
-use Rattle.std.proofs.lemmas.Bool.{and_parts, and_from, or_cases, eqb-true, eq-eqb}
-use Rattle.std.specs.List.{list_all, list_any}
+use Rattle.std.proofs.Common.{◌≡◌, ℕ, zero, suc, ◌+◌, ◌<◌, Bool, true, false, cond, nat_lt, List, [], ◌∷◌, ◌++◌, Option, Some, None, length, map, slice_get, refl, sym, ap, ap₂, ◌∙◌, arith, ltb-true}
+use Rattle.std.proofs.lemmas.Bool.{and_parts, and_from}
+use Rattle.std.specs.List.{list_all}
 use Rattle.std.specs.Option.{is_none, option_or}
 use Rattle.gi_llt.specs.declared.Llt.{Llt}
-use Rattle.gi_mir.specs.Data.{InstrData, FunctionData, reg_of}
+use Rattle.gi_mir.specs.Data.{InstrData, reg_of}
 use Rattle.gi_mir.specs.Row.{typing_of}
 use Rattle.gi_mir.specs.Typings.{TypingData}
 use Rattle.gi_mir.specs.declared.operand.Kind.{Kind}
@@ -15,11 +15,10 @@ use Rattle.gi_meaning.specs.InRow.{results_in, sources_in}
 use Rattle.gi_refine.specs.Lifting.{grown}
 use Rattle.gi_valid.specs.Typing.{first_unmet, is_as_wide, is_constant_op, unmet, unsized, unsuited}
 use Rattle.gi_soundness.proofs.Typed.{still_unmet}
-use Rattle.gi_soundness.specs.Rules.{is_in}
 use Rattle.gi_rule_values.specs.Data.{OperationData}
 use Rattle.gi_rule_values.specs.declared.rewrite.Slot.{Slot}
 use Rattle.gi_rule_values.specs.declared.rewrite.Slot.TheVariants.{At, Stands}
-use Rattle.gi_rule_valid.specs.Keeping.{all_types, are_met, are_placed, is_fixed, is_taken, on_places, place_operand, places_from, places_taken}
+use Rattle.gi_rule_valid.specs.Keeping.{all_types, are_met, are_placed, on_each, is_fixed, is_taken, on_places, place_operand, places_from, places_taken}
 use Rattle.gi_rule_valid.specs.Using.{all_instrs_for, all_registers, defined_as, instr_for, next_for, operand_for, place_for, register_at, registers_for}
 use Rattle.gi_rule_valid.proofs.Lists.{as_many, flat, flat_types, placed_one}
 use Rattle.gi_rule_valid.proofs.Origins.{grown_is, place_is}
@@ -201,27 +200,53 @@ unsized_alike x tf tg registers (r ∷ []) (p ∷ p' ∷ ps) (t ∷ []) kind cou
 unsized_alike x tf tg registers (r ∷ []) (p ∷ ps) (t ∷ u ∷ types) kind count slots h many many' same none = cc
 unsized_alike x tf tg registers (r ∷ q ∷ rs) (p ∷ ps) (t ∷ u ∷ types) kind count slots h many many' same none = refl
 
--- an operation whose types meet its row on places
-suited : (x : ℕ) (tg : ℕ → Option Llt) (kind : Llt → Kind) (registers rs : List ℕ) (types : List Llt) (place : ℕ) (o : OperationData) (line : ℕ) → length types ≡ place → map tg registers ≡ somes types → length rs ≡ length o.types
-    → map tg rs ≡ somes o.types → list_all (is_taken place) o.slots ≡ true → unsuited x (slice_get (types ++ o.types)) (on_places (length types) o) ≡ None → unsuited x tg (instr_for kind registers rs o line) ≡ None
-suited x tg kind registers rs types place o line many are as_many results taken none =
+-- registers for an operation and for what it takes
+pub record IsSetOn (tg : ℕ → Option Llt) (registers rs : List ℕ) (types : List Llt) (place : ℕ) (o : OperationData) : Type 0 where
+  pub many : length types ≡ place
+  pub are : map tg registers ≡ somes types
+  pub as_many : length rs ≡ length o.types
+  pub results : map tg rs ≡ somes o.types
+  pub taken : list_all (is_taken place) o.slots ≡ true
+
+-- the registers of two instructions have the same types
+pub record AreAlike (tf tg : ℕ → Option Llt) (i j : InstrData) : Type 0 where
+  pub many : length (results_in j.operands) ≡ length (results_in i.operands)
+  pub results : map tg (results_in j.operands) ≡ map tf (results_in i.operands)
+  pub sources : map tg (sources_in j.operands) ≡ map tf (sources_in i.operands)
+
+on_ps : (types : List Llt) (o : OperationData) → map (slice_get (types ++ o.types)) (places_from (length types) o.types) ≡ somes o.types
+on_ps types o = places_type types o.types [] (length types) refl
+
+alike : (tg : ℕ → Option Llt) (kind : Llt → Kind) (registers rs : List ℕ) (types : List Llt) (place : ℕ) (o : OperationData) (line : ℕ) → IsSetOn tg registers rs types place o
+    → AreAlike (slice_get (types ++ o.types)) tg (on_places (length types) o) (instr_for kind registers rs o line)
+alike tg kind registers rs types place o line c =
     let tf : ℕ → Option Llt = slice_get (types ++ o.types) in
     let ps : List ℕ = places_from (length types) o.types in
+    let first : results_in (on_places (length types) o).operands ≡ places_from (length types) o.types =
+    results_of_defined Generic ps o.types (map place_operand o.slots) (places_many (length types) o.types) (place_results place o.slots c.taken) in
+    let first' : results_in (instr_for kind registers rs o line).operands ≡ rs = results_of_defined kind rs o.types (map (operand_for registers) o.slots) c.as_many (slot_results place registers o.slots c.taken) in
+    let second : sources_in (on_places (length types) o).operands ≡ places_taken o.slots = sources_of_defined Generic ps o.types (map place_operand o.slots) ∙ place_sources place o.slots c.taken in
+    let second' : sources_in (instr_for kind registers rs o line).operands ≡ map (register_at registers) (places_taken o.slots) =
+    sources_of_defined kind rs o.types (map (operand_for registers) o.slots) ∙ slot_sources place registers o.slots c.taken in
+    record {
+      many = ap length first' ∙ c.as_many ∙ sym (places_many (length types) o.types) ∙ sym (ap length first);
+      results = ap (map tg) first' ∙ c.results ∙ sym (on_ps types o) ∙ sym (ap (map tf) first);
+      sources = ap (map tg) second' ∙ sources_alike tg registers types o.types place o.slots c.are c.many c.taken ∙ sym (ap (map tf) second);
+    }
+
+-- an operation whose types meet its row on places
+suited : (x : ℕ) (tg : ℕ → Option Llt) (kind : Llt → Kind) (registers rs : List ℕ) (types : List Llt) (place : ℕ) (o : OperationData) (line : ℕ) → IsSetOn tg registers rs types place o
+    → unsuited x (slice_get (types ++ o.types)) (on_places (length types) o) ≡ None → unsuited x tg (instr_for kind registers rs o line) ≡ None
+suited x tg kind registers rs types place o line c none =
+    let tf : ℕ → Option Llt = slice_get (types ++ o.types) in
     let os : List Operand = (on_places (length types) o).operands in
     let os' : List Operand = (instr_for kind registers rs o line).operands in
-    let on_ps : map (slice_get (types ++ o.types)) (places_from (length types) o.types) ≡ somes o.types = places_type types o.types [] (length types) refl in
-    let first : results_in (on_places (length types) o).operands ≡ places_from (length types) o.types = results_of_defined Generic ps o.types (map place_operand o.slots) (places_many (length types) o.types) (place_results place o.slots taken) in
-    let first' : results_in (instr_for kind registers rs o line).operands ≡ rs = results_of_defined kind rs o.types (map (operand_for registers) o.slots) as_many (slot_results place registers o.slots taken) in
-    let second : sources_in (on_places (length types) o).operands ≡ places_taken o.slots = sources_of_defined Generic ps o.types (map place_operand o.slots) ∙ place_sources place o.slots taken in
-    let second' : sources_in (instr_for kind registers rs o line).operands ≡ map (register_at registers) (places_taken o.slots) = sources_of_defined kind rs o.types (map (operand_for registers) o.slots) ∙ slot_sources place registers o.slots taken in
+    let a : AreAlike (slice_get (types ++ o.types)) tg (on_places (length types) o) (instr_for kind registers rs o line) = alike tg kind registers rs types place o line c in
     let parts = both_none (unmet x tf (typing_of o.op) os) (cond (is_constant_op o.op) (unsized x tf os) None) none in
     let same : map tg (results_in os' ++ sources_in os') ≡ map tf (results_in os ++ sources_in os) =
-    ap₂ (λ a b. map tg (a ++ b)) first' second' ∙ map_append tg rs (map (register_at registers) (places_taken o.slots))
-    ∙ ap₂ (λ a b. a ++ b) (results ∙ sym on_ps) (sources_alike tg registers types o.types place o.slots are many taken)
-    ∙ sym (map_append tf ps (places_taken o.slots)) ∙ sym (ap₂ (λ a b. map tf (a ++ b)) first second) in
-    ap₂ option_or
-    (unmet_alike x tf tg (typing_of o.op) os os' (ap length first' ∙ as_many ∙ sym (places_many (length types) o.types) ∙ sym (ap length first)) same parts.0)
-    (by (is_constant_op o.op) (λ l. unsized_alike x tf tg registers rs ps o.types kind place o.slots taken as_many (places_many (length types) o.types) (results ∙ sym on_ps) l) parts.1)
+    map_append tg (results_in os') (sources_in os') ∙ ap₂ (λ p q. p ++ q) a.results a.sources ∙ sym (map_append tf (results_in os) (sources_in os)) in
+    ap₂ option_or (unmet_alike x tf tg (typing_of o.op) os os' a.many same parts.0)
+    (by (is_constant_op o.op) (λ l. unsized_alike x tf tg registers rs (places_from (length types) o.types) o.types kind place o.slots c.taken c.as_many (places_many (length types) o.types) (c.results ∙ sym (on_ps types o)) l) parts.1)
   where
     by : (b : Bool) → (unsized x (slice_get (types ++ o.types)) (on_places (length types) o).operands ≡ None → unsized x tg (instr_for kind registers rs o line).operands ≡ None)
         → cond b (unsized x (slice_get (types ++ o.types)) (on_places (length types) o).operands) None ≡ None → cond b (unsized x tg (instr_for kind registers rs o line).operands) None ≡ None
@@ -247,21 +272,34 @@ length_types : (xs ys : List Llt) → length (xs ++ ys) ≡ length xs + length y
 length_types [] ys = omega arith
 length_types (x ∷ xs) ys = let rest : length (xs ++ ys) ≡ length xs + length ys = length_types xs ys in omega (arith, rest)
 
--- what is made meets its rows, where its registers have their types
+-- what is made passes a test that looks at types, where its registers have their types
+pub all_alike : (test : (ℕ → Option Llt) → InstrData → Bool) (tg : ℕ → Option Llt) (kind : Llt → Kind) (line : ℕ)
+    → ((registers rs : List ℕ) (types : List Llt) (place : ℕ) (o : OperationData) → IsSetOn tg registers rs types place o → AreAlike (slice_get (types ++ o.types)) tg (on_places (length types) o) (instr_for kind registers rs o line)
+    → test (slice_get (types ++ o.types)) (on_places (length types) o) ≡ true → test tg (instr_for kind registers rs o line) ≡ true)
+    → (targets : List (ℕ × ℕ)) (registers : List ℕ) (types : List Llt) (place next : ℕ) (os : List OperationData) → length types ≡ place → map tg registers ≡ somes types
+    → are_placed place os ≡ true → on_each test types os ≡ true → map tg (flat (all_registers targets place next os)) ≡ somes (flat_types os)
+    → list_all (test tg) (all_instrs_for kind line targets registers place next os) ≡ true
+all_alike test tg kind line goes targets registers types place next [] many are placed passed typed = refl
+all_alike test tg kind line goes targets registers types place next (o ∷ os) many are placed passed typed =
+    let one = placed_one place o os placed in
+    let rs : List ℕ = registers_for targets place next o.types in
+    let each = and_parts (test (slice_get (types ++ o.types)) (on_places (length types) o)) (on_each test (types ++ o.types) os) passed in
+    let parts = split_somes tg rs (flat (all_registers targets (place_for place o.types) (next_for targets place next o.types) os)) o.types (flat_types os) (as_many targets place next o.types) typed in
+    let set : IsSetOn tg registers rs types place o = record { many = many; are = are; as_many = as_many targets place next o.types; results = parts.0; taken = one.taken } in
+    and_from (test tg (instr_for kind registers rs o line)) (list_all (test tg) (all_instrs_for kind line targets (grown registers rs) (place_for place o.types) (next_for targets place next o.types) os))
+    (goes registers rs types place o set (alike tg kind registers rs types place o line set) each.0)
+    (all_alike test tg kind line goes targets (grown registers rs) (types ++ o.types) (place_for place o.types) (next_for targets place next o.types) os
+    (length_types types o.types ∙ ap (λ n. n + length o.types) many ∙ sym (place_is place o.types))
+    (ap (map tg) (grown_is registers rs) ∙ map_append tg registers rs ∙ ap₂ (λ a b. a ++ b) are parts.0 ∙ sym (somes_append types o.types)) one.rest each.1 parts.1)
+
+-- it meets its rows
 pub all_suited : (x : ℕ) (tg : ℕ → Option Llt) (kind : Llt → Kind) (line : ℕ) (targets : List (ℕ × ℕ)) (registers : List ℕ) (types : List Llt) (place next : ℕ) (os : List OperationData) → length types ≡ place → map tg registers ≡ somes types
     → are_placed place os ≡ true → are_met x types os ≡ true → map tg (flat (all_registers targets place next os)) ≡ somes (flat_types os)
     → list_all (λ i. is_none (unsuited x tg i)) (all_instrs_for kind line targets registers place next os) ≡ true
-all_suited x tg kind line targets registers types place next [] many are placed met typed = refl
-all_suited x tg kind line targets registers types place next (o ∷ os) many are placed met typed =
-    let one = placed_one place o os placed in
-    let rs : List ℕ = registers_for targets place next o.types in
-    let each = and_parts (is_none (unsuited x (slice_get (types ++ o.types)) (on_places (length types) o))) (are_met x (types ++ o.types) os) met in
-    let parts = split_somes tg rs (flat (all_registers targets (place_for place o.types) (next_for targets place next o.types) os)) o.types (flat_types os) (as_many targets place next o.types) typed in
-    and_from (is_none (unsuited x tg (instr_for kind registers rs o line))) (list_all (λ i. is_none (unsuited x tg i)) (all_instrs_for kind line targets (grown registers rs) (place_for place o.types) (next_for targets place next o.types) os))
-    (ap is_none (suited x tg kind registers rs types place o line many are (as_many targets place next o.types) parts.0 one.taken (none_of (unsuited x (slice_get (types ++ o.types)) (on_places (length types) o)) each.0)))
-    (all_suited x tg kind line targets (grown registers rs) (types ++ o.types) (place_for place o.types) (next_for targets place next o.types) os
-    (length_types types o.types ∙ ap (λ n. n + length o.types) many ∙ sym (place_is place o.types))
-    (ap (map tg) (grown_is registers rs) ∙ map_append tg registers rs ∙ ap₂ (λ a b. a ++ b) are parts.0 ∙ sym (somes_append types o.types)) one.rest each.1 parts.1)
+all_suited x tg kind line targets registers types place next os many are placed met typed =
+    all_alike (λ type_of i. is_none (unsuited x type_of i)) tg kind line
+    (λ registers rs types place o set alike none. ap is_none (suited x tg kind registers rs types place o line set (none_of (unsuited x (slice_get (types ++ o.types)) (on_places (length types) o)) none)))
+    targets registers types place next os many are placed met typed
 
 pub all_types_are : (types : List Llt) (os : List OperationData) → all_types types os ≡ types ++ flat_types os
 all_types_are types [] = sym (nothing types)

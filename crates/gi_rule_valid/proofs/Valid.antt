@@ -1,13 +1,12 @@
 -- A valid function stays valid.
-use Rattle.std.proofs.Common.{◌≡◌, ℕ, zero, suc, ◌+◌, ◌-◌, ◌≤◌, ◌<◌, Bool, true, false, cond, not, ◌&&◌, ◌||◌, ◌==◌, nat_le, nat_lt, List, [], ◌∷◌, ◌++◌, Option, Some, None, length, map, slice_get, inl, inr, ⊎_elim, ◌⊎◌, refl, sym, ap, ap₂, ◌∙◌, subst, arith, true≢false, ltb-true, leb-true}
-use Rattle.std.specs.Prelude.{zip}
-use Rattle.std.proofs.lemmas.Bool.{and_parts, and_from, or_cases, or_left, or_right, eqb-true, eq-eqb, not-true, cases_lt, false_from_ne_true}
+use Rattle.std.proofs.Common.{◌≡◌, ℕ, zero, suc, ◌+◌, ◌-◌, ◌≤◌, ◌<◌, Bool, true, false, cond, not, ◌&&◌, ◌==◌, nat_lt, List, [], ◌∷◌, ◌++◌, Option, Some, None, length, map, slice_get, inl, inr, ⊎_elim, ◌⊎◌, refl, sym, ap, ap₂, ◌∙◌, subst, arith, true≢false}
+use Rattle.std.proofs.lemmas.Bool.{and_parts, and_from, or_left, eqb-true, eq-eqb, not-true, false_from_ne_true}
 use Rattle.std.specs.List.{list_all, list_any}
 use Rattle.std.specs.Option.{is_none}
 use Rattle.gi_llt.specs.declared.Llt.{Llt}
 use Rattle.gi_llt.specs.declared.Llt.TheVariants.{Scalar, Pointer}
 use Rattle.gi_mir.specs.Data.{InstrData, FunctionData}
-use Rattle.gi_mir.specs.Edit.{IsLive, all_instrs, defines, instr_of, uses}
+use Rattle.gi_mir.specs.Edit.{IsLive, all_instrs, defines, uses}
 use Rattle.gi_mir.specs.Ids.{AreOwnIds}
 use Rattle.gi_mir.specs.Registers.{kind_in_instrs, kind_in_operands, kind_of, type_of_kind}
 use Rattle.gi_mir.specs.Types.{same_type}
@@ -15,10 +14,9 @@ use Rattle.gi_mir.specs.declared.operand.Kind.{Kind}
 use Rattle.gi_meaning.specs.InRow.{results_in}
 use Rattle.gi_refine.specs.Lifting.{grown}
 use Rattle.gi_pattern.specs.Applying.{line_of}
-use Rattle.gi_pattern.specs.InPlace.{with_ids}
 use Rattle.gi_pattern.specs.Making.{kind_with}
 use Rattle.gi_valid.specs.Definitions.{is_pure}
-use Rattle.gi_valid.specs.Faults.{definitions, may_call, times}
+use Rattle.gi_valid.specs.Faults.{may_call}
 use Rattle.gi_valid.specs.Typing.{Phase, Typed, Selecting, Untyped, joins_any, mismatch, type_in, unsuited}
 use Rattle.gi_valid.specs.Valid.{IsValid}
 use Rattle.gi_valid.proofs.Single.{often, results_once}
@@ -29,7 +27,7 @@ use Rattle.gi_soundness.proofs.Circles.{IsKnown}
 use Rattle.gi_soundness.proofs.Computed.{any_one}
 use Rattle.gi_soundness.proofs.Found.{FromRoot}
 use Rattle.gi_soundness.proofs.KeptKinds.{kind_of_ids, root_kind}
-use Rattle.gi_soundness.proofs.Made.{all_of_ids, any_of_ids, has_def, never_calls, read_at, times_counted}
+use Rattle.gi_soundness.proofs.Made.{all_of_ids, any_of_ids, never_calls, read_at, times_counted}
 use Rattle.gi_soundness.proofs.Placed.{found_by_id}
 use Rattle.gi_soundness.proofs.Rule.{one_passes, source_apart}
 use Rattle.gi_soundness.proofs.Scaled.{kind_new}
@@ -40,7 +38,7 @@ use Rattle.gi_rule_valid.specs.Keeping.{all_types, are_met, gives_types, are_ori
 use Rattle.gi_rule_valid.specs.Using.{AreOfTypes, FitsAt, UseData, all_instrs_for, all_registers, instr_for, kind_in, made_of, next_for, operand_for, place_for, register_at, registers_for, rewritten_at, target_at, targets_of}
 use Rattle.gi_rule_valid.proofs.InPlace.{is_replaced_by, replacing}
 use Rattle.gi_rule_valid.proofs.Lists.{IsListed, all_listed, among, as_many, defines_are, flat, flat_registers, flat_types, kind_at, kinds_are, placed_one, results_are, slots_none}
-use Rattle.gi_rule_valid.proofs.Origins.{AreReady, AreSources, all_ready, asked_taken, calls_none, grown_is, input_source, origins_sources, plain_for, pure_for, quiet_computes, root_sources}
+use Rattle.gi_rule_valid.proofs.Origins.{AreSources, all_ready, asked_taken, calls_none, input_source, origins_sources, plain_for, pure_for, quiet_computes, root_sources}
 use Rattle.gi_rule_valid.proofs.Targets.{IsTargetOf, among_at, kind_there, made_once, new_or_target, seconds, seconds_among, seconds_often, target_made, target_of}
 use Rattle.gi_rule_valid.proofs.Typed.{all_suited, all_types_are, somes}
 
@@ -317,6 +315,26 @@ register_is [] k r h = cc
 register_is (q ∷ rs) zero r h = cc
 register_is (q ∷ rs) (suc k) r h = register_is rs k r h
 
+-- the inputs have their types after the rewrite, and what is made has
+pub inputs_typed : (x : ℕ) (phase : Phase) (f : FunctionData) (id : ℕ) (u : UseData) → gives_types phase ≡ true → IsUse x phase f id u → map (type_in phase (rewritten_at f id u)) u.inputs ≡ somes u.rewrite.inputs
+inputs_typed x phase f id u types c =
+    let s = seen x phase f id u c in
+    all_typed phase (rewritten_at f id u) f.banked types u.inputs u.rewrite.inputs s.many
+    (λ k r ty at has.
+    let here : k < length u.rewrite.inputs = within u.rewrite.inputs k ty has in
+    let same : register_at u.inputs k ≡ r = register_is u.inputs k r at in
+    subst (λ q. kind_of (rewritten_at f id u) q ≡ kind_of f q) same
+    (input_kind x f id u c.fits.line k s c.had (is_replaced_by f id (root_of f u c.fits.line) (made_of f id u) c.own c.live c.fits.root) (ap (nat_lt 0) c.fits.many ∙ c.keeps.some) here)
+    ∙ inputs_are f u.inputs u.rewrite.inputs c.fits.types k r ty at has)
+
+pub made_typed : (x : ℕ) (phase : Phase) (f : FunctionData) (id : ℕ) (u : UseData) → gives_types phase ≡ true → IsUse x phase f id u
+    → map (type_in phase (rewritten_at f id u)) (flat (all_registers (targets_of u) (length u.inputs) f.next_reg u.rewrite.made)) ≡ somes (flat_types u.rewrite.made)
+made_typed x phase f id u types c =
+    ap (map (type_in phase (rewritten_at f id u))) (flat_registers (targets_of u) (length u.inputs) f.next_reg u.rewrite.made)
+    ∙ all_typed phase (rewritten_at f id u) f.banked types (new_registers f u) (flat_types u.rewrite.made) (as_many (targets_of u) (length u.inputs) f.next_reg (flat_types u.rewrite.made))
+    (λ k r ty at has.
+    new_kind x f id u c.fits.line r k ty (seen x phase f id u c) c.keeps c.fits.many c.had (is_replaced_by f id (root_of f u c.fits.line) (made_of f id u) c.own c.live c.fits.root) at has)
+
 pub stays_valid_at : (x : ℕ) (phase : Phase) (f : FunctionData) (id : ℕ) (u : UseData) → gives_types phase ≡ true → IsUse x phase f id u → IsValid x phase (rewritten_at f id u)
 stays_valid_at x phase f id u types c =
     stays_valid x phase w f g is plain anew results reads kinds calls c.valid
@@ -335,9 +353,6 @@ stays_valid_at x phase f id u types c =
 
     is : IsRewritten (rewriting_at f id u c.fits.line) f (rewritten_at f id u)
     is = is_replaced_by f id (root_of f u c.fits.line) (made_of f id u) c.own c.live c.fits.root
-
-    some : nat_lt 0 (length u.results) ≡ true
-    some = ap (nat_lt 0) c.fits.many ∙ c.keeps.some
 
     moved : (r : ℕ) → is_replaced (rewriting_at f id u c.fits.line) r ≡ true → ⊥
     moved r so = true≢false (sym (sym (ap not (eq-eqb r r refl)) ∙ so))
@@ -385,15 +400,7 @@ stays_valid_at x phase f id u types c =
     met : list_all (λ i. is_none (unsuited x (type_in phase (rewritten_at f id u)) i)) (made_of f id u) ≡ true
     met =
         all_suited x (type_in phase (rewritten_at f id u)) (kind_in f) (line_of f id) (targets_of u) u.inputs u.rewrite.inputs (length u.inputs) f.next_reg u.rewrite.made (sym s.many)
-        (all_typed phase (rewritten_at f id u) f.banked types u.inputs u.rewrite.inputs s.many
-        (λ k r ty at has.
-        let here : k < length u.rewrite.inputs = within u.rewrite.inputs k ty has in
-        let same : register_at u.inputs k ≡ r = register_is u.inputs k r at in
-        subst (λ q. kind_of (rewritten_at f id u) q ≡ kind_of f q) same (input_kind x f id u c.fits.line k s c.had is some here) ∙ inputs_are f u.inputs u.rewrite.inputs c.fits.types k r ty at has))
-        s.placed c.keeps.met
-        (ap (map (type_in phase (rewritten_at f id u))) (flat_registers (targets_of u) (length u.inputs) f.next_reg u.rewrite.made)
-        ∙ all_typed phase (rewritten_at f id u) f.banked types (new_registers f u) (flat_types u.rewrite.made) (as_many (targets_of u) (length u.inputs) f.next_reg (flat_types u.rewrite.made))
-        (λ k r ty at has. new_kind x f id u c.fits.line r k ty s c.keeps c.fits.many c.had is at has))
+        (inputs_typed x phase f id u types c) s.placed c.keeps.met (made_typed x phase f id u types c)
 
     mismatched : (i : InstrData) → is_none (unsuited x (type_in phase (rewritten_at f id u)) i) ≡ true → mismatch x phase (rewritten_at f id u) i ≡ None
     mismatched i h = by (joins_any phase i) (unsuited x (type_in phase (rewritten_at f id u)) i) h

@@ -94,10 +94,14 @@ on_places count o = record {
   line = 0;
 }
 
+-- each operation passes a test of its types
+abbrev pub on_each : (test : (ℕ → Option Llt) → InstrData → Bool) → (types : List Llt) → List OperationData → Bool
+on_each test types [] = true
+on_each test types (o ∷ os) = test (slice_get (types ++ o.types)) (on_places (length types) o) && on_each test (types ++ o.types) os
+
 -- the types of each operation meet its row
 abbrev pub are_met : (x : ℕ) → (types : List Llt) → List OperationData → Bool
-are_met x types [] = true
-are_met x types (o ∷ os) = is_none (unsuited x (slice_get (types ++ o.types)) (on_places (length types) o)) && are_met x (types ++ o.types) os
+are_met x types os = on_each (λ type_of i. is_none (unsuited x type_of i)) types os
 
 -- the types of all places
 abbrev pub all_types : (types : List Llt) → List OperationData → List Llt

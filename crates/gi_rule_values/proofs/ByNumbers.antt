@@ -166,7 +166,7 @@ get_left [] ys k x h = cc
 get_left (z ∷ xs) ys zero x h = h
 get_left (z ∷ xs) ys (suc k) x h = get_left xs ys k x h
 
-get_here : {X : Type 0} (xs : List X) (x : X) → slice_get (xs ++ x ∷ []) (length xs) ≡ Some x
+pub get_here : {X : Type 0} (xs : List X) (x : X) → slice_get (xs ++ x ∷ []) (length xs) ≡ Some x
 get_here [] x = refl
 get_here (z ∷ xs) x = get_here xs x
 

@@ -97,7 +97,7 @@ swapped_fits : (n k m v : ℕ) → m < 2 ^ n → m * 2 ^ k < 2 ^ n → swapped k
 swapped_fits n k m v fits shifted =
     or_lt n (bit_and (v / 2 ^ k) m) (bit_and v m * 2 ^ k) (omega (arith, and_le_r (v / 2 ^ k) m, fits)) (omega (arith, mul-le-mul_right (2 ^ k) (and_le_r v m), shifted))
 
-reversed_halves : (v : ℕ) → byte_swap_of 32 (v % 4294967296) * 4294967296 + byte_swap_of 32 (v / 4294967296) ≡ byte_swap_of 64 v
+pub reversed_halves : (v : ℕ) → byte_swap_of 32 (v % 4294967296) * 4294967296 + byte_swap_of 32 (v / 4294967296) ≡ byte_swap_of 64 v
 reversed_halves v = omega arith
 
 pub swap_64_is : (v : ℕ) → v < 2 ^ 64 → swapped 32 4294967295 (swapped 16 281470681808895 (swapped 8 71777214294589695 v)) ≡ byte_swap_of 64 v

@@ -1,13 +1,17 @@
 pub mod Artifacts
 pub mod ByNumbers
 pub mod Combining
+pub mod CombiningMore
 pub mod Groups
+pub mod Halves
 pub mod Lists
 pub mod Lowering
+pub mod LoweringMore
 pub mod Materialised
 pub mod Numbers
 pub mod Ones
 pub mod Parts
 pub mod Selecting
+pub mod SelectingMore
 pub mod Widening
 pub mod WideningMore

@@ -20,14 +20,14 @@ use Rattle.gi_rule_values.specs.Running.{IsSoundRewrite}
 
 -- ══ A sum with a carry ══
 
-either_bit : (p q : Bool) → bit_or (cond p 1 0) (cond q 1 0) ≡ cond (p || q) 1 0
+pub either_bit : (p q : Bool) → bit_or (cond p 1 0) (cond q 1 0) ≡ cond (p || q) 1 0
 either_bit true true = refl
 either_bit true false = refl
 either_bit false true = refl
 either_bit false false = refl
 
 -- below twice a number the rest is what it is, or less the number
-once : (m k : ℕ) → m < k + k → ((m < k) × (m % k ≡ m)) ⊎ ((k ≤ m) × (m % k ≡ m - k))
+pub once : (m k : ℕ) → m < k + k → ((m < k) × (m % k ≡ m)) ⊎ ((k ≤ m) × (m % k ≡ m - k))
 once m k h = ⊎_elim (λ (less : m < k). inl (less, mod-eq_of_lt less)) (λ (more : k ≤ m). inr (more, mod-eq-sub-mod more ∙ mod-eq_of_lt (omega (arith, h, more)))) (cases_lt m k)
 
 carries : (p a b c t d : ℕ) → 2 ≤ p → a < p → b < p → c < 2 → t ≡ (a + b) % p → d ≡ (t + c) % p → nat_le p (a + b + c) ≡ (nat_lt t a || nat_lt d t)

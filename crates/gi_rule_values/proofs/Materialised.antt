@@ -63,7 +63,7 @@ chain_runs x names w type (step ∷ steps) env at place word made claim wide the
 
 -- ══ There is a first step ══
 
-abbrev HasFirst : List Step → Type 0
+abbrev pub HasFirst : List Step → Type 0
 HasFirst steps = (step : Step) × (rest : List Step) × (steps ≡ step ∷ rest)
 
 either_first : (c : Bool) (a b : List Step) → HasFirst a → HasFirst b → HasFirst (cond c a b)
@@ -74,7 +74,7 @@ behind : (a : List Step) (step : Step) (rest : List Step) → HasFirst (a ++ ste
 behind [] step rest = (step, rest, refl)
 behind (s ∷ ss) step rest = (s, ss ++ step ∷ rest, refl)
 
-has_first : (x : ℕ) (v : ℤ) → HasFirst (steps_in 3 x v)
+pub has_first : (x : ℕ) (v : ℤ) → HasFirst (steps_in 3 x v)
 has_first x v =
     either_first (is_immediate v) _ _ (Addi v, [], refl)
     (either_first (fits_32 v) _ _ (Lui (high_part v), unless_zero (low_part v) (lower x (low_part v)), refl)

@@ -1,8 +1,8 @@
 -- Rules that put parts together and take them apart are sound, for any number of parts.
-use Rattle.std.proofs.Common.{◌≡◌, ℕ, suc, ◌+◌, ◌*◌, ◌^◌, ◌<◌, ◌≤◌, nat_le, false, List, [], ◌∷◌, ◌++◌, length, map, Option, Some, slice_get, lit<, refl, sym, ap, ap₂, ◌∙◌, subst, arith, append_assoc}
+use Rattle.std.proofs.Common.{◌≡◌, ℕ, suc, ◌+◌, ◌*◌, ◌^◌, ◌<◌, ◌≤◌, nat_le, false, List, [], ◌∷◌, ◌++◌, length, map, Option, Some, slice_get, lit<, refl, sym, ap, ap₂, ◌∙◌, subst, arith, append_assoc, zero, ◌/◌}
 use Rattle.std.specs.Prelude.{bit_or}
 use Rattle.std.specs.Int.Bits.{or_shifted_r}
-use Rattle.std.proofs.Math.Nat.{mod-eq_of_lt, mul_comm, pow-le-pow_right}
+use Rattle.std.proofs.Math.Nat.{mod-eq_of_lt, mul_comm, pow-le-pow_right, div-div-eq-div-mul}
 use Rattle.std.proofs.lemmas.List.{append-nil}
 use Rattle.std.proofs.lemmas.Nat.{mul-add-lt, pow-add}
 use Rattle.gi_llt.specs.Bits.{wrapped}
@@ -18,9 +18,9 @@ use Rattle.gi_refine.proofs.Basics.{copied_whole}
 use Rattle.gi_rule_values.specs.Artifacts.{copies_from, merge_from, unmerge_of_merge}
 use Rattle.gi_rule_values.specs.Data.{RewriteData}
 use Rattle.gi_rule_values.specs.Forms.{number, on_one, on_two, parts, s}
-use Rattle.gi_rule_values.specs.Lowering.{lower_merge, merge_place, merge_steps}
+use Rattle.gi_rule_values.specs.Lowering.{lower_merge, merge_place, merge_steps, lower_unmerge, unmerge_places, unmerge_steps}
 use Rattle.gi_rule_values.specs.OnValues.{fact_of, operation_on_values}
-use Rattle.gi_rule_values.specs.Running.{AreEqual, ForAllRuns, IfDefined, IfKnown, IfThere, IsSoundRewrite, MayGive, OfGiven, RootMay}
+use Rattle.gi_rule_values.specs.Running.{AreEqual, ForAllRuns, IfDefined, IfKnown, IfThere, IsSoundRewrite, MayGive, OfGiven, RootMay, AreThere}
 use Rattle.gi_rule_values.proofs.ByNumbers.{get_left, longer}
 use Rattle.gi_rule_values.proofs.Lists.{AllFit, StandFrom, are_equal, are_there, for_all_parts, get_at, one_step, parts_back, placed, placed_long, read_one, read_two, slots_are, stand_at, stand_longer}
 
@@ -164,4 +164,61 @@ lower_merge_sound x flags width further some = record {
   by = λ names w is_world.
       for_all_parts x width (suc further) (Owed x names w (lower_merge flags width further))
       (λ values long all. parts_joined x names w flags width values further long all some);
+}
+
+-- ══ Parts shifted down ══
+
+unmerge_runs : (x : ℕ) (names : List (List ℕ)) (w : World) (bits width whole left : ℕ) (env : Environment) (next i : ℕ) (claim : Option Environment → Type 0)
+    → length env ≡ next → slice_get env 0 ≡ Some (bits, whole) → 1 ≤ width → (i + left) * width ≤ bits
+    → ((more : Environment) → ((holds : List ℕ → Type 0) → holds (parts_of (map (width_of x) (parts left width)) (whole / 2 ^ (i * width))) → AreThere (env ++ more) (unmerge_places next left) (map (width_of x) (parts left width)) holds) → claim (Some (env ++ more)))
+    → ForAllRuns x (map (operation_on_values x names w) (unmerge_steps bits width next i left)) env claim
+unmerge_runs x names w bits width whole zero env next i claim long here some within h = subst (λ (e : Environment). claim (Some e)) (append-nil env) (h [] (λ holds there. there))
+unmerge_runs x names w bits width whole (suc left) env next i claim long here some within h =
+    let part : ℕ = whole / 2 ^ (i * width) in
+    let one : Environment = env ++ (bits, i * width) ∷ [] in
+    let two : Environment = one ++ (bits, part) ∷ [] in
+    let three : Environment = two ++ (width, wrapped width part) ∷ [] in
+    let long_one : length one ≡ next + 1 = longer env (bits, i * width) ∙ ap (λ k. k + 1) long in
+    let long_two : length two ≡ next + 2 = longer one (bits, part) ∙ ap (λ k. k + 1) long_one ∙ omega arith in
+    let long_three : length three ≡ next + 3 = longer two (width, wrapped width part) ∙ ap (λ k. k + 1) long_two ∙ omega arith in
+    let here_one : slice_get one 0 ≡ Some (bits, whole) = get_left env ((bits, i * width) ∷ []) 0 (bits, whole) here in
+    let here_three : slice_get three 0 ≡ Some (bits, whole) = get_left two ((width, wrapped width part) ∷ []) 0 (bits, whole) (get_left one ((bits, part) ∷ []) 0 (bits, whole) here_one) in
+    let least : nat_le bits (i * width) ≡ false = beyond within in
+    let later : List Operation = map (operation_on_values x names w) (unmerge_steps bits width (next + 3) (i + 1) left) in
+    let cut : Operation = operation_on_values x names w (on_one op.GenericTruncate (next + 1) (s width)) in
+    let shift : Operation = operation_on_values x names w (on_two op.GenericLogicalShiftRight 0 next (s bits)) in
+    one_step x shift (cut ∷ later) one claim (Value bits whole ∷ Value bits (i * width) ∷ []) (read_two one 0 bits whole next bits (i * width) here_one (get_at env [] (bits, i * width) next long))
+    (rw least
+    (one_step x cut later two claim (Value bits part ∷ []) (read_one two (next + 1) bits part (get_at one [] (bits, part) (next + 1) long_one))
+    (unmerge_runs x names w bits width whole left three (next + 3) (i + 1) claim long_three here_three some (omega (arith, within))
+    (λ more there.
+    let behind : Environment = (bits, i * width) ∷ (bits, part) ∷ (width, wrapped width part) ∷ more in
+    let all : three ++ more ≡ env ++ behind = append_assoc two ((width, wrapped width part) ∷ []) more ∙ append_assoc one ((bits, part) ∷ []) ((width, wrapped width part) ∷ more) ∙ append_assoc env ((bits, i * width) ∷ []) ((bits, part) ∷ (width, wrapped width part) ∷ more) in
+    subst (λ (e : Environment). claim (Some e)) (sym all)
+    (h behind (λ holds given. subst (λ (e : Environment). AreThere e (unmerge_places next (suc left)) (map (width_of x) (parts (suc left) width)) holds) all
+    (subst (λ found. IfThere found width (λ u. AreThere (three ++ more) (unmerge_places (next + 3) left) (map (width_of x) (parts left width)) (λ us. holds (u ∷ us))))
+    (sym (get_left three more (next + 2) (width, wrapped width part) (get_at two [] (width, wrapped width part) (next + 2) long_two)))
+    (refl, there (λ us. holds (wrapped width part ∷ us)) (subst (λ (k : ℕ). holds (wrapped width part ∷ parts_of (map (width_of x) (parts left width)) k)) further given)))))))))
+  where
+    beyond : (i + suc left) * width ≤ bits → nat_le bits (i * width) ≡ false
+    beyond within = let less : i * width < bits = omega (arith, within, some) in grind arith
+
+    further : whole / 2 ^ (i * width) / 2 ^ width ≡ whole / 2 ^ ((i + 1) * width)
+    further = let next : i * width + width ≡ (i + 1) * width = omega arith in
+        div-div-eq-div-mul whole (2 ^ (i * width)) (2 ^ width) ∙ ap (λ k. whole / k) (sym (pow-add 2 (i * width) width) ∙ ap (λ k. 2 ^ k) next)
+
+pub lower_unmerge_sound : (x : ℕ) (flags : Flags) (width further : ℕ) → 1 ≤ width → IsSoundRewrite x (lower_unmerge flags width further)
+lower_unmerge_sound x flags width further some = record {
+  by = λ names w is_world whole whole_fits.
+      let bits : ℕ = suc further * width in
+      let widths : List ℕ = map (width_of x) (parts further width) in
+      let env : Environment = (bits, whole) ∷ (width, wrapped width whole) ∷ [] in
+      let single : 1 * width ≡ width = omega arith in
+      unmerge_runs x names w bits width whole further env 2 1 (RootMay (operation_on_values x names w (lower_unmerge flags width further).root) (lower_unmerge flags width further).results ((bits, whole) ∷ []))
+      refl refl some (omega arith)
+      (λ more there. (
+        refl,
+        there (λ us. MayGive (Exactly (parts_of (width ∷ widths) whole)) (wrapped width whole ∷ us))
+            (subst (λ (k : ℕ). MayGive (Exactly (parts_of (width ∷ widths) whole)) (wrapped width whole ∷ parts_of widths (whole / 2 ^ k))) (sym single) (are_equal (parts_of (width ∷ widths) whole))),
+      ));
 }

@@ -20,14 +20,14 @@ use Rattle.gi_rule_values.specs.Running.{IsSoundRewrite, MayGive}
 
 -- ══ Comparisons ══
 
-one_word : (x : ℕ) → 0 < x → 1 % 2 ^ x ≡ 1
+pub one_word : (x : ℕ) → 0 < x → 1 % 2 ^ x ≡ 1
 one_word x positive = let p : 2 ^ 1 ≤ 2 ^ x = pow-le-pow_right (lit< tt) positive in mod-eq_of_lt (omega (arith, p))
 
-turned_bit : (b : Bool) → cond (not b) 1 0 ≡ bit_xor (cond b 1 0) 1
+pub turned_bit : (b : Bool) → cond (not b) 1 0 ≡ bit_xor (cond b 1 0) 1
 turned_bit true = refl
 turned_bit false = refl
 
-not_below : (a b : ℕ) → nat_le b a ≡ not (nat_lt a b)
+pub not_below : (a b : ℕ) → nat_le b a ≡ not (nat_lt a b)
 not_below a b = grind (arith, nat_tests)
 
 pub select_icmp_ule_sound : (x : ℕ) (flags : Flags) → 0 < x → IsSoundRewrite x (select_icmp_ule flags x)

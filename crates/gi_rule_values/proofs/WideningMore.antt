@@ -1,5 +1,5 @@
 -- More rules of the legaliser that widen are sound.
-use Rattle.std.proofs.Common.{◌≡◌, ⊎_elim, ℕ, zero, suc, pos, ◌-ℤ◌, ◌+◌, ◌-◌, ◌*◌, ◌/◌, ◌%◌, ◌^◌, ◌<◌, ◌≤◌, ◌==◌, nat_lt, nat_le, Bool, true, false, cond, [], ◌∷◌, refl, sym, ap, ap₂, ◌∙◌, subst, arith}
+use Rattle.std.proofs.Common.{◌≡◌, ⊎_elim, ℕ, zero, suc, pos, ◌-ℤ◌, ◌+◌, ◌-◌, ◌*◌, ◌/◌, ◌%◌, ◌^◌, ◌<◌, ◌≤◌, ◌==◌, nat_lt, nat_le, Bool, true, false, cond, refl, sym, ap, ap₂, ◌∙◌, arith, ℤ}
 use Rattle.std.specs.Prelude.{bit_and, bit_or, bit_xor, int_le, int_lt, int_rem}
 use Rattle.std.proofs.Math.Nat.{div-le_self, mod-eq_of_lt, mod-le}
 use Rattle.std.proofs.lemmas.Bool.{cases_eq, cases_lt, eq-eqb}
@@ -8,7 +8,7 @@ use Rattle.std.proofs.lemmas.Nat.{and_mod, div-mul-add, mod-pow-add, mod_below, 
 use Rattle.gi_llt.specs.Bits.{sign_extended, signed, unsigned, wrapped}
 use Rattle.gi_llt.specs.declared.Llt.{Llt}
 use Rattle.gi_meaning.proofs.Numbers.{unsigned_below}
-use Rattle.gi_meaning.specs.Generic.{arithmetic_shift_of, bit_of, difference_of, holds, ones, overflows_division}
+use Rattle.gi_meaning.specs.Generic.{arithmetic_shift_of, bit_of, difference_of, ones, overflows_division}
 use Rattle.gi_mir.specs.declared.operand.Flags.{Flags}
 use Rattle.gi_mir.specs.declared.operand.Pred.{Pred}
 use Rattle.gi_mir.specs.declared.operand.Pred.TheVariants.{Eq, Ne, Ugt, Uge, Ult, Ule, Sgt, Sge, Slt, Sle}
@@ -80,30 +80,28 @@ widen_or_sound x flags n w wider = record {
 
 -- ══ Shifts ══
 
+-- an amount and two widths
+pub data Amount (n w k : ℕ) : Type 0 where
+  Within : nat_le n k ≡ false → nat_le w k ≡ false → Amount n w k
+  Between : nat_le n k ≡ true → nat_le w k ≡ false → Amount n w k
+  Beyond : nat_le n k ≡ true → nat_le w k ≡ true → Amount n w k
+
+pub amount_is : (n w k : ℕ) → n < w → Amount n w k
+amount_is n w k wider = ⊎_elim (λ (small : k < n). Within (grind arith) (grind arith))
+    (λ (great : n ≤ k). ⊎_elim (λ (small : k < w). Between (grind arith) (grind arith)) (λ (most : w ≤ k). Beyond (grind arith) (grind arith)) (cases_lt k w)) (cases_lt k n)
+
 pub widen_shl_sound : (x : ℕ) (flags : Flags) (n w : ℕ) → n < w → IsSoundRewrite x (widen_shl flags n w)
 widen_shl_sound x flags n w wider = record {
   by = λ names world is_world a a_fits k k_fits.
       let less : nat_lt n w ≡ true = grind arith in
-      rw less (λ p p_fits p_low. ⊎_elim
-      (λ (small : k < n).
-      let within : nat_le n k ≡ false = grind arith in
-      let below : nat_le w k ≡ false = grind arith in
-      rw (within, below) (
-        refl,
-        unless _ n (wrapped n (a * 2 ^ k)) (wrapped n (wrapped w (p * 2 ^ k))) (cut_fits n (wrapped w (p * 2 ^ k)))
-            (sym (low_of_low n w (p * 2 ^ k) (omega (arith, wider)) ∙ low_product n p (2 ^ k) a (2 ^ k) p_low refl)),
-      ))
-      (λ (great : n ≤ k).
-      let beyond : nat_le n k ≡ true = grind arith in
-      ⊎_elim
-      (λ (small : k < w).
-      let below : nat_le w k ≡ false = grind arith in
-      rw (beyond, below) (refl, free_given n (wrapped n (wrapped w (p * 2 ^ k))) (cut_fits n (wrapped w (p * 2 ^ k)))))
-      (λ (most : w ≤ k).
-      let above : nat_le w k ≡ true = grind arith in
-      rw (beyond, above) (λ v v_fits v_low. (refl, free_given n (wrapped n v) (cut_fits n v))))
-      (cases_lt k w))
-      (cases_lt k n));
+      rw less (λ p p_fits p_low.
+      let shifted : ℕ = wrapped w (p * 2 ^ k) in
+      let low : wrapped n shifted ≡ wrapped n (a * 2 ^ k) = low_of_low n w (p * 2 ^ k) (omega (arith, wider)) ∙ low_product n p (2 ^ k) a (2 ^ k) p_low refl in
+      elim (amount_is n w k wider) [
+        | Within within below ↦ (rw (within, below) (refl, unless _ n (wrapped n (a * 2 ^ k)) (wrapped n shifted) (cut_fits n shifted) (sym low)))
+        | Between beyond below ↦ (rw (beyond, below) (refl, free_given n (wrapped n shifted) (cut_fits n shifted)))
+        | Beyond beyond above ↦ (rw (beyond, above) (λ v v_fits v_low. (refl, free_given n (wrapped n v) (cut_fits n v))))
+      ]);
 }
 
 -- the low bits of what was shifted with its sign
@@ -124,22 +122,11 @@ pub widen_ashr_sound : (x : ℕ) (flags : Flags) (n w : ℕ) → 1 ≤ n → n <
 widen_ashr_sound x flags n w some wider = record {
   by = λ names world is_world a a_fits k k_fits.
       let shifted : ℕ = arithmetic_shift_of w (sign_extended n w a) k in
-      ⊎_elim
-      (λ (small : k < n).
-      let within : nat_le n k ≡ false = grind arith in
-      let below : nat_le w k ≡ false = grind arith in
-      rw (within, below) (refl, unless _ n (arithmetic_shift_of n a k) (wrapped n shifted) (cut_fits n shifted) (sym (low_shift n w a k some wider a_fits))))
-      (λ (great : n ≤ k).
-      let beyond : nat_le n k ≡ true = grind arith in
-      ⊎_elim
-      (λ (small : k < w).
-      let below : nat_le w k ≡ false = grind arith in
-      rw (beyond, below) (refl, free_given n (wrapped n shifted) (cut_fits n shifted)))
-      (λ (most : w ≤ k).
-      let above : nat_le w k ≡ true = grind arith in
-      rw (beyond, above) (λ v v_fits v_low. (refl, free_given n (wrapped n v) (cut_fits n v))))
-      (cases_lt k w))
-      (cases_lt k n);
+      elim (amount_is n w k wider) [
+        | Within within below ↦ (rw (within, below) (refl, unless _ n (arithmetic_shift_of n a k) (wrapped n shifted) (cut_fits n shifted) (sym (low_shift n w a k some wider a_fits))))
+        | Between beyond below ↦ (rw (beyond, below) (refl, free_given n (wrapped n shifted) (cut_fits n shifted)))
+        | Beyond beyond above ↦ (rw (beyond, above) (λ v v_fits v_low. (refl, free_given n (wrapped n v) (cut_fits n v))))
+      ];
 }
 
 -- ══ Quotients and remainders ══
@@ -237,6 +224,11 @@ one_bit false = refl
 pub widen_icmp_result_sound : (x : ℕ) (flags : Flags) (pred : Pred) (type : Llt) → IsSoundRewrite x (widen_icmp_result flags pred type x)
 widen_icmp_result_sound x flags pred type = record { by = λ names world is_world a a_fits b b_fits. (refl, one_bit _) }
 
+-- what looks at signs sees the same in more bits
+signs_kept : (f : ℤ → ℤ → Bool) (n w a b : ℕ) → 1 ≤ n → n < w → a < 2 ^ n → b < 2 ^ n → bit_of (f (signed n a) (signed n b)) ≡ bit_of (f (signed w (sign_extended n w a)) (signed w (sign_extended n w b)))
+signs_kept f n w a b some wider a_fits b_fits =
+    ap₂ (λ u v. bit_of (f u v)) (sym (signed_extended n w a some (omega (arith, wider)) a_fits)) (sym (signed_extended n w b some (omega (arith, wider)) b_fits))
+
 pub widen_icmp_sound : (x : ℕ) (flags : Flags) (pred : Pred) (n w k : ℕ) → 1 ≤ n → n < w → IsSoundRewrite x (widen_icmp flags pred n w k)
 widen_icmp_sound x flags Eq n w k some wider = record { by = λ names world is_world a a_fits b b_fits. (refl, refl) }
 widen_icmp_sound x flags Ne n w k some wider = record { by = λ names world is_world a a_fits b b_fits. (refl, refl) }
@@ -244,22 +236,10 @@ widen_icmp_sound x flags Ugt n w k some wider = record { by = λ names world is_
 widen_icmp_sound x flags Uge n w k some wider = record { by = λ names world is_world a a_fits b b_fits. (refl, refl) }
 widen_icmp_sound x flags Ult n w k some wider = record { by = λ names world is_world a a_fits b b_fits. (refl, refl) }
 widen_icmp_sound x flags Ule n w k some wider = record { by = λ names world is_world a a_fits b b_fits. (refl, refl) }
-widen_icmp_sound x flags Sgt n w k some wider = record {
-  by = λ names world is_world a a_fits b b_fits.
-      (refl, ap₂ (λ u v. bit_of (int_lt v u)) (sym (signed_extended n w a some (omega (arith, wider)) a_fits)) (sym (signed_extended n w b some (omega (arith, wider)) b_fits)));
-}
-widen_icmp_sound x flags Sge n w k some wider = record {
-  by = λ names world is_world a a_fits b b_fits.
-      (refl, ap₂ (λ u v. bit_of (int_le v u)) (sym (signed_extended n w a some (omega (arith, wider)) a_fits)) (sym (signed_extended n w b some (omega (arith, wider)) b_fits)));
-}
-widen_icmp_sound x flags Slt n w k some wider = record {
-  by = λ names world is_world a a_fits b b_fits.
-      (refl, ap₂ (λ u v. bit_of (int_lt u v)) (sym (signed_extended n w a some (omega (arith, wider)) a_fits)) (sym (signed_extended n w b some (omega (arith, wider)) b_fits)));
-}
-widen_icmp_sound x flags Sle n w k some wider = record {
-  by = λ names world is_world a a_fits b b_fits.
-      (refl, ap₂ (λ u v. bit_of (int_le u v)) (sym (signed_extended n w a some (omega (arith, wider)) a_fits)) (sym (signed_extended n w b some (omega (arith, wider)) b_fits)));
-}
+widen_icmp_sound x flags Sgt n w k some wider = record { by = λ names world is_world a a_fits b b_fits. (refl, signs_kept (λ u v. int_lt v u) n w a b some wider a_fits b_fits) }
+widen_icmp_sound x flags Sge n w k some wider = record { by = λ names world is_world a a_fits b b_fits. (refl, signs_kept (λ u v. int_le v u) n w a b some wider a_fits b_fits) }
+widen_icmp_sound x flags Slt n w k some wider = record { by = λ names world is_world a a_fits b b_fits. (refl, signs_kept (λ u v. int_lt u v) n w a b some wider a_fits b_fits) }
+widen_icmp_sound x flags Sle n w k some wider = record { by = λ names world is_world a a_fits b b_fits. (refl, signs_kept (λ u v. int_le u v) n w a b some wider a_fits b_fits) }
 
 -- ══ Casts ══
 

@@ -1,14 +1,13 @@
 -- Rules of the legaliser for casts and parts as rewrites. The flags are those of the root, and of the definition that was
 -- looked at.
-use Rattle.std.specs.Prelude.{ℕ, zero, suc, pos, ◌+◌, ◌-◌, ◌*◌, ◌^◌, List, [], ◌∷◌}
+use Rattle.std.specs.Prelude.{ℕ, zero, suc, ◌+◌, ◌-◌, ◌*◌, ◌^◌, List, [], ◌∷◌}
 use Rattle.gi_llt.specs.declared.Llt.{Llt}
 use Rattle.gi_mir.specs.declared.opcode.Opcode.{Opcode}
 use Rattle.gi_mir.specs.declared.opcode.Opcode.TheVariants as op
 use Rattle.gi_mir.specs.declared.operand.Flags.{Flags}
-use Rattle.gi_mir.specs.declared.operand.Operand.TheVariants as operand
 use Rattle.gi_rule_values.specs.Data.{OperationData, RewriteData}
-use Rattle.gi_rule_values.specs.Forms.{flagged, holds, in_register, number, on_one, on_two, parts, places_from, plain, rewrite, s, slots_from}
-use Rattle.gi_rule_values.specs.declared.rewrite.Slot.TheVariants.{At, Stands}
+use Rattle.gi_rule_values.specs.Forms.{flagged, holds, in_register, number, on_one, on_two, parts, places_from, rewrite, s, slots_from}
+use Rattle.gi_rule_values.specs.declared.rewrite.Slot.TheVariants.{At}
 
 -- G_FREEZE x: x
 abbrev pub freeze_to_copy : Flags → Llt → RewriteData

@@ -1,14 +1,17 @@
 -- Rules of the combiners as rewrites, at types of n bits. The flags are those of the root, and of the definition that was
 -- looked at. Constants are numbers below 2 ^ n.
-use Rattle.std.specs.Prelude.{ℕ, ◌-◌, ◌^◌, [], ◌∷◌}
+use Rattle.std.specs.Prelude.{ℕ, ◌-◌, ◌^◌, ◌==◌, if◌then◌else◌, [], ◌∷◌}
 use Rattle.gi_llt.specs.Signs.{negated}
+use Rattle.gi_llt.specs.declared.Llt.{Llt}
 use Rattle.gi_llt.specs.declared.Llt.TheVariants.{Pointer}
 use Rattle.gi_mir.specs.declared.opcode.Opcode.{Opcode}
 use Rattle.gi_mir.specs.declared.opcode.Opcode.TheVariants as op
 use Rattle.gi_mir.specs.declared.operand.Flags.{Flags}
+use Rattle.gi_mir.specs.declared.operand.Pred.{Pred}
+use Rattle.gi_mir.specs.declared.operand.Operand.TheVariants as operand
 use Rattle.gi_rule_values.specs.Data.{OperationData, RewriteData}
 use Rattle.gi_rule_values.specs.Forms.{constant, flagged, holds, number, on_one, on_two, rewrite, s}
-use Rattle.gi_rule_values.specs.declared.rewrite.Slot.TheVariants.{At}
+use Rattle.gi_rule_values.specs.declared.rewrite.Slot.TheVariants.{At, Stands}
 
 -- two registers of n bits, the second a constant
 abbrev pub by_constant : Flags → Flags → Opcode → (n c : ℕ) → OperationData → RewriteData
@@ -56,3 +59,42 @@ abbrev pub cut_extension : Opcode → Flags → Flags → (n m : ℕ) → Rewrit
 cut_extension extend flags more n m =
     rewrite (s n ∷ s m ∷ []) (holds 1 (flagged more extend (At 0 ∷ []) (s m ∷ [])) ∷ []) (flagged flags op.GenericTruncate (At 1 ∷ []) (s n ∷ []))
     (on_one op.Copy 0 (s n) ∷ []) 2
+
+-- G_MUL x, 0 and G_AND x, 0: the zero
+abbrev pub binop_to_zero : Opcode → Flags → Flags → (n : ℕ) → RewriteData
+binop_to_zero root flags more n = by_constant flags more root n 0 (on_one op.Copy 1 (s n))
+
+-- G_AND x, x and G_OR x, x: x
+abbrev pub binop_same : Opcode → Flags → (n : ℕ) → RewriteData
+binop_same root flags n = rewrite (s n ∷ []) [] (flagged flags root (At 0 ∷ At 0 ∷ []) (s n ∷ [])) (on_one op.Copy 0 (s n) ∷ []) 1
+
+-- G_SELECT c, x, x: x
+abbrev pub select_same : Flags → (c : ℕ) → Llt → RewriteData
+select_same flags c type =
+    rewrite (s c ∷ type ∷ []) [] (flagged flags op.GenericSelect (At 0 ∷ At 1 ∷ At 1 ∷ []) (type ∷ [])) (on_one op.Copy 1 type ∷ []) 2
+
+-- G_SELECT of a constant: the value that it takes
+abbrev pub select_constant : Flags → Flags → (c value : ℕ) → Llt → RewriteData
+select_constant flags more c value type =
+    rewrite (s c ∷ type ∷ type ∷ []) (holds 0 (constant more c value) ∷ []) (flagged flags op.GenericSelect (At 0 ∷ At 1 ∷ At 2 ∷ []) (type ∷ []))
+    (on_one op.Copy (if value == 0 then 2 else 1) type ∷ []) 3
+
+-- G_AND x, 1, where x is a comparison's result: x
+abbrev pub icmp_and_one : Flags → Flags → Flags → Pred → Llt → (n : ℕ) → RewriteData
+icmp_and_one flags more other pred type n =
+    rewrite (s n ∷ s n ∷ type ∷ type ∷ [])
+    (holds 0 (flagged more op.GenericCompare (Stands (operand.Predicate pred) ∷ At 2 ∷ At 3 ∷ []) (s n ∷ [])) ∷ holds 1 (constant other n 1) ∷ [])
+    (flagged flags op.GenericAnd (At 0 ∷ At 1 ∷ []) (s n ∷ [])) (on_one op.Copy 0 (s n) ∷ []) 4
+
+-- ══ Folds ══
+
+-- an operation on two constants is the constant that it gives
+abbrev pub constant_fold : Opcode → Flags → Flags → Flags → (l a m b n value : ℕ) → RewriteData
+constant_fold root flags first second l a m b n value =
+    rewrite (s l ∷ s m ∷ []) (holds 0 (constant first l a) ∷ holds 1 (constant second m b) ∷ []) (flagged flags root (At 0 ∷ At 1 ∷ []) (s n ∷ []))
+    (number n value ∷ []) 2
+
+-- a cast of a constant of m bits
+abbrev pub constant_fold_cast : Opcode → Flags → Flags → (m c n value : ℕ) → RewriteData
+constant_fold_cast cast flags more m c n value =
+    rewrite (s m ∷ []) (holds 0 (constant more m c) ∷ []) (flagged flags cast (At 0 ∷ []) (s n ∷ [])) (number n value ∷ []) 1

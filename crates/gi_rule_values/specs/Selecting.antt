@@ -6,9 +6,11 @@ use Rattle.gi_mir.specs.declared.opcode.Opcode.TheVariants as op
 use Rattle.gi_mir.specs.declared.opcode.Opcode.{Opcode}
 use Rattle.gi_mir.specs.declared.operand.Flags.{Flags}
 use Rattle.gi_mir.specs.declared.operand.Operand.TheVariants as operand
-use Rattle.gi_mir.specs.declared.operand.Pred.TheVariants.{Ule}
+use Rattle.gi_mir.specs.declared.operand.Pred.TheVariants.{Eq, Ne, Ule}
+use Rattle.gi_mir.specs.declared.operand.Pred.{Pred}
+use Rattle.gi_llt.specs.declared.Llt.TheVariants.{Pointer}
 use Rattle.gi_rule_values.specs.Data.{OperationData, RewriteData}
-use Rattle.gi_rule_values.specs.Forms.{constant, flagged, holds, on_two, plain, rewrite, s}
+use Rattle.gi_rule_values.specs.Forms.{constant, flagged, holds, on_one, on_two, plain, rewrite, s}
 use Rattle.gi_riscv.specs.Materialised.{materialised}
 use Rattle.gi_riscv.specs.declared.constants.Step.{Step}
 use Rattle.gi_riscv.specs.declared.constants.Step.TheVariants.{Addi, Addiw, Lui, Slli}
@@ -50,6 +52,90 @@ abbrev pub select_zext : Flags → RewriteData
 select_zext flags =
     rewrite (s 32 ∷ []) [] (flagged flags op.GenericZeroExtend (At 0 ∷ []) (s 64 ∷ []))
     (with_number op.ShiftLeftLogicalImmediate 0 (pos 32) (s 64) ∷ with_number op.ShiftRightLogicalImmediate 1 (pos 32) (s 64) ∷ []) 2
+
+-- ══ One instruction for one operation ══
+
+-- on two registers of x bits, or of 32 on RV64
+abbrev pub select_two : (root instruction : Opcode) → Flags → (n : ℕ) → RewriteData
+select_two root instruction flags n =
+    rewrite (s n ∷ s n ∷ []) [] (flagged flags root (At 0 ∷ At 1 ∷ []) (s n ∷ [])) (on_two instruction 0 1 (s n) ∷ []) 2
+
+abbrev pub select_ptr_add : Flags → (x : ℕ) → RewriteData
+select_ptr_add flags x =
+    rewrite (Pointer ∷ s x ∷ []) [] (flagged flags op.GenericPointerAdd (At 0 ∷ At 1 ∷ []) (Pointer ∷ [])) (on_two op.Add 0 1 Pointer ∷ []) 2
+
+-- on a register, and a constant that is a number of an immediate
+abbrev pub select_number : (root instruction : Opcode) → Flags → Flags → (n : ℕ) → ℤ → RewriteData
+select_number root instruction flags more n i =
+    rewrite (s n ∷ s n ∷ []) (holds 1 (constant more n (unsigned n i)) ∷ []) (flagged flags root (At 0 ∷ At 1 ∷ []) (s n ∷ []))
+    (with_number instruction 0 i (s n) ∷ []) 2
+
+-- by a constant below the width
+abbrev pub select_shift : (root instruction : Opcode) → Flags → Flags → (n k : ℕ) → RewriteData
+select_shift root instruction flags more n k =
+    rewrite (s n ∷ s n ∷ []) (holds 1 (constant more n k) ∷ []) (flagged flags root (At 0 ∷ At 1 ∷ []) (s n ∷ []))
+    (with_number instruction 0 (pos k) (s n) ∷ []) 2
+
+-- ══ Comparisons ══
+
+abbrev pub select_compare : Pred → Flags → (x : ℕ) → List OperationData → (result : ℕ) → RewriteData
+select_compare pred flags x made result =
+    rewrite (s x ∷ s x ∷ []) [] (flagged flags op.GenericCompare (Stands (operand.Predicate pred) ∷ At 0 ∷ At 1 ∷ []) (s x ∷ [])) made result
+
+-- below and above: the operands in their order, and turned
+abbrev pub select_below : Pred → (instruction : Opcode) → Flags → (x : ℕ) → RewriteData
+select_below pred instruction flags x = select_compare pred flags x (on_two instruction 0 1 (s x) ∷ []) 2
+
+abbrev pub select_above : Pred → (instruction : Opcode) → Flags → (x : ℕ) → RewriteData
+select_above pred instruction flags x = select_compare pred flags x (on_two instruction 1 0 (s x) ∷ []) 2
+
+-- at least and at most: what isn't below, and what isn't above
+abbrev pub select_not_below : Pred → (instruction : Opcode) → Flags → (x : ℕ) → RewriteData
+select_not_below pred instruction flags x = select_compare pred flags x (on_two instruction 0 1 (s x) ∷ with_number op.XorImmediate 2 (pos 1) (s x) ∷ []) 3
+
+abbrev pub select_not_above : Pred → (instruction : Opcode) → Flags → (x : ℕ) → RewriteData
+select_not_above pred instruction flags x = select_compare pred flags x (on_two instruction 1 0 (s x) ∷ with_number op.XorImmediate 2 (pos 1) (s x) ∷ []) 3
+
+-- equal: no bit differs
+abbrev pub select_icmp_eq : Flags → (x : ℕ) → RewriteData
+select_icmp_eq flags x = select_compare Eq flags x (on_two op.Xor 0 1 (s x) ∷ with_number op.SetLessImmediateUnsigned 2 (pos 1) (s x) ∷ []) 3
+
+abbrev pub select_icmp_ne : Flags → (x : ℕ) → RewriteData
+select_icmp_ne flags x = select_compare Ne flags x (on_two op.Xor 0 1 (s x) ∷ with_zero op.SetLessUnsigned 2 (s x) ∷ []) 3
+
+-- with a constant
+abbrev pub select_compare_with : Pred → Flags → Flags → (x value : ℕ) → OperationData → RewriteData
+select_compare_with pred flags more x value made =
+    rewrite (s x ∷ s x ∷ []) (holds 1 (constant more x value) ∷ []) (flagged flags op.GenericCompare (Stands (operand.Predicate pred) ∷ At 0 ∷ At 1 ∷ []) (s x ∷ [])) (made ∷ []) 2
+
+abbrev pub select_eq_zero : Flags → Flags → (x : ℕ) → RewriteData
+select_eq_zero flags more x = select_compare_with Eq flags more x 0 (with_number op.SetLessImmediateUnsigned 0 (pos 1) (s x))
+
+abbrev pub select_ne_zero : Flags → Flags → (x : ℕ) → RewriteData
+select_ne_zero flags more x = select_compare_with Ne flags more x 0 (with_zero op.SetLessUnsigned 0 (s x))
+
+abbrev pub select_below_number : Pred → (instruction : Opcode) → Flags → Flags → (x : ℕ) → ℤ → RewriteData
+select_below_number pred instruction flags more x i = select_compare_with pred flags more x (unsigned x i) (with_number instruction 0 i (s x))
+
+-- ══ Casts ══
+
+-- by a copy, which cuts what is wider and leaves the bits above free where it is narrower
+abbrev pub select_copy : Opcode → Flags → (from to : Llt) → RewriteData
+select_copy cast flags from to = rewrite (from ∷ []) [] (flagged flags cast (At 0 ∷ []) (to ∷ [])) (on_one op.Copy 0 to ∷ []) 1
+
+-- the low 32 bits with their sign
+abbrev pub select_sext : Flags → RewriteData
+select_sext flags = rewrite (s 32 ∷ []) [] (flagged flags op.GenericSignExtend (At 0 ∷ []) (s 64 ∷ [])) (with_number op.AddImmediateWord 0 (pos 0) (s 64) ∷ []) 1
+
+abbrev pub select_sext_inreg : Flags → RewriteData
+select_sext_inreg flags =
+    rewrite (s 64 ∷ []) [] (flagged flags op.GenericSignExtendInRegister (At 0 ∷ Stands (operand.Int (pos 32)) ∷ []) (s 64 ∷ []))
+    (with_number op.AddImmediateWord 0 (pos 0) (s 64) ∷ []) 1
+
+-- ══ Values from nothing ══
+
+abbrev pub select_implicit_def : Flags → Llt → RewriteData
+select_implicit_def flags type = rewrite [] [] (flagged flags op.GenericImplicitDef [] (type ∷ [])) (plain op.ImplicitDef [] type ∷ []) 0
 
 -- ══ A constant by its sequence ══
 

@@ -45,6 +45,20 @@ fn told_place(line: u32, start: usize, place: usize) -> Place
     Place { line, column }
 }
 
+/// How many tokens most lines have room for in the memory that is first taken.
+const USUAL_TOKENS: usize = 16;
+
+/// No tokens yet, with room for those of most lines.
+fn room(alloc: Global) -> Result<Vec<Token>, LineError>
+    ensures ok { IfOk result (λ tokens. tokens.items ≡ []) }
+    ensures err { IfErr result (λ e. e ≡ Memory) }
+{
+    match Vec::with_capacity(alloc, USUAL_TOKENS) {
+        Ok(tokens) => Ok(tokens),
+        Err(_) => Err(LineError::Memory),
+    }
+}
+
 /// Adds a token.
 fn append(tokens: &mut Vec<Token>, token: Token) -> Result<(), LineError>
     ensures ok { OnOk result (tokens.new.items ≡ tokens.old.items ++ token ∷ []) }
@@ -74,7 +88,7 @@ pub fn tokens(
     ensures sized { IfOk result (λ tokens. All (IsSized bytes.now) tokens.items) }
     ensures err { IfErr result (λ error. IsFaultOf (cut_of bytes.now start end) line start error) }
 {
-    let mut tokens = Vec::new(alloc);
+    let mut tokens = room(alloc)?;
     let mut rest = slice(bytes, start, end);
     let mut place = start;
     loop {

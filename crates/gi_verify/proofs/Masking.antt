@@ -37,7 +37,7 @@ or_three : (a b c : Bool) → (a || (b || c)) ≡ ((a || b) || c)
 or_three true b c = refl
 or_three false b c = refl
 
-max_is : (x y : ℕ) → x < 2 → y < 2 → (max x y == 1) ≡ ((x == 1) || (y == 1))
+pub max_is : (x y : ℕ) → x < 2 → y < 2 → (max x y == 1) ≡ ((x == 1) || (y == 1))
 max_is zero zero h g = refl
 max_is zero (suc zero) h g = refl
 max_is (suc zero) zero h g = refl
@@ -51,7 +51,7 @@ max_is x (suc (suc y)) h g = absurd (past y g)
     past : (n : ℕ) → suc (suc n) < 2 → ⊥
     past n h = omega (arith, h)
 
-min_is : (x y : ℕ) → x < 2 → y < 2 → (min (1 - x) y == 1) ≡ (not (x == 1) && (y == 1))
+pub min_is : (x y : ℕ) → x < 2 → y < 2 → (min (1 - x) y == 1) ≡ (not (x == 1) && (y == 1))
 min_is zero zero h g = refl
 min_is zero (suc zero) h g = refl
 min_is (suc zero) zero h g = refl

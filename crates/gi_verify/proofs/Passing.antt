@@ -1,5 +1,5 @@
 -- What stands in front, one instruction after the other.
-use Rattle.std.proofs.Common.{◌≡◌, ℕ, ◌+◌, ◌<◌, Bool, true, false, ◌||◌, ◌&&◌, List, [], ◌∷◌, ◌++◌, take, get_or, length, refl, sym, ap, ◌∙◌, append_assoc, append-nil, add-one, take-suc, subst}
+use Rattle.std.proofs.Common.{◌≡◌, ℕ, Bool, true, false, ◌||◌, ◌&&◌, List, [], ◌∷◌, ◌++◌, refl, sym, ap, ◌∙◌, append_assoc, append-nil}
 use Rattle.std.specs.List.{list_all, list_any}
 use Rattle.gi_mir.specs.Data.{InstrData}
 use Rattle.gi_mir.specs.Row.{is_terminator_op, is_unconditional_op}
@@ -8,7 +8,7 @@ use Rattle.gi_valid.specs.Faults.{is_late, has_late}
 use Rattle.gi_verify.specs.declared.passed.Passed.{Passed}
 use Rattle.gi_verify.specs.Passed.{IsPassed}
 
-or_nothing : (b : Bool) → (b || false) ≡ b
+pub or_nothing : (b : Bool) → (b || false) ≡ b
 or_nothing true = refl
 or_nothing false = refl
 
@@ -20,7 +20,7 @@ and_three : (a b c : Bool) → (a && (b && c)) ≡ ((a && b) && c)
 and_three true b c = refl
 and_three false b c = refl
 
-any_with : {X : Type 0} (p : X → Bool) (xs : List X) (x : X) → list_any p (xs ++ x ∷ []) ≡ (list_any p xs || p x)
+pub any_with : {X : Type 0} (p : X → Bool) (xs : List X) (x : X) → list_any p (xs ++ x ∷ []) ≡ (list_any p xs || p x)
 any_with p [] x = or_nothing (p x)
 any_with p (y ∷ xs) x = ap (λ b. p y || b) (any_with p xs x) ∙ or_three (p y) (list_any p xs) (p x)
 
@@ -28,7 +28,7 @@ and_all : (b : Bool) → (b && true) ≡ b
 and_all true = refl
 and_all false = refl
 
-all_with : {X : Type 0} (p : X → Bool) (xs : List X) (x : X) → list_all p (xs ++ x ∷ []) ≡ (list_all p xs && p x)
+pub all_with : {X : Type 0} (p : X → Bool) (xs : List X) (x : X) → list_all p (xs ++ x ∷ []) ≡ (list_all p xs && p x)
 all_with p [] x = and_all (p x)
 all_with p (y ∷ xs) x = ap (λ b. p y && b) (all_with p xs x) ∙ and_three (p y) (list_all p xs) (p x)
 

@@ -1,5 +1,5 @@
 -- A list that is split at a place: those in front, the one there and those behind.
-use Rattle.std.proofs.Common.{◌≡◌, ℕ, zero, suc, ◌+◌, ◌<◌, ◌≤◌, List, [], ◌∷◌, ◌++◌, Some, length, get_or, slice_get, drop, take, add-one, sym, refl, ap, ◌∙◌, arith}
+use Rattle.std.proofs.Common.{◌≡◌, ℕ, zero, suc, ◌+◌, ◌<◌, ◌≤◌, List, [], ◌∷◌, ◌++◌, Some, length, get_or, slice_get, drop, take, add-one, sym, ap, ◌∙◌, arith}
 
 pub record IsSplit {X : Type 0} (xs : List X) (k : ℕ) (x : X) (after : List X) : Type 0 where
   pub within : k < length xs

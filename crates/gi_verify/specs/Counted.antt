@@ -1,15 +1,29 @@
 -- How often registers were defined, as it is kept.
-use Rattle.std.specs.Prelude.{◌≡◌, ℕ, zero, suc, Bool, true, false, List, Option, Some, None, nat_eq}
+use Rattle.std.specs.Prelude.{◌≡◌, ℕ, zero, suc, Bool, true, false, List, Option, Some, None, ◌≢◌, ◌/◌, ◌%◌, get_or}
+use Rattle.std.specs.Option.{option_map_or}
 use Rattle.std.specs.BTreeMap.{get}
 use Rattle.std.specs.Ordering.{nat_cmp}
 use Rattle.gi_valid.specs.Faults.{count_of, times}
 use Rattle.gi_verify.specs.declared.definitions.Counted.{Counted}
 use Rattle.gi_verify.specs.declared.definitions.Times.{Times}
+use Rattle.gi_verify.specs.declared.page.Page.{Page}
 use Rattle.gi_verify.specs.declared.definitions.Times.TheVariants.{Once, Often}
+
+-- what is kept of a number at a place of a page, and nothing where there is no such place
+abbrev pub times_at : List (Option Times) → ℕ → Option Times
+times_at list at = get_or list at None
+
+abbrev pub times_on : Page → ℕ → Option Times
+times_on page at = times_at page.times.items at
+
+-- a page on which the same is kept but at one place
+pub record IsPageWritten (old new : Page) (at : ℕ) (times : Times) : Type 0 where
+  pub here : times_on new at ≡ Some times
+  pub elsewhere : (k : ℕ) → k ≢ at → times_on new k ≡ times_on old k
 
 -- what is kept of a register
 abbrev pub counted : Counted → ℕ → Option Times
-counted kept r = get nat_cmp kept.times r
+counted kept r = option_map_or (λ page. times_on page (r % 256)) (get nat_cmp kept.pages (r / 256)) None
 
 -- what is kept of one that was defined so often
 abbrev pub kept_of : (times : ℕ) → Option Times

@@ -4,5 +4,6 @@ pub mod Met
 pub mod Named
 pub mod Passed
 pub mod Refusal
+pub mod Rounds
 pub mod Sets
 pub mod Settled

@@ -2,7 +2,7 @@
 
 ghost use Rattle.std.specs.Prelude.{◌≡◌, ◌++◌, ◌∷◌, ◌<◌, [], ℕ, Some, None, OnOk, IfOk, find, length, nat_lt, not, option_map, ◌==◌};
 ghost use Rattle.std.specs.List.{list_all, list_any};
-ghost use Rattle.gi_meaning.specs.Runs.{is_among};
+ghost use Rattle.gi_meaning.specs.Runs.{entry_of, is_among};
 ghost use Rattle.gi_valid.specs.Faults as faults;
 ghost use Rattle.gi_verify.specs.Counted.{AreTallied};
 
@@ -127,4 +127,26 @@ pub(crate) fn are_entries(
     } else {
         Ok(false)
     }
+}
+
+/// A register and the block that it comes from, where operands begin with the two.
+pub(crate) fn entry_of(operands: &[Operand]) -> Option<(u32, u32)>
+    ensures { result ≡ entry_of operands.now }
+{
+    match operands {
+        [first, second, ..] => entry_of_two(*first, *second),
+        _ => None,
+    }
+}
+
+/// The register and the block of two operands.
+fn entry_of_two(first: Operand, second: Operand) -> Option<(u32, u32)>
+    ensures { result ≡ entry_of (first ∷ second ∷ []) }
+{
+    if let Operand::Use(r) = first {
+        if let Operand::Block(b) = second {
+            return Some((r.0, b));
+        }
+    }
+    None
 }

@@ -1,15 +1,20 @@
 //! Second definitions of registers.
 
-ghost use Rattle.std.specs.Prelude.{◌≡◌, ◌++◌, ◌∷◌, ◌==◌, [], ℕ, Some, OnOk, IfOk, flat_map, map, if◌then◌else◌};
+ghost use Rattle.std.specs.Prelude.{◌≡◌, ◌++◌, ◌∷◌, ◌==◌, [], ◌/◌, ℕ, Some, None, OnOk, IfOk, flat_map, map, if◌then◌else◌};
 ghost use Rattle.gi_mir.specs.Data.{reg_of};
 ghost use Rattle.gi_valid.specs.declared.invalid.Invalid.TheVariants as Invalid;
 ghost use Rattle.gi_mir.specs.Edit.{all_instrs};
 ghost use Rattle.gi_valid.specs.Faults as faults;
+ghost use Rattle.gi_valid.specs.Valid.{of_lowest_line};
 ghost use Rattle.gi_meaning.specs.InRow.{results_in};
 ghost use Rattle.gi_meaning.specs.Runs.{is_among};
 ghost use Rattle.gi_verify.specs.Counted.{AreCounted, AreTallied, counted, is_once, once_more};
 ghost use Rattle.gi_mir.specs.Instrs.{left};
+ghost use Rattle.std.specs.BTreeMap.{get};
+ghost use Rattle.std.specs.Ordering.{nat_cmp};
 
+use crate::lowest::of_lowest_line;
+use crate::page::{PAGE, Page};
 use gi_llt::Memory;
 use gi_mir::block::Numbered;
 use gi_mir::function::Function;
@@ -84,7 +89,8 @@ pub(crate) enum Times {
 /// How often each register was defined before.
 #[derive(Drop)]
 pub(crate) struct Counted {
-    times: BTreeMap<u32, Times>,
+    alloc: Global,
+    pages: BTreeMap<u32, Page>,
 }
 
 /// With one more definition.
@@ -110,7 +116,8 @@ impl Counted {
         ensures { AreCounted [] result }
     {
         Counted {
-            times: BTreeMap::new(alloc),
+            alloc,
+            pages: BTreeMap::new(alloc),
         }
     }
 
@@ -118,16 +125,30 @@ impl Counted {
     fn times(&self, r: u32) -> Option<Times>
         ensures { result ≡ counted self.now r }
     {
-        self.times.get(&r).copied()
+        match self.pages.get(&(r / PAGE)) {
+            Some(page) => page.at((r % PAGE) as usize),
+            None => None,
+        }
+    }
+
+    /// Puts a page in on which it is set how often one register was defined, where there was no page.
+    fn put_page(&mut self, r: u32, times: Times) -> Result<(), Memory>
+        requires { get nat_cmp self.old.pages (r / 256) ≡ None }
+        ensures { OnOk result ((q : ℕ) → counted self.new q ≡ (if r == q then Some times else counted self.old q)) }
+    {
+        let mut page = Page::new(self.alloc);
+        page.set((r % PAGE) as usize, times)?;
+        self.pages.insert(r / PAGE, page).map_err(|_| Memory)?;
+        Ok(())
     }
 
     /// Sets how often a register was defined.
     fn set(&mut self, r: u32, times: Times) -> Result<(), Memory>
         ensures { OnOk result ((q : ℕ) → counted self.new q ≡ (if r == q then Some times else counted self.old q)) }
     {
-        match self.times.insert(r, times) {
-            Ok(_) => Ok(()),
-            Err(_) => Err(Memory),
+        match self.pages.get_mut(&(r / PAGE)) {
+            Some(page) => page.set((r % PAGE) as usize, times),
+            None => self.put_page(r, times),
         }
     }
 
@@ -182,7 +203,7 @@ impl Counted {
 }
 
 /// Puts a fault at the end of a list.
-pub(crate) fn push_fault(out: &mut Vec<Fault>, line: u32, what: Invalid) -> Result<(), Memory>
+fn push_fault(out: &mut Vec<Fault>, line: u32, what: Invalid) -> Result<(), Memory>
     ensures { OnOk result (out.new.items ≡ out.old.items ++ faults.fault_at line what ∷ []) }
 {
     match out.push(Fault { line, what }) {
@@ -217,14 +238,12 @@ fn push_seconds(alloc: Global, out: &mut Vec<Fault>, all: &[(u32, u32)]) -> Resu
     Ok(())
 }
 
-/// Puts the faults of second definitions of a function at the end of a list.
-pub(crate) fn push_double(
-    alloc: Global,
-    function: &Function,
-    out: &mut Vec<Fault>,
-) -> Result<(), Memory>
-    ensures { OnOk result (out.new.items ≡ out.old.items ++ faults.double_definitions function.now) }
+/// The lowest fault of a second definition in a function.
+pub(crate) fn lowest_double(alloc: Global, function: &Function) -> Result<Option<Fault>, Memory>
+    ensures { IfOk result (λ lowest. lowest ≡ of_lowest_line (faults.double_definitions function.now)) }
 {
     let all = definitions(alloc, function)?;
-    push_seconds(alloc, out, all.as_slice())
+    let mut told = Vec::new(alloc);
+    push_seconds(alloc, &mut told, all.as_slice())?;
+    Ok(of_lowest_line(told.as_slice()))
 }

@@ -1,9 +1,10 @@
 //! Lists of numbers in which a number is found at once.
 
-ghost use Rattle.std.specs.Prelude.{◌≡◌, ◌∷◌, ◌++◌, ◌<◌, ◌==◌, ℕ, Some, [], false, length, get_or, OnErr, OnOk, if◌then◌else◌};
+ghost use Rattle.std.specs.Prelude.{◌≡◌, ◌∷◌, ◌++◌, ◌<◌, ◌==◌, ℕ, None, Some, [], false, length, get_or, OnErr, OnOk, if◌then◌else◌};
 ghost use Rattle.std.specs.BTreeMap.{get};
 ghost use Rattle.std.specs.Ordering.{nat_cmp};
 ghost use Rattle.gi_meaning.specs.Runs.{is_among};
+ghost use Rattle.gi_verify.specs.Sets.{place_of};
 
 use gi_llt::Memory;
 use std::alloc::Global;
@@ -39,6 +40,13 @@ fn note(places: &mut BTreeMap<u32, usize>, k: u32, place: usize) -> Result<(), M
     }
 }
 
+/// Forgets the place of a number.
+fn forget(places: &mut BTreeMap<u32, usize>, k: u32)
+    ensures { (q : ℕ) → get nat_cmp places.new q ≡ (if k == q then None else get nat_cmp places.old q) }
+{
+    let _ = places.remove(&k);
+}
+
 impl Listed {
     /// No numbers.
     pub(crate) fn new(alloc: Global) -> Listed
@@ -50,15 +58,23 @@ impl Listed {
         }
     }
 
+    /// The place of a number.
+    pub(crate) fn place(&self, k: u32) -> Option<usize>
+        ensures { result ≡ place_of self.now k }
+    {
+        self.places.get(&k).copied()
+    }
+
     /// Whether a number is in the list.
+    #[tactic(auto, using(crate::proofs::Listing::place_there))]
     pub(crate) fn has(&self, k: u32) -> bool
         ensures { result ≡ is_among k self.now }
     {
-        self.places.get(&k).is_some()
+        self.place(k).is_some()
     }
 
     /// Puts a number that isn't in the list at its end.
-    #[tactic(auto, using(crate::proofs::Listing::noted_last, crate::proofs::Listing::noted_same))]
+    #[tactic(auto, using(crate::proofs::Listing::noted_same))]
     pub(crate) fn add(&mut self, k: u32) -> Result<(), Memory>
         requires { is_among k self.old ≡ false }
         ensures { OnOk result (self.new ≡ self.old ++ k ∷ []) }
@@ -68,7 +84,7 @@ impl Listed {
         match self.order.push(k) {
             Ok(()) => Ok(()),
             Err(_) => {
-                let _ = self.places.remove(&k);
+                forget(&mut self.places, k);
                 Err(Memory)
             }
         }

@@ -1,7 +1,9 @@
 //! The fault of the lowest line.
 
-ghost use Rattle.std.specs.Prelude.{◌≡◌};
+ghost use Rattle.std.specs.Prelude.{◌≡◌, []};
+ghost use Rattle.gi_valid.specs.Faults as faults;
 ghost use Rattle.gi_valid.specs.Valid as valid;
+ghost use Rattle.gi_verify.specs.Sets as sets;
 
 use gi_valid::{Fault, Invalid};
 
@@ -53,4 +55,34 @@ pub(crate) fn of_lowest_line(faults: &[Fault]) -> Option<Fault>
         lowest = Some(lower(faults[count - 1 - done], lowest));
     }
     lowest
+}
+
+/// A fault on a line, where there is one.
+fn on_line(line: u32, what: Option<Invalid>) -> Option<Fault>
+    ensures { result ≡ valid.of_lowest_line (faults.with_fault line what []) }
+{
+    match what {
+        Some(what) => Some(Fault { line, what }),
+        None => None,
+    }
+}
+
+/// The lowest of what was told and of a fault on a line, where there is one.
+pub(crate) fn told_with(told: Option<Fault>, line: u32, what: Option<Invalid>) -> Option<Fault>
+    ensures { result ≡ sets.lowest_of told (valid.of_lowest_line (faults.with_fault line what [])) }
+{
+    match told {
+        Some(first) => Some(lower(first, on_line(line, what))),
+        None => on_line(line, what),
+    }
+}
+
+/// Whether a fault of a lower line was told.
+pub(crate) fn is_told_above(told: Option<Fault>, line: u32) -> bool
+    ensures { result ≡ sets.is_told_above told line }
+{
+    match told {
+        Some(fault) => fault.line < line,
+        None => false,
+    }
 }

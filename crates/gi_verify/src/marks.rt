@@ -1,6 +1,6 @@
-//! A guess at the instructions whose registers are settled: each defines registers that no other one does, and what it
-//! uses, where it is pure, is of such an instruction that comes sooner. Nothing rests on it: the marks are looked at once
-//! they stand.
+//! A guess at the instructions whose registers are settled: what each uses, where it is pure, is first defined by such an
+//! instruction that comes sooner, and where that is asked, it defines registers that no other one does. Nothing rests on it:
+//! the marks are looked at once they stand.
 
 ghost use Rattle.std.specs.Prelude.{◌≡◌};
 ghost use Rattle.gi_verify.specs.Sets.{marked};
@@ -116,6 +116,7 @@ fn look_at(
     function: &Function,
     tree: &Tree,
     guess: &mut Guess,
+    once: bool,
     b: u32,
     id: InstrId,
     pure: bool,
@@ -124,7 +125,12 @@ fn look_at(
     requires { IsLinked tree.now }
 {
     match operand {
-        Operand::Def(r, _) => unmark_both(function, guess, id, r.0),
+        Operand::Def(r, _) => {
+            if once {
+                unmark_both(function, guess, id, r.0)?;
+            }
+            Ok(())
+        }
         Operand::Use(r) => {
             if pure && !(function.is_live(id) && is_sooner(function, tree, r.0, b, id)) {
                 unmark(guess, id)?;
@@ -140,6 +146,7 @@ fn look_along(
     function: &Function,
     tree: &Tree,
     guess: &mut Guess,
+    once: bool,
     b: u32,
     numbered: &Numbered,
 ) -> Result<(), Memory>
@@ -147,7 +154,7 @@ fn look_along(
 {
     let pure = is_pure(&numbered.instr);
     for operand in numbered.instr.operands.as_slice() {
-        look_at(function, tree, guess, b, numbered.id, pure, *operand)?;
+        look_at(function, tree, guess, once, b, numbered.id, pure, *operand)?;
     }
     Ok(())
 }
@@ -157,13 +164,14 @@ fn look_through(
     function: &Function,
     tree: &Tree,
     guess: &mut Guess,
+    once: bool,
     b: u32,
     instrs: Instrs<'_>,
 ) -> Result<(), Memory>
     requires { IsLinked tree.now }
 {
     for numbered in instrs {
-        look_along(function, tree, guess, b, numbered)?;
+        look_along(function, tree, guess, once, b, numbered)?;
     }
     Ok(())
 }
@@ -176,11 +184,18 @@ fn unmark_user(function: &Function, guess: &mut Guess, id: InstrId) -> Result<()
     Ok(())
 }
 
-/// Takes the marks of the users of a register away.
-fn unmark_users(function: &Function, guess: &mut Guess, operand: Operand) -> Result<(), Memory> {
+/// Takes the marks of the users of a register away, where an instruction is the first that defines it.
+fn unmark_users(
+    function: &Function,
+    guess: &mut Guess,
+    first: InstrId,
+    operand: Operand,
+) -> Result<(), Memory> {
     if let Operand::Def(r, _) = operand {
-        for id in function.uses_of(r) {
-            unmark_user(function, guess, *id)?;
+        if is_first(function, first, r.0) {
+            for id in function.uses_of(r) {
+                unmark_user(function, guess, *id)?;
+            }
         }
     }
     Ok(())
@@ -190,7 +205,7 @@ fn unmark_users(function: &Function, guess: &mut Guess, operand: Operand) -> Res
 fn tell_users(function: &Function, guess: &mut Guess, id: InstrId) -> Result<(), Memory> {
     if function.is_live(id) {
         for operand in function.instr(id).operands.as_slice() {
-            unmark_users(function, guess, *operand)?;
+            unmark_users(function, guess, id, *operand)?;
         }
     }
     Ok(())
@@ -207,8 +222,13 @@ fn tell_all(function: &Function, guess: &mut Guess) -> Result<(), Memory> {
     Ok(())
 }
 
-/// The marks of the instructions of a function, by its tree of blocks.
-pub(crate) fn marks_of(alloc: Global, function: &Function, tree: &Tree) -> Result<Marks, Memory>
+/// The marks of the instructions of a function, by its tree of blocks. It is said whether its registers are to be defined once.
+pub(crate) fn marks_of(
+    alloc: Global,
+    function: &Function,
+    tree: &Tree,
+    once: bool,
+) -> Result<Marks, Memory>
     requires { IsLinked tree.now }
 {
     let mut guess = Guess {
@@ -216,8 +236,13 @@ pub(crate) fn marks_of(alloc: Global, function: &Function, tree: &Tree) -> Resul
         lost: Vec::new(alloc),
     };
     for b in 0..function.block_count() {
-        look_through(function, tree, &mut guess, b, function.instrs(b))?;
+        look_through(function, tree, &mut guess, once, b, function.instrs(b))?;
     }
     tell_all(function, &mut guess)?;
     Ok(Marks { by_id: guess.marks })
+}
+
+/// A mark for each instruction of a function.
+pub(crate) fn fresh_marks(alloc: Global, function: &Function) -> Result<Vec<bool>, Memory> {
+    all_marked(alloc, past_all(function))
 }

@@ -1,13 +1,14 @@
 //! What is told of the sites of a function.
 
-ghost use Rattle.std.specs.Prelude.{◌≡◌, ◌++◌, ◌∷◌, ◌+◌, ◌<◌, ◌⊎◌, [], ℕ, Some, None, OnOk, IfOk, length, nat_lt, drop, take};
+ghost use Rattle.std.specs.Prelude.{◌≡◌, ◌<◌, ◌⊎◌, ℕ, IfOk, length, nat_lt};
 ghost use Rattle.std.specs.Option.{option_or};
 ghost use Rattle.gi_valid.specs.Available as available;
 ghost use Rattle.gi_valid.specs.Available.{Extent};
 ghost use Rattle.gi_valid.specs.Faults as faults;
 ghost use Rattle.gi_valid.specs.Typing as typings;
-ghost use Rattle.gi_valid.specs.Valid.{IsGreatest};
+ghost use Rattle.gi_valid.specs.Valid.{IsGreatest, of_lowest_line};
 ghost use Rattle.gi_verify.specs.Masks.{IsMaskOf};
+ghost use Rattle.gi_verify.specs.Sets as sets;
 ghost use Rattle.gi_verify.specs.Sets.{AllTold, AreReachedBlocks, AreTold, IsTold};
 ghost use Rattle.gi_verify.specs.Settled.{IsOrderOf, IsPlaced};
 ghost use Rattle.gi_mir.specs.Edit.{block_at};
@@ -16,9 +17,9 @@ ghost use Rattle.gi_verify.specs.Passed.{IsPassed};
 ghost use Rattle.gi_mir.specs.Instrs.{left};
 
 use crate::blocks::{blocks_in, unknown_among};
-use crate::definitions::push_fault;
 use crate::effects::{effects_of, used_at, used_behind};
 use crate::ends::{phi_entries, terminator};
+use crate::lowest::{is_told_above, told_with};
 use crate::mask::Mask;
 use crate::mismatch::type_mismatch;
 use crate::passed::{Passed, nothing, passed_with};
@@ -173,29 +174,15 @@ pub(crate) fn fault_in(
     Ok(first(missing, others))
 }
 
-/// Puts a fault on a line, if there is one, at the end of a list.
-pub(crate) fn push_told(
-    out: &mut Vec<Fault>,
-    line: u32,
-    what: Option<Invalid>,
-) -> Result<(), Memory>
-    ensures { OnOk result (out.new.items ≡ out.old.items ++ faults.with_fault line what []) }
+/// The line of an instruction.
+fn line_of(numbered: &Numbered) -> u32
+    ensures { result ≡ (numbered.now).1.line }
 {
-    match what {
-        Some(what) => push_fault(out, line, what),
-        None => Ok(()),
-    }
+    numbered.instr.line
 }
 
-/// Puts the fault of an instruction, if there is one, at the end of a list.
-fn push_of(out: &mut Vec<Fault>, numbered: &Numbered, what: Option<Invalid>) -> Result<(), Memory>
-    ensures { OnOk result (out.new.items ≡ out.old.items ++ faults.with_fault (numbered.now).1.line what []) }
-{
-    push_told(out, numbered.instr.line, what)
-}
-
-/// Puts what is told of a site at the end of a list.
-fn push_site(
+/// What is lowest with what is told of a site. Behind a fault of a lower line nothing is asked of it.
+fn tell_site(
     alloc: Global,
     target: Target,
     stage: Stage,
@@ -210,8 +197,8 @@ fn push_site(
     front: Instrs<'_>,
     numbered: &Numbered,
     after: Instrs<'_>,
-    out: &mut Vec<Fault>,
-) -> Result<(), Memory>
+    told: Option<Fault>,
+) -> Result<Option<Fault>, Memory>
     requires xlen { (target.xlen ≡ 32) ⊎ (target.xlen ≡ 64) }
     requires reached { AreReachedBlocks function.now reached.now }
     requires order { IsOrderOf function.now order.now }
@@ -221,17 +208,21 @@ fn push_site(
     requires there { IsMaskOf (available.is_physical_there function.now b (left front)) there }
     requires used { IsMaskOf (λ n. faults.is_used_first n (left after)) used }
     requires passed { IsPassed (left front) passed }
-    ensures { OnOk result (IsTold target.xlen (typings.phase_of stage) function.now b (left front.entry) numbered.now (left after.entry) out.old.items out.new.items) }
+    ensures { IfOk result (λ lowest. IsTold target.xlen (typings.phase_of stage) function.now b (left front.entry) numbered.now (left after.entry) told lowest) }
 {
+    let line = line_of(numbered);
+    if is_told_above(told, line) {
+        return Ok(told);
+    }
     let what = fault_in(
         alloc, target, stage, function, reached, order, all, there, used, b, passed, front,
         numbered, after,
     )?;
-    push_of(out, numbered, what)
+    Ok(told_with(told, line, what))
 }
 
-/// Puts what is told of the sites of a block at the end of a list.
-fn push_block(
+/// What is lowest with what is told of the sites of a block.
+fn tell_block(
     alloc: Global,
     target: Target,
     stage: Stage,
@@ -241,15 +232,15 @@ fn push_block(
     all: &Predecessors,
     way_back: bool,
     b: u32,
-    out: &mut Vec<Fault>,
-) -> Result<(), Memory>
+    told: Option<Fault>,
+) -> Result<Option<Fault>, Memory>
     requires xlen { (target.xlen ≡ 32) ⊎ (target.xlen ≡ 64) }
     requires reached { AreReachedBlocks function.now reached.now }
     requires order { IsOrderOf function.now order.now }
     requires within { b < length function.now.blocks }
     requires all { ArePredecessors function.now all.now }
     requires way_back { way_back ≡ nat_lt 0 (length (available.predecessors function.now 0)) }
-    ensures { OnOk result (AreTold target.xlen (typings.phase_of stage) function.now b (block_at function.now b).instrs out.old.items out.new.items) }
+    ensures { IfOk result (λ lowest. AreTold target.xlen (typings.phase_of stage) function.now b (block_at function.now b).instrs told lowest) }
 {
     let effects = effects_of(alloc, function, b)?;
     let behind = used_behind(alloc, function, b, effects.as_slice())?;
@@ -257,24 +248,25 @@ fn push_block(
     let _length = instrs.len();
     let mut there = there_at_start(function, way_back, b);
     let mut passed = nothing();
+    let mut lowest = told;
     let mut rest = instrs;
     let mut k = 0;
     while let Some(numbered) = rest.next() {
         let front = instrs.first(k);
         let used = used_at(function, b, behind.as_slice(), k);
-        push_site(
+        lowest = tell_site(
             alloc, target, stage, function, reached, order, all, there, used, b, passed, front,
-            numbered, rest, out,
+            numbered, rest, lowest,
         )?;
         there = there_with(function, b, effects.as_slice(), k, there);
         passed = passed_with(passed, front, numbered);
         k += 1;
     }
-    Ok(())
+    Ok(lowest)
 }
 
-/// Puts what is told of the sites of a function at the end of a list.
-pub(crate) fn push_sites(
+/// What is lowest with what is told of the sites of a function.
+pub(crate) fn tell_sites(
     alloc: Global,
     target: Target,
     stage: Stage,
@@ -283,21 +275,22 @@ pub(crate) fn push_sites(
     order: &Order,
     all: &Predecessors,
     way_back: bool,
-    out: &mut Vec<Fault>,
-) -> Result<(), Memory>
+    told: Option<Fault>,
+) -> Result<Option<Fault>, Memory>
     requires xlen { (target.xlen ≡ 32) ⊎ (target.xlen ≡ 64) }
     requires reached { AreReachedBlocks function.now reached.now }
     requires order { IsOrderOf function.now order.now }
     requires all { ArePredecessors function.now all.now }
     requires way_back { way_back ≡ nat_lt 0 (length (available.predecessors function.now 0)) }
-    ensures { OnOk result (AllTold target.xlen (typings.phase_of stage) function.now out.old.items out.new.items) }
+    ensures { IfOk result (λ lowest. AllTold target.xlen (typings.phase_of stage) function.now told lowest) }
 {
+    let mut lowest = told;
     for b in 0..function.block_count() {
-        push_block(
-            alloc, target, stage, function, reached, order, all, way_back, b, out,
+        lowest = tell_block(
+            alloc, target, stage, function, reached, order, all, way_back, b, lowest,
         )?;
     }
-    Ok(())
+    Ok(lowest)
 }
 
 /// The line of the last of these instructions, and this one where there is none.
@@ -311,15 +304,24 @@ fn last_line(line: u32, instrs: Instrs<'_>) -> u32
     last
 }
 
-/// Puts what is told of the lists of successors at the end of a list.
-pub(crate) fn push_successors(function: &Function, out: &mut Vec<Fault>) -> Result<(), Memory>
-    ensures { OnOk result (out.new.items ≡ out.old.items ++ faults.unknown_successors function.now 1 function.now.blocks) }
+/// The fault of a successor of a block that isn't there.
+fn unknown_successor(function: &Function, b: u32) -> Option<Invalid>
+    requires { b < length function.now.blocks }
+    ensures { result ≡ faults.unknown_among function.now (block_at function.now b).successors }
+{
+    unknown_among(function, function.block(b).successors.as_slice())
+}
+
+/// What is lowest with what is told of the lists of successors.
+pub(crate) fn tell_successors(function: &Function, told: Option<Fault>) -> Option<Fault>
+    ensures { result ≡ sets.lowest_of told (of_lowest_line (faults.unknown_successors function.now 1 function.now.blocks)) }
 {
     let mut line = 1;
+    let mut lowest = told;
     for b in 0..function.block_count() {
         line = last_line(line, function.instrs(b));
-        let what = unknown_among(function, function.block(b).successors.as_slice());
-        push_told(out, line, what)?;
+        let what = unknown_successor(function, b);
+        lowest = told_with(lowest, line, what);
     }
-    Ok(())
+    lowest
 }

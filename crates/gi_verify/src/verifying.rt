@@ -1,17 +1,17 @@
 //! The verifier.
 
-ghost use Rattle.std.specs.Prelude.{◌≡◌, ◌⊎◌, ℕ, OnOk, IfOk, IfErr, Some, None};
+ghost use Rattle.std.specs.Prelude.{◌≡◌, ◌⊎◌, OnOk, IfOk, IfErr};
 ghost use Rattle.gi_valid.specs.Typing.{phase_of};
-ghost use Rattle.gi_valid.specs.Valid.{IsInvalid, IsValid};
+ghost use Rattle.gi_valid.specs.Valid.{IsValid};
 ghost use Rattle.gi_verify.specs.Refusal.{IsRefused};
-ghost use Rattle.gi_verify.specs.Sets.{AreAllFaults};
+ghost use Rattle.gi_verify.specs.Sets.{IsLowestFault};
 
-use crate::definitions::push_double;
-use crate::lowest::of_lowest_line;
+use crate::definitions::lowest_double;
+use crate::noting::with_cover;
 use crate::predecessors::{has_way_back, predecessors_of};
 use crate::reached::reached;
 use crate::settled::order_of;
-use crate::site::{push_sites, push_successors};
+use crate::site::{tell_sites, tell_successors};
 use gi_llt::{Memory, Target};
 use gi_mir::function::Function;
 use gi_mir::stage::Stage;
@@ -25,23 +25,24 @@ pub enum VerifyError {
     Memory,
 }
 
-/// The faults of a function.
-fn faults_of(
+/// The fault of the lowest line, where there is one.
+fn lowest_fault(
     alloc: Global,
     function: &Function,
     target: Target,
     stage: Stage,
-) -> Result<Vec<Fault>, Memory>
+) -> Result<Option<Fault>, Memory>
     requires { (target.xlen ≡ 32) ⊎ (target.xlen ≡ 64) }
-    ensures { IfOk result (λ all. AreAllFaults target.xlen (phase_of stage) function.now all.items) }
+    ensures { IfOk result (λ lowest. IsLowestFault target.xlen (phase_of stage) function.now lowest) }
 {
     let reached = reached(alloc, function)?;
     let predecessors = predecessors_of(alloc, function)?;
-    let order = order_of(alloc, function, reached.as_slice(), &predecessors)?;
+    let double = lowest_double(alloc, function)?;
+    let again = double.is_some();
+    let settled = order_of(alloc, function, reached.as_slice(), &predecessors, again)?;
+    let order = with_cover(alloc, function, settled, reached.as_slice(), double)?;
     let way_back = has_way_back(function, &predecessors);
-    let mut all = Vec::new(alloc);
-    push_double(alloc, function, &mut all)?;
-    push_sites(
+    let lowest = tell_sites(
         alloc,
         target,
         stage,
@@ -50,10 +51,9 @@ fn faults_of(
         &order,
         &predecessors,
         way_back,
-        &mut all,
+        double,
     )?;
-    push_successors(function, &mut all)?;
-    Ok(all)
+    Ok(tell_successors(function, lowest))
 }
 
 /// Answers Ok exactly where a function is valid, and otherwise the fault of the lowest line: on one line in the order
@@ -68,14 +68,12 @@ pub fn verify(
     ensures ok { OnOk result (IsValid target.xlen (phase_of stage) function.now) }
     ensures refused { IfErr result (λ error. IsRefused target.xlen (phase_of stage) function.now error) }
 {
-    match faults_of(alloc, function, target, stage) {
-        Ok(all) => match of_lowest_line(all.as_slice()) {
-            Some(fault) => Err(VerifyError::Invalid {
-                line: fault.line,
-                what: fault.what,
-            }),
-            None => Ok(()),
-        },
+    match lowest_fault(alloc, function, target, stage) {
+        Ok(Some(fault)) => Err(VerifyError::Invalid {
+            line: fault.line,
+            what: fault.what,
+        }),
+        Ok(None) => Ok(()),
         Err(_) => Err(VerifyError::Memory),
     }
 }

@@ -22,7 +22,8 @@ use Rattle.gi_spelling.specs.Written.{WrittenData}
 use Rattle.gi_spelling.proofs.NamedLemmas.{named_instrs}
 use Rattle.gi_mir_read.specs.Functions.Bodies.{BodyData, IsReadSoFar, Reads, with_defined, with_instr}
 use Rattle.gi_resolve.specs.Meant.{IsMeantInstr}
-use Rattle.gi_mir_read.specs.Functions.Noted.{NotesData, with_lowest, with_notes, with_operand}
+use Rattle.gi_mir_read.specs.Functions.Noted.{NotesData, with_lowest, with_notes}
+use Rattle.gi_registers.specs.Noted.{with_operand}
 use Rattle.gi_mir_read.proofs.Functions.NoteLemmas.{sources-kept}
 
 module _ (text : List ℕ) (before : NotesData) where

@@ -10,14 +10,14 @@ use Rattle.gi_mir.specs.declared.operand.Kind.{Kind}
 use Rattle.gi_mir.specs.declared.operand.Operand.{Operand}
 use Rattle.gi_mir.specs.declared.operand.Operand.TheVariants as operand
 use Rattle.gi_mir.specs.declared.operand.Reg.{Reg}
-use Rattle.gi_registers.specs.Noted.{with_kind}
+use Rattle.gi_registers.specs.Noted.{with_kind, with_operand}
 use Rattle.gi_spelling.specs.declared.written.Shown.{Shown}
 use Rattle.gi_spelling.specs.declared.written.Source.{Source}
 use Rattle.gi_spelling.specs.declared.written.Source.TheVariants as source
 use Rattle.gi_spelling.specs.declared.written.Wrong.{Wrong}
 use Rattle.gi_spelling.specs.Blocks.{defined_kind, first_kind, shown_at, shown_wrong, typed_use}
 use Rattle.gi_spelling.specs.Documents.{lower}
-use Rattle.gi_mir_read.specs.Functions.Noted.{with_operand, with_shown, with_source}
+use Rattle.gi_mir_read.specs.Functions.Noted.{with_shown, with_source}
 
 -- a kind by a look-up
 pub kind-lookup : (kinds : List (ℕ × Kind)) (reg : Reg) → lookup (nat_eq reg.0) kinds ≡ first_kind kinds reg

@@ -7,7 +7,8 @@ use Rattle.gi_mir.specs.declared.operand.Kind.{Kind}
 use Rattle.gi_spelling.specs.Blocks.{Body, Lists}
 use Rattle.gi_spelling.specs.Documents.{lower}
 use Rattle.gi_spelling.specs.Named.{Extends, IsNamedInstr}
-use Rattle.gi_mir_read.specs.Functions.Noted.{NotesData, with_operand}
+use Rattle.gi_mir_read.specs.Functions.Noted.{NotesData}
+use Rattle.gi_registers.specs.Noted.{with_operand}
 
 pub record BodyData : Type 0 where
   pub lists : Lists

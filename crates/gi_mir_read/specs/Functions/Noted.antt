@@ -6,8 +6,7 @@ use Rattle.gi_llt.specs.declared.Llt.{Llt}
 use Rattle.gi_mir.specs.Registers.{type_of_kind}
 use Rattle.gi_mir.specs.declared.operand.Kind.{Kind}
 use Rattle.gi_mir.specs.declared.operand.Operand.{Operand}
-use Rattle.gi_mir.specs.declared.operand.Operand.TheVariants as operand
-use Rattle.gi_registers.specs.Noted.{with_kind}
+use Rattle.gi_registers.specs.Noted.{with_operand}
 use Rattle.gi_spelling.specs.declared.written.Shown.{Shown}
 use Rattle.gi_spelling.specs.declared.written.Source.{Source}
 use Rattle.gi_spelling.specs.declared.written.Source.TheVariants as source
@@ -20,11 +19,6 @@ pub record NotesData : Type 0 where
   pub kinds : List (ℕ × Kind)
   pub shown : List Shown
   pub lowest : Option Wrong
-
--- with what an operand defines
-abbrev pub with_operand : List (ℕ × Kind) → Operand → List (ℕ × Kind)
-with_operand kinds (operand.Def reg kind) = with_kind kinds reg.0 kind
-with_operand kinds other = kinds
 
 -- with the type that a use on a line shows
 abbrev pub with_source : (line : ℕ) → List Shown → Source → List Shown

@@ -3,7 +3,7 @@
 ghost use Rattle.std.specs.Prelude.{◌≡◌, [], OnOk, fold};
 ghost use Rattle.gi_spelling.specs.Blocks.{first_kind, wrong};
 ghost use Rattle.gi_spelling.specs.Documents.{lower};
-ghost use Rattle.gi_mir_read.specs.Functions.Noted.{has_kind, with_lowest, with_notes, with_operand, with_shown, with_source};
+ghost use Rattle.gi_mir_read.specs.Functions.Noted.{has_kind, with_lowest, with_notes, with_shown, with_source};
 
 use crate::list::push;
 use crate::text::wrongs::Lowest;
@@ -14,26 +14,6 @@ use gi_registers::kinds::RegisterKinds;
 use gi_spelling::written::{Fault, Shown, Source};
 use std::alloc::Global;
 use std::marker::Model;
-
-/// Keeps the kind of a register that an operand defines.
-fn keep_operand(kinds: &mut RegisterKinds, operand: Operand) -> Result<(), Memory>
-    ensures { OnOk result (kinds.new ≡ with_operand kinds.old operand) }
-{
-    match operand {
-        Operand::Def(reg, kind) => kinds.note(reg, kind),
-        _ => Ok(()),
-    }
-}
-
-/// Keeps the kinds of the registers that operands define.
-fn keep_operands(kinds: &mut RegisterKinds, operands: &[Operand]) -> Result<(), Memory>
-    ensures { OnOk result (kinds.new ≡ fold with_operand kinds.old operands.now) }
-{
-    for operand in operands {
-        keep_operand(kinds, *operand)?;
-    }
-    Ok(())
-}
 
 /// Keeps the type that a use on a line shows.
 fn keep_source(shown: &mut Vec<Shown>, line: u32, source: Source) -> Result<(), Memory>
@@ -110,7 +90,7 @@ impl Notes {
     ) -> Result<(), Memory>
         ensures { OnOk result (self.new ≡ with_notes self.old line sources.now operands.now) }
     {
-        keep_operands(&mut self.kinds, operands)?;
+        self.kinds.note_operands(operands)?;
         keep_sources(&mut self.shown, line, sources)
     }
 

@@ -2,12 +2,14 @@
 
 ghost use Rattle.std.specs.Prelude.{◌≡◌, bytes_eq, find, map, option_map};
 ghost use Rattle.gi_spelling.specs.Words.{block_head, fixed_word, width_behind, word_of, words};
+ghost use Rattle.gi_mir_read.specs.Lines.Beginnings.{begins_otherwise, is_capital};
 
 use crate::line::number::{behind, numeral, numeral_before_name};
 use gi_llt::Llt;
 use gi_mir::opcode::Opcode;
 use gi_mir::operand::{Pred, SymbolFlag};
 use gi_spelling::token::{Flag, RegisterClass, Word};
+use gi_text::is_digit;
 
 /// The greatest width of a type.
 const GREATEST_WIDTH: u32 = 65535;
@@ -90,11 +92,43 @@ fn look_up(table: &[(&str, Word)], bytes: &[u8]) -> Option<Word>
     }
 }
 
-/// The fixed word that these bytes are.
-fn fixed_word(bytes: &[u8]) -> Option<Word>
+/// The fixed word that these bytes are, by a walk through all of them.
+fn fixed_word_among(bytes: &[u8]) -> Option<Word>
     ensures { result ≡ fixed_word bytes.now }
 {
     look_up(words(), bytes)
+}
+
+/// Whether a byte is a capital letter.
+fn is_capital(byte: u8) -> bool
+    ensures { result ≡ is_capital byte }
+{
+    b'A' <= byte && byte <= b'Z'
+}
+
+/// Whether bytes begin as no fixed word does: with a capital letter, or as a type does.
+fn begins_otherwise(bytes: &[u8]) -> bool
+    ensures { result ≡ begins_otherwise bytes.now }
+{
+    match bytes {
+        [] => false,
+        [only] => is_capital(*only),
+        [first, second, ..] => {
+            is_capital(*first) || (*first == b's' || *first == b'i') && is_digit(*second)
+        }
+    }
+}
+
+/// The fixed word that these bytes are. Most words of a text are an opcode or a type, and needn't be looked for.
+#[tactic(auto, using(crate::proofs::Lines::BeginningLemmas::not_fixed))]
+fn fixed_word(bytes: &[u8]) -> Option<Word>
+    ensures { result ≡ fixed_word bytes.now }
+{
+    if begins_otherwise(bytes) {
+        None
+    } else {
+        fixed_word_among(bytes)
+    }
 }
 
 /// The width behind one letter.

@@ -1,4 +1,4 @@
-use Rattle.std.proofs.Common.{◌≡◌, ◌+◌, suc, length, ap, arith}
+use Rattle.std.proofs.Common.{◌≡◌, suc, length, ap, arith}
 use Rattle.gi_mir.proofs.ArenaLemmas.{chain-length}
 use Rattle.gi_mir.specs.Arena.{chain}
 use Rattle.gi_mir.specs.Instrs.{left}

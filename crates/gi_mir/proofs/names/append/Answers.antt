@@ -1,16 +1,17 @@
-use Rattle.std.proofs.Common.{ap, ◌∙◌}
-use Rattle.std.specs.Prelude.{string_eq}
-use Rattle.indexmap.proofs.CallerLemmas.{insert_entry-new}
+use Rattle.std.proofs.Common.{rules, ◌≡◌, ◌++◌, ◌∷◌, [], ℕ, length, List, ◌∙◌, ap, arith}
+use Rattle.std.specs.Prelude.{string_bytes}
+use Rattle.std.proofs.lemmas.List.{length-map, map-append}
 use Rattle.gi_mir.specs.Names.{texts_of}
-use Rattle.gi_mir.proofs.NamesLemmas.{texts_of-append}
+use Rattle.gi_mir.proofs.NamesLemmas.{AreFound-append}
 use Rattle.gi_mir.proofs.names.append.Goals as goal
-use Rattle.gi_mir.proofs.names.append.Goals.{in-Ok, in-Err}
 
-pub returns-clause-ok : goal.returns-clause-ok
-returns-clause-ok c =
-    let put = insert_entry-new string_eq c.args.map.now c.args.name c.args.number c.requires in
-    let more = texts_of-append c.args.map.now.entries c.args.name c.args.number in
-    elim c.match-insert.branch [
-      | in-Ok w ↦ rw w.result-is (ap texts_of (w.in-Ok.ensures.entries ∙ put) ∙ more)
-      | in-Err w ↦ rw w.result-is tt
-    ]
+pub returns-in-Ok-clause-found : goal.returns-in-Ok-clause-found
+returns-in-Ok-clause-found c =
+    let old = c.args.list.now.items in
+    let name = c.args.name.now in
+    let listed : string_bytes c.in_ok-listed.listed ≡ name = search rules in
+    let key : string_bytes c.in_ok-key.key ≡ name = search rules in
+    let names : texts_of c.push.new.list.items ≡ texts_of old ++ name ∷ [] =
+    ap texts_of c.in_ok-push.ensures.ok ∙ map-append string_bytes old (c.in_ok-listed.listed ∷ []) ∙ ap (λ (n : List ℕ). texts_of old ++ n ∷ []) listed in
+    let count : c.len-number.result ≡ length old = search rules in
+    rw names (AreFound-append (texts_of old) name c.requires.absent c.args.numbers.now c.note.new.numbers _ c.requires.found (rw key at c.in-Ok.ensures.ok) (omega (arith, count, length-map old string_bytes, c.requires.short)))

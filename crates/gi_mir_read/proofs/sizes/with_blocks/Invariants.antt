@@ -1,5 +1,5 @@
 use Rattle.std.proofs.Common.{◌≡◌, ◌≤◌, drop}
-use Rattle.gi_mir.specs.Registers.{kind_of}
+use Rattle.gi_registers.specs.Noted.{kind_or_class}
 use Rattle.gi_mir_read.specs.Sizes.{blocks_faults, lowest_after}
 use Rattle.gi_mir_read.proofs.sizes.with_blocks.Given as goal
 
@@ -7,6 +7,6 @@ use Rattle.gi_mir_read.proofs.sizes.with_blocks.Given as goal
 abbrev pub invariant-loop-block : goal.invariant-loop-block
 invariant-loop-block l = record {
   within : l.count ≤ 262145;
-  lowest : lowest_after l.fn.lowest (blocks_faults l.target.xlen (kind_of l.f) 0 l.f.blocks)
-      ≡ lowest_after l.lowest (blocks_faults l.target.xlen (kind_of l.f) l.count (drop l.block l.f.blocks));
+  lowest : lowest_after l.fn.lowest (blocks_faults l.target.xlen (kind_or_class l.kinds) 0 l.f.blocks)
+      ≡ lowest_after l.lowest (blocks_faults l.target.xlen (kind_or_class l.kinds) l.count (drop l.block l.f.blocks));
 }

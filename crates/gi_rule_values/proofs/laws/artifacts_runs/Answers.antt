@@ -15,4 +15,6 @@ returns c = record {
   sext_of_trunc_narrower = refl;
   sext_of_trunc_wider = refl;
   unmerge_of_merge = refl;
+  trunc_of_merge_same = refl;
+  trunc_of_merge_narrower = refl;
 }

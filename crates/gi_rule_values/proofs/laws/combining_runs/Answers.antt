@@ -23,4 +23,17 @@ returns c = record {
   cut_anyext = refl;
   cut_zext = refl;
   cut_sext = refl;
+  mul_zero = refl;
+  and_zero = refl;
+  and_same = refl;
+  or_same = refl;
+  select_same = refl;
+  select_constant = refl;
+  select_constant_other = refl;
+  icmp_and_one = refl;
+  fold_trunc = refl;
+  fold_zext = refl;
+  fold_sext = refl;
+  fold_anyext = refl;
+  constant_fold = refl;
 }

@@ -1,5 +1,5 @@
 use Rattle.gi_verify.specs.Masks.{AreEffects}
-use Rattle.std.proofs.Common.{◌≡◌, ◌+◌, ℕ, List, [], ap, sym, subst, ◌∙◌}
+use Rattle.std.proofs.Common.{◌+◌, ℕ, List, [], ap, sym, subst, ◌∙◌}
 use Rattle.gi_mir.specs.Data.{InstrData}
 use Rattle.gi_mir.specs.Edit.{block_at}
 use Rattle.gi_mir.specs.Instrs.{left}

@@ -1,7 +1,7 @@
-use Rattle.gi_mir.specs.Instrs.{left}
-use Rattle.std.proofs.Common.{sym, subst}
+use Rattle.std.proofs.Common.{sym, subst, ⊎_elim}
 use Rattle.gi_mir.specs.Edit.{IsLive}
-use Rattle.gi_verify.specs.Settled.{IsSooner}
+use Rattle.gi_mir.specs.Instrs.{left}
+use Rattle.gi_verify.specs.Settled.{ComesSooner}
 use Rattle.gi_verify.proofs.Ordering.{placed_live}
 use Rattle.gi_verify.proofs.Sooner.{answer_sooner}
 use Rattle.gi_verify.proofs.uses.is_sooner.Goals as goal
@@ -11,5 +11,10 @@ comes_sooner-requires-clause-live c = subst (IsLive c.args.function.now) (sym c.
 
 pub returns : goal.returns
 returns c = λ h.
-    answer_sooner c.args.function.now c.args.order.now.tree c.args.order.now.marks (c.comes_sooner.ensures.settled h) c.args.r (c.comes_sooner.ensures.sure h) c.args.b c.requires.within (left c.args.front) c.args.numbered.now c.requires.placed
-    (subst (IsSooner c.args.function.now c.args.order.now.tree c.args.r c.args.b) c.id_of-id.ensures (c.comes_sooner.ensures.sooner h))
+    ⊎_elim
+    (λ once.
+    answer_sooner c.args.function.now c.args.order.now.tree c.args.order.now.once c.args.r c.args.b c.requires.within (left c.args.front) c.args.numbered.now c.requires.placed
+    (subst (ComesSooner c.args.function.now c.args.order.now.tree c.args.order.now.once c.args.r c.args.b) c.id_of-id.ensures once))
+    (λ first.
+    answer_sooner c.args.function.now c.args.order.now.tree c.args.order.now.first c.args.r c.args.b c.requires.within (left c.args.front) c.args.numbered.now c.requires.placed
+    (subst (ComesSooner c.args.function.now c.args.order.now.tree c.args.order.now.first c.args.r c.args.b) c.id_of-id.ensures first)) (c.comes_sooner.ensures h)

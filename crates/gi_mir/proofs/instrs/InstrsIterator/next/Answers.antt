@@ -1,10 +1,8 @@
 -- What is met next is the first of what is left.
-use Rattle.std.proofs.Common.{rules, ◌≡◌, ◌≢◌, ◌∙◌, Some, None, [], refl, ap, sym, ℕ, Option, arith}
+use Rattle.std.proofs.Common.{rules, ◌≡◌, ◌∙◌, Some, None, refl, ap, ℕ, arith}
 use Rattle.std.specs.Prelude.{slice_get}
 use Rattle.std.proofs.lemmas.Bool.Decides.{nat_tests}
 use Rattle.std.proofs.lemmas.Option.{slice_get_past, slice_get_read}
-use Rattle.gi_mir.specs.declared.block.InstrId.{InstrId}
-use Rattle.gi_mir.specs.declared.block.Slot.{Slot}
 use Rattle.gi_mir.specs.Arena.{chain}
 use Rattle.gi_mir.specs.Instrs.{left}
 use Rattle.gi_mir.proofs.InstrsLemmas.{chain-none, chain-missing, chain-empty, chain-step, progress}

@@ -1,6 +1,6 @@
 -- Labels rise along a block.
-use Rattle.std.proofs.Common.{rules, ◌≡◌, ◌∙◌}
-use Rattle.gi_mir.specs.Arena.{blocks_of, spot_of}
+use Rattle.std.proofs.Common.{rules, ◌∙◌}
+use Rattle.gi_mir.specs.Arena.{blocks_of}
 use Rattle.gi_mir.proofs.Linked.{id_in-spot, order-home, order-read, order-tells, order-within}
 use Rattle.gi_mir.proofs.layout.Layout.before.Goals as goal
 

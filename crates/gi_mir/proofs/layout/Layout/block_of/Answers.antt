@@ -1,6 +1,6 @@
 -- The place of an instruction that is in a block is written down.
-use Rattle.std.proofs.Common.{rules, ◌≡◌, ◌<◌, length, subst, sym, arith}
-use Rattle.gi_mir.specs.Arena.{blocks_of, spot_of}
+use Rattle.std.proofs.Common.{rules}
+use Rattle.gi_mir.specs.Arena.{blocks_of}
 use Rattle.gi_mir.proofs.Linked.{id_in-spot, order-home, order-within}
 use Rattle.gi_mir.proofs.Located.{id_in-within}
 use Rattle.gi_mir.proofs.layout.Layout.block_of.Goals as goal

@@ -1,9 +1,8 @@
 -- An instruction has the one before it, and a block its last.
-use Rattle.std.proofs.Common.{rules, ◌≡◌, ◌<◌, ◌∙◌, ap, sym, length}
+use Rattle.std.proofs.Common.{rules, ◌<◌, ◌∙◌, ap, sym, length}
 use Rattle.std.specs.Prelude.{Contains}
 use Rattle.std.proofs.lemmas.Option.{slice_get_within}
 use Rattle.gi_mir.specs.declared.block.InstrId.{InstrId}
-use Rattle.gi_mir.specs.declared.room.Gap.{Gap}
 use Rattle.std.specs.Prelude.{Option}
 use Rattle.gi_mir.specs.Arena.{blocks_of, gap_at}
 use Rattle.gi_mir.specs.Edit.{ids_of, spot_in}

@@ -1,12 +1,10 @@
 -- A new instruction comes into a gap, with a label between those around it.
-use Rattle.std.proofs.Common.{rules, ◌<◌, ◌≤◌, ◌≡◌, ◌∙◌, ◌+◌, ◌++◌, ◌∷◌, [], ℕ, List, Option, Some, get_or, set, refl, ap, ap₂, sym, subst, length, length-append, arith}
+use Rattle.std.proofs.Common.{◌≤◌, ◌≡◌, ◌∙◌, ◌++◌, ◌∷◌, [], ℕ, List, Some, get_or, refl, ap, ap₂, subst, length, length-append, arith}
 use Rattle.std.specs.Vec.{with_item}
 use Rattle.gi_mir.specs.declared.block.Body.{Body}
 use Rattle.gi_mir.specs.declared.block.InstrId.{InstrId}
-use Rattle.gi_mir.specs.declared.block.Slot.{Slot}
-use Rattle.gi_mir.specs.declared.place.Place.{Place}
 use Rattle.gi_mir.specs.declared.room.Gap.{Gap}
-use Rattle.gi_mir.specs.Arena.{FitsGap, blocks_of, body_of, gap_at, id_named, next_set, previous_set, slot_between}
+use Rattle.gi_mir.specs.Arena.{FitsGap, blocks_of, gap_at, id_named, next_set, previous_set, slot_between}
 use Rattle.gi_mir.specs.Edit.{spot_in}
 use Rattle.gi_mir.specs.Places.{body_at, place, with_inserted}
 use Rattle.gi_mir.proofs.IdsLemmas.{few-instrs}

@@ -1,4 +1,4 @@
-use Rattle.std.proofs.Common.{◌≡◌, ◌∙◌, ap}
+use Rattle.std.proofs.Common.{◌∙◌, ap}
 use Rattle.std.specs.Prelude.{option_map}
 use Rattle.gi_mir.specs.declared.block.Body.{Body}
 use Rattle.gi_mir.specs.declared.block.InstrId.{InstrId}

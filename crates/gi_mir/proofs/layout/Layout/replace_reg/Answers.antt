@@ -1,36 +1,39 @@
--- One more instruction is replaced each time, until there is no use.
-use Rattle.std.proofs.Common.{◌∙◌, ap, sym, List}
-use Rattle.gi_mir.specs.Data.{BlockData}
-use Rattle.gi_mir.specs.Arena.{IsStored, blocks_of, spot_of}
-use Rattle.gi_mir.specs.Edit.{all_instrs}
-use Rattle.gi_mir.specs.Mentions.{mentioning}
-use Rattle.gi_mir.proofs.Located.{is_live-id_in}
-use Rattle.gi_mir.proofs.Replacing.{IsReplacing-step, replaced-smaller, blocks_without}
+-- The lists are merged first, and then the users changed.
+use Rattle.std.proofs.Common.{◌≡◌, ◌∙◌, List, length, ap, sym, subst}
+use Rattle.std.specs.Prelude.{map}
+use Rattle.std.specs.Vec.{with_items}
+use Rattle.std.proofs.lemmas.List.{length-map, with_items_is}
+use Rattle.gi_mir.specs.declared.block.Slot.{Slot}
+use Rattle.gi_mir.specs.Arena.{blocks_of, slot_changed}
+use Rattle.gi_mir.specs.Mentions.{use_key}
+use Rattle.gi_mir.specs.Uses.{block_replaced, instr_replaced}
+use Rattle.gi_mir.proofs.Merging.{spelled-moved, users-listed}
+use Rattle.gi_mir.proofs.Replacing.{blocks_same}
+use Rattle.gi_mir.proofs.Stored.{IsSpelled, spelled-blocks, spelled-stored, stored-spelled}
 use Rattle.gi_mir.proofs.layout.Layout.replace_reg.Goals as goal
 
-pub replace_at-requires-clause-stands : goal.replace_at-requires-clause-stands
-replace_at-requires-clause-stands c =
-    let spot = spot_of (blocks_of c.loop-id.self) c.in-Some.id.0 in
-    is_live-id_in c.in-Some.id.0 (blocks_of c.loop-id.self) spot.block spot.at c.in-Some.ensures.stands
+pub returns-then-old-new-clause-ok : goal.returns-then-old-new-clause-ok
+returns-then-old-new-clause-ok c =
+    sym (blocks_same c.args.old.0 (blocks_of c.args.self.now)) ∙ ap (λ n. map (block_replaced c.args.old.0 n) (blocks_of c.args.self.now)) c.if-old-new.true
 
-pub loop-id-smaller : goal.loop-id-smaller
-loop-id-smaller c =
-    let now = c.replace_at.new.self in
-    let blocks = blocks_of c.loop-id.self in
-    let found = rw c.use_key.ensures at c.in-Some.ensures in
-    replaced-smaller c.args.old.0 c.args.new.0 blocks c.in-Some.id (spot_of blocks c.in-Some.id.0) c.loop-id.self.mentions now.mentions c.requires.apart c.loop-id.invariant.stored.has_mentions found
-    (λ key. c.in_ok-replace_at.ensures.stored.has_mentions key ∙ ap (λ (bs : List BlockData). mentioning key (all_instrs bs)) c.in_ok-replace_at.ensures.ok)
+pub replace_among-requires-clause-users : goal.replace_among-requires-clause-users
+replace_among-requires-clause-users c =
+    let l = c.args.self.now in
+    rw (c.as_mut_slice.ensures.value, c.as_slice-2.ensures.value, c.in_ok-users.ensures.users, c.requires.has_mentions (use_key c.args.old.0))
+    (users-listed l.bodies.items l.slots.items l.places.items l.mentions (blocks_of l) c.args.old.0 (stored-spelled l c.requires))
 
-pub loop-id-preserved : goal.loop-id-preserved
-loop-id-preserved c =
-    let blocks = blocks_of c.loop-id.self in
-    let found = rw c.use_key.ensures at c.in-Some.ensures in
-    record {
-      stored = c.in_ok-replace_at.ensures.stored;
-      replacing = rw c.in_ok-replace_at.ensures.ok (IsReplacing-step c.args.old.0 c.args.new.0 c.loop-id.self.places.items (blocks_of c.args.self.now) blocks c.in-Some.id (spot_of blocks c.in-Some.id.0) c.requires.apart c.loop-id.invariant.stored.order found c.loop-id.invariant.replacing);
-      given = c.in_ok-replace_at.ensures.given ∙ c.loop-id.invariant.given;
-    }
+moved : (c : goal.After-drop-users) → IsSpelled c.args.self.now.bodies.items (with_items c.args.self.now.slots c.replace_among.new.slots).items c.args.self.now.places.items c.replace.new.self (map (block_replaced c.args.old.0 c.args.new.0) (blocks_of c.args.self.now))
+moved c =
+    let l = c.args.self.now in
+    let changed : c.replace_among.new.slots ≡ map (slot_changed (instr_replaced c.args.old.0 c.args.new.0)) l.slots.items = c.replace_among.ensures ∙ ap (map (slot_changed (instr_replaced c.args.old.0 c.args.new.0))) c.as_mut_slice.ensures.value in
+    let count = ap length changed ∙ length-map l.slots.items (slot_changed (instr_replaced c.args.old.0 c.args.new.0)) in
+    let lists = rw c.as_slice.ensures.value at c.in_ok-users.ensures.ok in
+    subst (λ (xs : List Slot). IsSpelled l.bodies.items xs l.places.items c.replace.new.self (map (block_replaced c.args.old.0 c.args.new.0) (blocks_of l)))
+    (sym (with_items_is l.slots c.replace_among.new.slots (count ∙ sym l.slots.ok.0) ∙ changed))
+    (spelled-moved l.bodies.items l.slots.items l.places.items l.mentions c.replace.new.self (blocks_of l) c.args.old.0 c.args.new.0 c.if-old-new.false lists (stored-spelled l c.requires))
 
 pub returns-clause-ok : goal.returns-clause-ok
-returns-clause-ok c =
-    sym (blocks_without c.args.old.0 c.args.new.0 (blocks_of c.loop-id.self) (rw c.use_key.ensures at c.in_default.ensures)) ∙ c.loop-id.invariant.replacing.whole
+returns-clause-ok c = spelled-blocks (moved c)
+
+pub returns-clause-stored : goal.returns-clause-stored
+returns-clause-stored c = spelled-stored _ _ (moved c)

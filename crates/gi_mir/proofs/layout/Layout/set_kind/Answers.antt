@@ -1,8 +1,6 @@
 -- The instruction changes, and what it mentions stays.
-use Rattle.std.proofs.Common.{rules, ◌<◌, ap, sym, length}
-use Rattle.std.specs.Prelude.{option_map}
+use Rattle.std.proofs.Common.{rules, ◌<◌, length}
 use Rattle.std.specs.Vec.{with_item}
-use Rattle.gi_mir.specs.declared.block.Slot.{Slot}
 use Rattle.gi_mir.specs.Data.{InstrData}
 use Rattle.gi_mir.specs.Arena.{blocks_of, spot_of}
 use Rattle.gi_mir.specs.Edit.{with_kind}

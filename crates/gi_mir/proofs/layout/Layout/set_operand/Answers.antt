@@ -1,5 +1,5 @@
 -- The new mention is noted first, and the old one taken out where it was the last.
-use Rattle.std.proofs.Common.{rules, ◌<◌, ◌≡◌, ◌∙◌, Bool, Some, ap, sym, length, true, false}
+use Rattle.std.proofs.Common.{rules, ◌<◌, ◌≡◌, ◌∙◌, ap, sym, length, true, false}
 use Rattle.std.specs.Prelude.{slice_get}
 use Rattle.std.specs.Vec.{with_item}
 use Rattle.gi_mir.specs.declared.block.Slot.{Slot}
@@ -9,7 +9,7 @@ use Rattle.gi_mir.specs.Edit.{with_operand}
 use Rattle.gi_mir.specs.Formed.{is_formed}
 use Rattle.gi_mir.specs.Places.{body_at, with_changed_at}
 use Rattle.gi_mir.proofs.Linked.{id_in-spot}
-use Rattle.gi_mir.proofs.Stored.{IsSpelled, IsSorted-at, entry_of, live-edited, live-place, live-place-within, live-slot, live-some, live-within, operands-around, some-instr, spelled-blocks, spelled-operand-last, spelled-operand-more, spelled-stored, stored-spelled}
+use Rattle.gi_mir.proofs.Stored.{AreInRank-after_note, IsSpelled, IsSorted-at, entry_of, live-edited, live-place, live-place-within, live-slot, live-some, live-within, operands-around, some-instr, spelled-blocks, spelled-operand-last, spelled-operand-more, spelled-stored, stored-spelled}
 use Rattle.gi_mir.proofs.layout.Layout.set_operand.Goals as goal
 
 pub index-spot-requires : goal.index-spot-requires
@@ -37,6 +37,16 @@ set_operand-old-requires-clause-can c =
     let spot = spot_of blocks c.args.id.0 in
     rw (live-slot c.args.self.now c.args.id.0 c.index_mut-slot.result.now c.requires.stored c.requires.stands c.index_mut-slot.ensures.value)
     (some-instr (λ i. (c.args.k < length i.operands) × (is_formed (with_operand i c.args.k c.args.new) ≡ true)) (slice_get (body_at blocks spot.block).instrs spot.at) c.requires.can)
+
+pub forget_operand-requires : goal.forget_operand-requires
+forget_operand-requires c =
+    let l = c.args.self.now in
+    let blocks = blocks_of l in
+    let spot = spot_of blocks c.args.id.0 in
+    let noted = rw c.as_slice.ensures.value at c.in_ok-note_operand.ensures.ok in
+    rw c.as_slice-then-not-mentions.ensures.value
+    (AreInRank-after_note l.bodies.items l.slots.items l.places.items l.mentions c.note_operand.new.self blocks spot.block spot.at c.args.id c.index-spot.result.now c.args.new (id_in-spot blocks c.args.id.0 c.requires.stands)
+    (live-place l c.args.id.0 c.index-spot.result.now c.requires.stored c.requires.stands c.index-spot.ensures) noted (stored-spelled l c.requires.stored))
 
 last : (c : goal.After-forget_operand) → IsSpelled c.args.self.now.bodies.items (with_item c.args.self.now.slots c.args.id.0 c.set_operand-old.new.self).items c.args.self.now.places.items c.forget_operand.new.self (with_changed_at (λ i. with_operand i c.args.k c.args.new) (blocks_of c.args.self.now) (spot_of (blocks_of c.args.self.now) c.args.id.0))
 last c =

@@ -1,4 +1,4 @@
-use Rattle.std.proofs.Common.{rules, ◌≡◌, sym, subst}
+use Rattle.std.proofs.Common.{rules, sym, subst}
 use Rattle.gi_mir.specs.Numbering.{registers_in_operand}
 use Rattle.gi_mir.specs.Registers.{kind_in_operand}
 use Rattle.gi_mir_print.specs.Shown.{RegistersData, IsNoted}

@@ -2,7 +2,7 @@ use Rattle.std.proofs.Common.{◌≡◌, ◌∙◌, ◌++◌, IsTrue, ap, length
 use Rattle.std.proofs.Math.Seq.{take-length}
 use Rattle.std.proofs.lemmas.Result.{on_err_weaker, on_ok_weaker}
 use Rattle.gi_mir.specs.Data.{FunctionData}
-use Rattle.gi_mir.specs.Uses.{IsPartlyReplaced, with_reg_replaced}
+use Rattle.gi_mir.specs.Uses.{with_reg_replaced}
 use Rattle.gi_observe.specs.Replay.{IsReplay, replacements}
 use Rattle.gi_observe.proofs.Replaying.{IsReplay-replaced}
 use Rattle.gi_observe.proofs.editor.Editor.replace.Goals as goal
@@ -22,7 +22,7 @@ returns-clause-told_in_part g c =
     let told = replacements f c.args.self.now.pass c.args.old.0 c.args.new.0 in
     let before = g.O.ChangeObserver.seen c.args.self.now.observer.now in
     on_err_weaker c.replace_reg.result
-    (λ (partly : IsPartlyReplaced c.args.old.0 c.args.new.0 f c.replace_reg.new.self) (tells : IsTrue (g.O.ChangeObserver.tells c.args.self.now.observer.now)). record {
+    (λ (same : c.replace_reg.new.self ≡ f) (tells : IsTrue (g.O.ChangeObserver.tells c.args.self.now.observer.now)). record {
       told = length told;
       part = c.in_ok-tell_replacements.ensures.told tells ∙ ap (λ xs. before ++ xs) (sym (take-length told));
     })
