@@ -293,6 +293,24 @@ def chain_double(count):
     return COPIED + summed(range(1, count + 1), 1) + again + RETURN
 
 
+@refused(OPERANDS // 8 - 2)
+def unavailable(count):
+    """A register for each of as many sums, defined in both arms behind a test; and where the arms meet, the sums."""
+    head = COPIED + "    %1:_(s1) = G_TRUNC %0(s32)\n    G_BRCOND %1(s1), %bb.2\n  bb.1:\n"
+    arm = each("    %%%d:_(s32) = G_IMPLICIT_DEF\n", range(2, count + 2))
+    uses = "".join([f"    %{count + k}:_(s32) = G_ADD %{k}, %{k}\n" for k in range(2, count + 2)])
+    return head + arm + "    G_BR %bb.3\n  bb.2:\n" + arm + "  bb.3:\n" + uses + RETURN
+
+
+@refused(OPERANDS // 5 - 3)
+def loop_double(count):
+    """A loop of sums of a constant and the sum before, at whose end the first register is defined again."""
+    last = 2 * count
+    test = f"    %{last + 1}:_(s1) = G_TRUNC %{last}(s32)\n"
+    again = f"  bb.2:\n    %1:_(s32) = G_CONSTANT i32 1\n    G_BRCOND %{last + 1}(s1), %bb.1\n"
+    return COPIED + "  bb.1:\n" + accumulated(count) + test + again + RETURN
+
+
 @valid(BLOCKS - 2)
 def against(count):
     """Blocks that are laid out against the flow; the first one names the last of the flow six times as often besides."""

@@ -43,8 +43,15 @@ fn append(
     }
 }
 
-/// A function of one block: a copy of `$x10`, and so many differences of it and itself.
-fn differences(alloc: Global, count: u32) -> Result<Function, AllocError> {
+/// What each of many differences reads: the register of the copy in front of all, or that of the difference before.
+#[derive(Clone, Copy)]
+pub enum Sources {
+    First,
+    Before,
+}
+
+/// A function of one block: a copy of `$x10`, and so many differences of a register and itself.
+fn differences(alloc: Global, count: u32, sources: Sources) -> Result<Function, AllocError> {
     let mut function = Function::new(alloc, 0);
     let block = Block {
         successors: Vec::new(alloc),
@@ -57,10 +64,14 @@ fn differences(alloc: Global, count: u32) -> Result<Function, AllocError> {
     append(alloc, &mut function, Opcode::Copy, &copy)?;
     for last in 0..count {
         let number = last.saturating_add(1);
+        let source = match sources {
+            Sources::First => Reg(0),
+            Sources::Before => Reg(last),
+        };
         let operands = [
             Operand::Def(Reg(number), S32),
-            Operand::Use(Reg(0)),
-            Operand::Use(Reg(0)),
+            Operand::Use(source),
+            Operand::Use(source),
         ];
         append(alloc, &mut function, Opcode::GenericSubtract, &operands)?;
     }
@@ -88,8 +99,8 @@ fn rewrite(rule: &Rule, function: &mut Function, root: InstrId) -> Result<bool, 
 }
 
 /// Applies a rule at each of so many instructions of one block, and tells at how many it fits.
-pub fn rewritten(alloc: Global, count: u32) -> Result<String, AllocError> {
-    let mut function = differences(alloc, count)?;
+pub fn rewritten(alloc: Global, count: u32, sources: Sources) -> Result<String, AllocError> {
+    let mut function = differences(alloc, count, sources)?;
     let rule = difference_of_same(alloc).map_err(|_| AllocError)?;
     let mut done = 0u64;
     for last in 0..count {
@@ -102,7 +113,7 @@ pub fn rewritten(alloc: Global, count: u32) -> Result<String, AllocError> {
 
 /// Replaces a register that so many instructions use, and tells how many use the other one then.
 pub fn replaced(alloc: Global, count: u32) -> Result<String, AllocError> {
-    let mut function = differences(alloc, count)?;
+    let mut function = differences(alloc, count, Sources::First)?;
     let other = Reg(count.saturating_add(1));
     if function.replace_reg(Reg(0), other).is_err() {
         return Err(AllocError);

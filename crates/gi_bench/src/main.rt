@@ -7,7 +7,7 @@ mod edits;
 
 ghost use Rattle.std.specs.Prelude.{◌≡◌, ◌<◌, ◌≤◌, IfOk, vec_len};
 
-use edits::{replaced, rewritten};
+use edits::{Sources, replaced, rewritten};
 use gi_llt::Target;
 use gi_mir::module::Module;
 use gi_mir::stage::Stage;
@@ -195,7 +195,8 @@ fn work(alloc: Global, request: &str) -> Result<String, AllocError> {
             let text = chain_of(alloc, size.min(LONGEST) as u32)?;
             checked(alloc, text.as_str(), kind == "verified-chain")
         }
-        "rewritten" => rewritten(alloc, size.min(LONGEST) as u32),
+        "rewritten" => rewritten(alloc, size.min(LONGEST) as u32, Sources::Before),
+        "rewritten-shared" => rewritten(alloc, size.min(LONGEST) as u32, Sources::First),
         "replaced" => replaced(alloc, size.min(LONGEST) as u32),
         _ => format!(in alloc; "no work in {request:?}"),
     }

@@ -2,3 +2,4 @@ pub mod BeginningLemmas
 pub mod KeptLemmas
 pub mod NumberLemmas
 pub mod SplitLemmas
+pub mod TellingLemmas

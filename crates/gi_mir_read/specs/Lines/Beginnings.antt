@@ -1,5 +1,5 @@
 -- How words begin that aren't fixed: opcodes of LLVM with a capital letter, types with a letter and a digit.
-use Rattle.std.specs.Prelude.{Bool, true, false, ◌&&◌, ◌||◌, ◌==◌, List, [], ◌∷◌, ℕ, nat_le}
+use Rattle.std.specs.Prelude.{Bool, false, ◌&&◌, ◌||◌, ◌==◌, List, [], ◌∷◌, ℕ, nat_le}
 use Rattle.gi_llt.specs.Tokens.{is_digit}
 
 abbrev pub is_capital : ℕ → Bool

@@ -1,9 +1,11 @@
 //! The lines of a function's blocks that say something.
 
-ghost use Rattle.std.specs.Prelude.{◌≡◌, ℕ, ◌-◌, ◌<◌, ◌≤◌, ◌^◌, List, [], ◌++◌, All, IfOk, IfSome, OnOk, MatchOption, Some, filter, length, option_map, position};
+ghost use Rattle.std.specs.Prelude.{◌≡◌, ℕ, ◌-◌, ◌<◌, ◌≤◌, ◌^◌, List, [], ◌++◌, All, IfOk, IfSome, OnOk, MatchOption, Some, drop, filter, length, option_map, position};
 ghost use Rattle.std.specs.List.{cons_option};
 ghost use Rattle.gi_spelling.specs.Blocks.{is_told};
 ghost use Rattle.gi_spelling.specs.Items.{kept_items};
+ghost use Rattle.gi_text.specs.Cutting.{slice};
+ghost use Rattle.gi_mir_read.specs.Lines.Telling.{begins_telling, tells};
 ghost use Rattle.gi_mir_read.specs.Texts.Placed.{IsLineIn, line_at, lines_at};
 ghost use Rattle.gi_mir_read.specs.Functions.Blocked.{IsCutAtBlock, IsNextBlock, IsToldIn, begins_block, blocks_of, told_by, told_lines_at, told_of};
 
@@ -47,12 +49,51 @@ fn told_by(line: Line, items: &[Item]) -> Option<Told>
     Some(Told { line, head })
 }
 
-/// The line, if it says something.
+/// Whether bytes begin as a debug instruction or as a block's head.
+fn begins_telling(bytes: &[u8]) -> bool
+    ensures { result ≡ begins_telling bytes.now }
+{
+    bytes.starts_with(b"DBG_") || bytes.starts_with(b"bb.")
+}
+
+/// The bytes from a place on.
+fn from_place(bytes: &[u8], place: usize) -> &[u8]
+    requires { place ≤ length bytes.now }
+    ensures { result.now ≡ drop place bytes.now }
+{
+    &bytes[place..]
+}
+
+/// Whether such a word may stand somewhere in a line.
+fn tells(bytes: &[u8]) -> bool
+    ensures { result ≡ tells bytes.now }
+{
+    for k in 0..bytes.len() {
+        if begins_telling(from_place(bytes, k)) {
+            return true;
+        }
+    }
+    false
+}
+
+/// Whether such a word may stand in a line of the text.
+fn tells_at(text: &[u8], line: Line) -> bool
+    requires line { IsLineIn text.now line }
+    ensures { result ≡ tells (slice line.start line.end text.now) }
+{
+    tells(&text[line.start as usize..line.end as usize])
+}
+
+/// The line, if it says something. Its tokens are looked at only where a debug instruction or a block's head may stand in it.
+#[tactic(auto, using(crate::proofs::Lines::TellingLemmas::plain_told))]
 fn told_of(alloc: Global, text: &[u8], line: Line) -> Result<Option<Told>, Memory>
     requires line { IsLineIn text.now line }
     requires short { length text.now < 2 ^ 32 - 1 }
     ensures { IfOk result (λ found. found ≡ told_of text.now line) }
 {
+    if !tells_at(text, line) {
+        return Ok(Some(Told { line, head: None }));
+    }
     match kept_of_line(alloc, text, line)? {
         Some(items) => Ok(told_by(line, items.as_slice())),
         None => Ok(Some(Told { line, head: None })),
