@@ -1,3 +1,6 @@
+pub mod Erased
+pub mod Giving
+pub mod ErasedRuns
 pub mod Fresh
 pub mod Known
 pub mod Refined

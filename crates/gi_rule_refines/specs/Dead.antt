@@ -1,5 +1,5 @@
 -- Instructions that can go: they do nothing but define virtual registers, and no instruction uses these.
-use Rattle.std.specs.Prelude.{◌≡◌, ℕ, ◌×◌, Bool, true, false, not, ◌&&◌, List, [], ◌∷◌}
+use Rattle.std.specs.Prelude.{◌≡◌, ℕ, Bool, true, false, not, ◌&&◌, List, [], ◌∷◌}
 use Rattle.std.specs.List.{list_all, list_any}
 use Rattle.std.specs.Option.{option_map_or}
 use Rattle.gi_mir.specs.Data.{InstrData, FunctionData}

@@ -1,6 +1,6 @@
-use Rattle.gi_rule_refines.proofs.Dead.{erased, erased_of}
-use Rattle.gi_rule_refines.proofs.DeadRuns.{erased_refines}
+use Rattle.gi_rule_refines.proofs.Erased.{erased, erased_of}
+use Rattle.gi_rule_refines.proofs.ErasedRuns.{erased_refines}
 use Rattle.gi_rule_refines.proofs.dead.dead_instruction_erased.Goals as goal
 
-pub refines : goal.refines
-refines c = λ x phase names f id good live dead. erased_refines x phase names f id (erased_of x phase names f id good live dead)
+pub returns-clause-refines : goal.returns-clause-refines
+returns-clause-refines c = λ x phase names f id good live dead. erased_refines x phase names f id (erased_of x phase names f id good live dead)
