@@ -32,6 +32,7 @@ use Rattle.gi_soundness.proofs.Valid.{great_of, known_of}
 use Rattle.gi_refining.proofs.UsingElsewhere.{other_inside}
 use Rattle.gi_rule_valid.proofs.InPlace.{entry_stays}
 use Rattle.gi_rule_refines.proofs.Erased.{IsErased, defined_stays, erased, erasing, is_gone, kind_stays, untouched, used_stays}
+use Rattle.gi_rule_refines.proofs.ErasedLists.{all_left, left, left_next}
 use Rattle.gi_rule_refines.proofs.Giving.{AllHidden, goes_on, places_hidden, put_hidden}
 
 -- ══ Phis stand first ══
@@ -71,26 +72,6 @@ none_first (i ∷ is) none = ap (λ t. cond t (i ∷ phis_of is) []) (not-true (
 
 -- ══ What erasing leaves of a block ══
 
-abbrev left : (f : FunctionData) (id : ℕ) → (root : InstrData) → List (ℕ × InstrData) → List (ℕ × InstrData)
-left f id root is = rewritten (erasing f id root) is
-
--- an instruction goes, or stays
-left_next : (f : FunctionData) (id : ℕ) (root : InstrData) (p : ℕ × InstrData) (is : List (ℕ × InstrData)) → left f id root (p ∷ is) ≡ cond (p.0 == id) (left f id root is) (p ∷ left f id root is)
-left_next f id root p is = ap (λ q. cond (p.0 == id) [] (q ∷ []) ++ left f id root is) (entry_stays p) ∙ by (p.0 == id)
-  where
-    by : (t : Bool) → cond t [] (p ∷ []) ++ left f id root is ≡ cond t (left f id root is) (p ∷ left f id root is)
-    by true = refl
-    by false = refl
-
-none_left : (f : FunctionData) (id : ℕ) (root : InstrData) (is : List (ℕ × InstrData)) → no_phis is ≡ true → no_phis (left f id root is) ≡ true
-none_left f id root [] none = refl
-none_left f id root (p ∷ is) none =
-    let each = and_parts (not (is_phi p.1)) (no_phis is) none in ap no_phis (left_next f id root p is) ∙ by (p.0 == id) each.0 (none_left f id root is each.1)
-  where
-    by : (t : Bool) → not (is_phi p.1) ≡ true → no_phis (left f id root is) ≡ true → no_phis (cond t (left f id root is) (p ∷ left f id root is)) ≡ true
-    by true here rest = rest
-    by false here rest = and_from (not (is_phi p.1)) (no_phis (left f id root is)) here rest
-
 record LeavesApart (f : FunctionData) (id : ℕ) (root : InstrData) (is : List (ℕ × InstrData)) : Type 0 where
   phis : phis_of (left f id root is) ≡ left f id root (phis_of is)
   body : after_phis (left f id root is) ≡ left f id root (after_phis is)
@@ -115,7 +96,7 @@ leaves_apart f id root (p ∷ is) none = by (is_phi p.1) refl none (λ h. leaves
           body = ap after_phis (left_next f id root p is) ∙ both.1 ∙ ap (λ t. left f id root (cond t (after_phis is) (p ∷ is))) (sym so);
         }
     by false so none rest =
-        let first : phis_of (left f id root (p ∷ is)) ≡ [] = none_first (left f id root (p ∷ is)) (none_left f id root (p ∷ is) none) in
+        let first : phis_of (left f id root (p ∷ is)) ≡ [] = none_first (left f id root (p ∷ is)) (all_left f id root (λ q. not (is_phi q.1)) (p ∷ is) none) in
         record {
           phis = first ∙ ap (λ t. left f id root (cond t (p ∷ phis_of is) [])) (sym so);
           body = no_phis_after (left f id root (p ∷ is)) first ∙ ap (λ t. left f id root (cond t (after_phis is) (p ∷ is))) (sym so);

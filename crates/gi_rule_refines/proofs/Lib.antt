@@ -1,4 +1,5 @@
 pub mod Erased
+pub mod ErasedLists
 pub mod Giving
 pub mod ErasedRuns
 pub mod Fresh
