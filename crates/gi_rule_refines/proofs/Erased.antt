@@ -1,18 +1,20 @@
 -- A dead instruction of a valid function, and the function without it.
 use Rattle.std.proofs.Common.{◌≡◌, ℕ, Bool, true, false, not, ◌&&◌, ◌||◌, ◌==◌, List, [], ◌∷◌, Option, Some, None, ⊎_elim, refl, sym, ap, ◌∙◌, subst, true≢false}
-use Rattle.std.proofs.lemmas.Bool.{and_parts, or_cases, or_from, or_left, or_right, eq-eqb, eqb-true, false_from_ne_true, not-true}
+use Rattle.std.proofs.lemmas.Bool.{and_parts, or_cases, or_from, or_left, or_parts, or_right, eq-eqb, eqb-true, false_from_ne_true, not-true}
 use Rattle.std.specs.List.{list_all, list_any}
 use Rattle.std.specs.Option.{option_map_or}
 use Rattle.gi_mir.specs.Data.{InstrData, FunctionData}
 use Rattle.gi_mir.specs.Edit.{IsLive, all_instrs, defines, instr_of, is_def_of, is_use_of, uses, without_instr}
 use Rattle.gi_mir.specs.Ids.{AreOwnIds}
+use Rattle.gi_mir.specs.Formed.{is_def, is_implicit_def, is_physical_def}
 use Rattle.gi_mir.specs.Registers.{kind_of}
+use Rattle.gi_mir.specs.Row.{is_call_op}
 use Rattle.gi_mir.specs.declared.operand.Operand.{Operand}
 use Rattle.gi_mir.specs.declared.operand.Operand.TheVariants as operand
 use Rattle.gi_meaning.specs.InRow.{results_in}
 use Rattle.gi_meaning.specs.Meaning.{meaning_of}
 use Rattle.gi_refine.specs.Replacing.{touches}
-use Rattle.gi_valid.specs.Definitions.{is_erasable}
+use Rattle.gi_valid.specs.Definitions.{defines_any_physical, defines_physical, is_erasable, is_physical_def_of}
 use Rattle.gi_valid.specs.Typing.{Phase}
 use Rattle.gi_valid.specs.Valid.{IsValid}
 use Rattle.gi_valid.proofs.Single.{one_definition}
@@ -98,3 +100,26 @@ untouched hidden (_ ∷ os) defined used = untouched hidden os defined used
 -- the others keep their kinds
 pub kind_stays : (x : ℕ) (phase : Phase) (f : FunctionData) (id : ℕ) → (c : IsErased x phase f id) → (r : ℕ) → is_gone c.root r ≡ false → kind_of (without_instr f id) r ≡ kind_of f r
 kind_stays x phase f id c r stays = kind_kept (erasing f id c.root) f (without_instr f id) (erased x phase f id c) r (other_alike (erasing f id c.root) r stays refl)
+
+-- ══ Physical registers ══
+
+-- it defines none, explicitly or implicitly
+pub record DefinesNone (root : InstrData) : Type 0 where
+  pub shown : list_any is_physical_def root.operands ≡ false
+  pub implicit : list_any is_implicit_def root.operands ≡ false
+
+pub defines_none : (root : InstrData) → is_erasable root ≡ true → DefinesNone root
+defines_none root h =
+    let first = and_parts (list_any is_def root.operands && not (defines_any_physical root)) (not (is_call_op root.op)) h in
+    let second = and_parts (list_any is_def root.operands) (not (defines_any_physical root)) first.0 in
+    let none = or_parts (list_any is_physical_def root.operands) (list_any is_implicit_def root.operands) (not-true (defines_any_physical root) second.1) in
+    record { shown = none.0; implicit = none.1 }
+
+none_physical : (n : ℕ) (os : List Operand) → list_any is_physical_def os ≡ false → list_any is_implicit_def os ≡ false → list_any (is_physical_def_of n) os ≡ false
+none_physical n [] shown implicit = refl
+none_physical n (operand.PhysDef m ∷ os) shown implicit = cc
+none_physical n (operand.ImplicitDef m ∷ os) shown implicit = cc
+none_physical n (_ ∷ os) shown implicit = none_physical n os shown implicit
+
+pub gone_defines_none : (x : ℕ) (phase : Phase) (f : FunctionData) (id : ℕ) → (c : IsErased x phase f id) → (n : ℕ) → defines_physical n (id, c.root) ≡ false
+gone_defines_none x phase f id c n = let none = defines_none c.root c.erasable in none_physical n c.root.operands none.shown none.implicit

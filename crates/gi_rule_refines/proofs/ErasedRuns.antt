@@ -5,8 +5,6 @@ use Rattle.std.proofs.lemmas.List.Folds.{list_all-append}
 use Rattle.std.specs.List.{list_all, list_any}
 use Rattle.gi_mir.specs.Data.{InstrData, BlockData, FunctionData}
 use Rattle.gi_mir.specs.Edit.{all_instrs, defines, uses, without_instr}
-use Rattle.gi_mir.specs.Formed.{is_def, is_implicit_def, is_physical_def}
-use Rattle.gi_mir.specs.Row.{is_call_op}
 use Rattle.gi_meaning.specs.Meaning.{meaning_of}
 use Rattle.gi_meaning.specs.Runs.{On, Over, Setting, after_phis, from_block, is_phi, joined, phis_of, places_of, put_value, setting_of, value_at, width_of_kind, written_places}
 use Rattle.gi_meaning.specs.State.{IsWorld, Place, State, World}
@@ -22,7 +20,6 @@ use Rattle.gi_refine.proofs.Keeping.{agree_but, all_shown_less, from_seen, kept_
 use Rattle.gi_refine.proofs.Reaching.{followed_within, nothing_followed}
 use Rattle.gi_refine.proofs.Simulating.{followed_on, refined_by_following}
 use Rattle.gi_refine.proofs.Staying.{KeepsWidths, entries_hold_alone, kept_alone, no_phis_after, seen_untouched, uses_hold_alone}
-use Rattle.gi_valid.specs.Definitions.{defines_any_physical}
 use Rattle.gi_valid.specs.Typing.{Phase}
 use Rattle.gi_soundness.specs.Rewriting.{IsOneOf, IsRewritten, Rewriting, block_rewritten, rewritten, standing_for}
 use Rattle.gi_soundness.proofs.Circles.{phis_before}
@@ -31,7 +28,7 @@ use Rattle.gi_soundness.proofs.Stepwise.{are_phis}
 use Rattle.gi_soundness.proofs.Valid.{great_of, known_of}
 use Rattle.gi_refining.proofs.UsingElsewhere.{other_inside}
 use Rattle.gi_rule_valid.proofs.InPlace.{entry_stays}
-use Rattle.gi_rule_refines.proofs.Erased.{IsErased, defined_stays, erased, erasing, is_gone, kind_stays, untouched, used_stays}
+use Rattle.gi_rule_refines.proofs.Erased.{IsErased, defined_stays, defines_none, erased, erasing, is_gone, kind_stays, untouched, used_stays}
 use Rattle.gi_rule_refines.proofs.ErasedLists.{all_left, left, left_next}
 use Rattle.gi_rule_refines.proofs.Giving.{AllHidden, goes_on, places_hidden, put_hidden}
 
@@ -118,11 +115,7 @@ seen_by_other x phase names f id c p there other =
     (untouched (is_gone c.root) p.1.operands (λ r own. defined_stays x phase f id c p there other r own) (λ r used. used_stays x phase f id c p there r used))
 
 gone_places : (x : ℕ) (phase : Phase) (f : FunctionData) (id : ℕ) → (c : IsErased x phase f id) → AllHidden (hiding c.root) (places_of c.root.operands)
-gone_places x phase f id c =
-    let first = and_parts (list_any is_def c.root.operands && not (defines_any_physical c.root)) (not (is_call_op c.root.op)) c.erasable in
-    let second = and_parts (list_any is_def c.root.operands) (not (defines_any_physical c.root)) first.0 in
-    let none = or_parts (list_any is_physical_def c.root.operands) (list_any is_implicit_def c.root.operands) (not-true (defines_any_physical c.root) second.1) in
-    places_hidden (is_gone c.root) c.root.operands none.0 (λ r own. own)
+gone_places x phase f id c = places_hidden (is_gone c.root) c.root.operands (defines_none c.root c.erasable).shown (λ r own. own)
 
 -- ══ Instructions ══
 

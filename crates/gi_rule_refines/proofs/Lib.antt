@@ -2,6 +2,7 @@ pub mod Erased
 pub mod ErasedLists
 pub mod Giving
 pub mod ErasedRuns
+pub mod ErasedExtents
 pub mod Fresh
 pub mod Known
 pub mod Refined

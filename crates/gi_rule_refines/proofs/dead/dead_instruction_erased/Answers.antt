@@ -1,3 +1,4 @@
+use Rattle.gi_rule_refines.proofs.ErasedExtents.{all_available}
 use Rattle.gi_rule_refines.proofs.Erased.{erased, erased_of}
 use Rattle.gi_rule_refines.proofs.ErasedRuns.{erased_refines}
 use Rattle.gi_rule_refines.proofs.dead.dead_instruction_erased.Goals as goal
