@@ -3,6 +3,7 @@ pub mod ErasedLists
 pub mod Giving
 pub mod ErasedRuns
 pub mod ErasedExtents
+pub mod ErasedValid
 pub mod Fresh
 pub mod Known
 pub mod Refined
@@ -10,6 +11,7 @@ pub mod Shown
 pub mod Widths
 pub mod Numbered
 pub mod Good
+pub mod ErasedGood
 pub mod Rewrites
 pub mod Passing
 pub mod Staged
