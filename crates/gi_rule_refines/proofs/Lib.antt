@@ -12,9 +12,11 @@ pub mod Widths
 pub mod Numbered
 pub mod Good
 pub mod ErasedGood
+pub mod Going
 pub mod Rewrites
 pub mod Passing
 pub mod Staged
+pub mod ErasedAt
 pub mod Begun
 pub mod WasRead
 pub mod ConstantRow
