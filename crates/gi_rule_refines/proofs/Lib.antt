@@ -13,6 +13,7 @@ pub mod Numbered
 pub mod Good
 pub mod ErasedGood
 pub mod Going
+pub mod Emptied
 pub mod Rewrites
 pub mod Passing
 pub mod Staged

@@ -6,7 +6,7 @@ ghost use Rattle.gi_mir.specs.Edit.{IsLive, without_instr};
 ghost use Rattle.gi_mir.specs.Formed.{is_formed};
 ghost use Rattle.gi_refine.specs.Refinement.{RefinesUnchecked};
 ghost use Rattle.gi_valid.specs.Definitions.{is_erasable};
-ghost use Rattle.gi_valid.specs.Typing.{Phase};
+ghost use Rattle.gi_valid.specs.Typing.{Phase, Typed};
 ghost use Rattle.gi_rule_refines.specs.Dead.{AreDead, can_go, is_dead, wastes, wastes_less, without_all};
 ghost use Rattle.gi_rule_refines.specs.Good.{IsGood};
 ghost use Rattle.gi_rule_refines.specs.Stages.{IsGoodAt};
@@ -42,8 +42,10 @@ pub fn erasable_instructions_go()
 {}
 
 /// Copies of physical registers, a load, a phi, and what is dead without them; but no phi that takes its own value, no register that
-/// is used, and no branch.
+/// is used, and no branch. The function is good, and so the one without them refines it.
 pub fn example_is_emptied()
+    ensures good { IsGood 32 Typed [] wastes }
+    ensures refines { RefinesUnchecked 32 [] wastes wastes_less }
     ensures dead { AreDead wastes (8 ∷ 10 ∷ 9 ∷ 12 ∷ 14 ∷ []) }
     ensures left { without_all wastes (8 ∷ 10 ∷ 9 ∷ 12 ∷ 14 ∷ []) ≡ wastes_less }
     ensures used { is_dead wastes 9 ≡ false }
