@@ -1,5 +1,5 @@
 -- A constant made by its sequence is a good row, whatever its steps are.
-use Rattle.std.proofs.Common.{◌≡◌, ◌⊎◌, ℕ, zero, suc, ◌+◌, ◌^◌, ◌<◌, Bool, true, nat_le, ◌==◌, List, [], ◌∷◌, ◌++◌, length, Some, slice_get, refl, sym, ap, ◌∙◌, subst, arith, le-leb, lt-ltb}
+use Rattle.std.proofs.Common.{◌≡◌, ◌⊎◌, ℕ, zero, suc, ◌+◌, ◌^◌, ◌<◌, Bool, true, not, nat_le, ◌==◌, List, [], ◌∷◌, ◌++◌, length, Some, slice_get, refl, sym, ap, ◌∙◌, subst, arith, le-leb, lt-ltb}
 use Rattle.std.specs.List.{list_all}
 use Rattle.std.proofs.lemmas.Bool.{and_from, and_parts, eqb-true}
 use Rattle.std.proofs.lemmas.List.Folds.{list_all-append}
@@ -17,7 +17,7 @@ use Rattle.gi_rule_values.specs.declared.rewrite.Slot.TheVariants.{At, Stands}
 use Rattle.gi_rule_values.proofs.ByNumbers.{get_here, longer}
 use Rattle.gi_rule_values.proofs.Materialised.{has_first, materialize_constant_sound}
 use Rattle.gi_rule_values.proofs.Numbers.{same}
-use Rattle.gi_rule_valid.specs.Keeping.{all_types, are_met, are_placed, is_taken}
+use Rattle.gi_rule_valid.specs.Keeping.{all_types, are_met, are_placed, is_taken, may_become_call}
 use Rattle.gi_rule_refines.specs.Computing.{gives}
 use Rattle.gi_rule_refines.specs.Good.{IsGoodRewrite, all_fit, width_at}
 use Rattle.gi_rule_refines.proofs.Passing.{same_type_itself}
@@ -52,6 +52,13 @@ chain_placed slot place type (step ∷ steps) taken =
     by_step (Addi number) taken rest = rw taken rest
     by_step (Addiw number) taken rest = rw taken rest
     by_step (Slli amount) taken rest = rw taken rest
+
+chain_calls : (x : ℕ) (slot : Slot) (place : ℕ) (type : Llt) (steps : List Step) → list_all (λ o. not (may_become_call x o)) (chain slot place type steps) ≡ true
+chain_calls x slot place type [] = refl
+chain_calls x slot place type (Lui number ∷ steps) = chain_calls x (At place) (place + 1) type steps
+chain_calls x slot place type (Addi number ∷ steps) = chain_calls x (At place) (place + 1) type steps
+chain_calls x slot place type (Addiw number ∷ steps) = chain_calls x (At place) (place + 1) type steps
+chain_calls x slot place type (Slli amount ∷ steps) = chain_calls x (At place) (place + 1) type steps
 
 chain_met : (x : ℕ) (types : List Llt) (slot : Slot) (place : ℕ) (type : Llt) (steps : List Step) → are_met x types (chain slot place type steps) ≡ true
 chain_met x types slot place type [] = refl
@@ -115,7 +122,7 @@ first_last type (Slli amount) steps = chain_last (type ∷ []) (At 0) 0 1 type s
 
 pub materialize_constant_good : (x : ℕ) (flags : Flags) (type : Llt) (value : ℕ) → (x ≡ 32) ⊎ (x ≡ 64) → width_of x type ≡ x → value < 2 ^ x → IsGoodRewrite x (materialize_constant flags x type value)
 materialize_constant_good x flags type value word wide fits = record {
-  keeps = rw (chain_placed (Stands (operand.Phys 0)) 0 type (materialised x value) refl, chain_met x [] (Stands (operand.Phys 0)) 0 type (materialised x value)) (rw (last, same_type_itself type, le-leb 0 (chain_place 0 0 (materialised x value)) (omega arith)) refl);
+  keeps = rw (chain_placed (Stands (operand.Phys 0)) 0 type (materialised x value) refl, chain_calls x (Stands (operand.Phys 0)) 0 type (materialised x value), chain_met x [] (Stands (operand.Phys 0)) 0 type (materialised x value)) (rw (last, same_type_itself type, le-leb 0 (chain_place 0 0 (materialised x value)) (omega arith)) refl);
   gives = rw (chain_gives (Stands (operand.Phys 0)) 0 type (materialised x value)) refl;
   fits = let (step, rest, is) = has_first x (signed x value) in subst (λ steps. all_fit x [] (chain (Stands (operand.Phys 0)) 0 type steps) ≡ true) (sym is) (first_fits x type step rest wide);
   sound = materialize_constant_sound x flags type value word wide fits;

@@ -6,9 +6,9 @@ use Rattle.gi_mir.specs.declared.operand.Flags.{Flags}
 use Rattle.gi_mir.specs.declared.operand.Pred.TheVariants.{Sgt, Slt, Ugt, Ult}
 use Rattle.gi_rule_refines.specs.Good.{IsGoodRewrite}
 use Rattle.gi_rule_values.specs.Forms.{s}
-use Rattle.gi_rule_values.specs.Lowering.{lower_abs, lower_better, lower_bswap_32, lower_bswap_64, lower_rotate, lower_sext_inreg, lower_uadde, lower_uaddo, lower_usube, lower_usubo, lower_zero_undef, narrow_add, narrow_anyext, narrow_bswap, narrow_constant, narrow_implicit_def, narrow_logic, narrow_select, narrow_sub, narrow_zext}
+use Rattle.gi_rule_values.specs.Lowering.{lower_abs, lower_better, lower_bswap_32, lower_bswap_64, lower_ctpop_32, lower_ctpop_64, lower_rotate, lower_sext_inreg, lower_uadde, lower_uaddo, lower_usube, lower_usubo, lower_zero_undef, narrow_add, narrow_anyext, narrow_bswap, narrow_constant, narrow_implicit_def, narrow_logic, narrow_select, narrow_sub, narrow_zext}
 use Rattle.gi_rule_values.proofs.Halves.{narrow_add_sound, narrow_anyext_sound, narrow_bswap_sound, narrow_constant_sound, narrow_implicit_def_sound, narrow_select_sound, narrow_sub_sound, narrow_zext_sound}
-use Rattle.gi_rule_values.proofs.Lowering.{lower_abs_sound, lower_bswap_32_sound, lower_bswap_64_sound, lower_uadde_sound, narrow_and_sound, narrow_or_sound, narrow_xor_sound}
+use Rattle.gi_rule_values.proofs.Lowering.{lower_abs_sound, lower_bswap_32_sound, lower_bswap_64_sound, lower_ctpop_32_sound, lower_ctpop_64_sound, lower_uadde_sound, narrow_and_sound, narrow_or_sound, narrow_xor_sound}
 use Rattle.gi_rule_values.proofs.LoweringMore.{lower_ctlz_zero_undef_sound, lower_cttz_zero_undef_sound, lower_rotl_sound, lower_rotr_sound, lower_sext_inreg_sound, lower_smax_sound, lower_smin_sound, lower_uaddo_sound, lower_umax_sound, lower_umin_sound, lower_usube_sound, lower_usubo_sound}
 use Rattle.gi_rule_values.proofs.Numbers.{below_power, same}
 use Rattle.gi_rule_refines.proofs.Passing.{at_words, at_words_if, good_by, high_below, word_condition, word_some}
@@ -36,6 +36,12 @@ lower_bswap_32_good x flags word = at_words (λ x. lower_bswap_32 flags) refl re
 
 pub lower_bswap_64_good : (x : ℕ) (flags : Flags) → (x ≡ 32) ⊎ (x ≡ 64) → IsGoodRewrite x (lower_bswap_64 flags)
 lower_bswap_64_good x flags word = at_words (λ x. lower_bswap_64 flags) refl refl x word (lower_bswap_64_sound x flags)
+
+pub lower_ctpop_32_good : (x : ℕ) (flags : Flags) → (x ≡ 32) ⊎ (x ≡ 64) → IsGoodRewrite x (lower_ctpop_32 flags)
+lower_ctpop_32_good x flags word = at_words (λ x. lower_ctpop_32 flags) refl refl x word (lower_ctpop_32_sound x flags)
+
+pub lower_ctpop_64_good : (flags : Flags) → IsGoodRewrite 64 (lower_ctpop_64 flags)
+lower_ctpop_64_good flags = good_by 64 (lower_ctpop_64 flags) refl (lower_ctpop_64_sound 64 flags)
 
 pub lower_uaddo_good : (x : ℕ) (flags : Flags) (n : ℕ) → 1 ≤ n → n ≤ 2 * x → IsGoodRewrite x (lower_uaddo flags n)
 lower_uaddo_good x flags n some few = good_by x (lower_uaddo flags n) (rw (same n, le-leb 1 n some, le-leb n (2 * x) few) refl) (lower_uaddo_sound x flags n)

@@ -57,7 +57,7 @@ use Rattle.gi_rule_valid.specs.Keeping.{is_fixed, is_taken, places_from, places_
 use Rattle.gi_rule_valid.specs.Using.{AreOfTypes, UseData, all_registers, kind_in, made_of, register_at, rewritten_at, targets_of}
 use Rattle.gi_rule_valid.proofs.InPlace.{is_replaced_by}
 use Rattle.gi_rule_valid.proofs.Lists.{among, as_many, flat, flat_registers, flat_types}
-use Rattle.gi_rule_valid.proofs.Origins.{asked_taken, is_used, plain_for, quiet_computes}
+use Rattle.gi_rule_valid.proofs.Origins.{asked_taken, is_used, plain_for}
 use Rattle.gi_rule_valid.proofs.Targets.{among_at}
 use Rattle.gi_rule_valid.proofs.Valid.{IsMadeResult, IsSeen, IsUse, all_pass, each_once, input_apart, made_defines, made_result, new_kind, new_or_result, new_registers, result_kinds, rewriting_at, root_of, seen}
 use Rattle.gi_rule_refines.specs.Computing.{gives, gives_all}
@@ -326,7 +326,7 @@ use_refines x phase names f id u a =
       no_phi = ap (λ t. cond t ((id, root_of f u c.fits.line) ∷ phis_of (back_of f id)) []) (pure_is_no_phi (root_of f u c.fits.line) s.pure);
       no_new_phi = first_no_phi (with_ids f.next_id (made_of f id u)) (back_of f id) result.0
           (all_of_ids is_plain f.next_id (made_of f id u)
-          ∙ all_pass is_plain (kind_in f) (line_of f id) (targets_of u) u.inputs (length u.inputs) f.next_reg u.rewrite.made s.placed (λ regs rs o count quiet taken. plain_for (kind_in f) regs rs o (line_of f id) count (quiet_computes o quiet) taken))
+          ∙ all_pass is_plain (kind_in f) (line_of f id) (targets_of u) u.inputs (length u.inputs) f.next_reg u.rewrite.made s.placed (λ regs rs o count gives taken. plain_for (kind_in f) regs rs o (line_of f id) count gives taken))
           (made_defines f id u c.fits.line result.0 s ∙ among_at result.0 (new_registers f u) m.k m.at);
       before_clear = all_clear f c.had (front_of f id) (front_inside f id c.live);
       after_clear = all_clear f c.had (back_of f id) (back_inside f id c.live);

@@ -1,5 +1,6 @@
 -- Rules of the legaliser that widen are good.
-use Rattle.std.proofs.Common.{◌≡◌, ℕ, ◌*◌, ◌^◌, ◌≤◌, ◌<◌, [], ◌∷◌, true, refl, arith, le-leb, lt-ltb}
+use Rattle.std.proofs.Common.{◌≡◌, ℕ, ◌*◌, ◌^◌, ◌≤◌, ◌<◌, [], ◌∷◌, true, false, nat_lt, refl, arith, le-leb, lt-ltb}
+use Rattle.std.proofs.lemmas.Bool.Decides.{nat_tests}
 use Rattle.gi_llt.specs.Bits.{sign_extended, signed, wrapped}
 use Rattle.gi_llt.specs.Llt.{width_of}
 use Rattle.gi_llt.specs.declared.Llt.{Llt}
@@ -12,10 +13,10 @@ use Rattle.gi_mir.specs.declared.operand.Pred.TheVariants.{Eq, Ne, Sge, Sgt, Sle
 use Rattle.gi_rule_values.specs.Data.{RewriteData}
 use Rattle.gi_rule_refines.specs.Good.{IsGoodRewrite}
 use Rattle.gi_rule_values.specs.Forms.{s}
-use Rattle.gi_rule_values.specs.Widening.{extension_for, widen_add, widen_and, widen_ashr, widen_cast, widen_condition, widen_constant, widen_ctpop, widen_icmp, widen_icmp_result, widen_implicit_def, widen_lshr, widen_or, widen_select, widen_sext_inreg, widen_shl, widen_sub, widen_xor}
+use Rattle.gi_rule_values.specs.Widening.{extension_for, widen_add, widen_and, widen_ashr, widen_cast, widen_condition, widen_constant, widen_ctpop, widen_icmp, widen_icmp_result, widen_implicit_def, widen_lshr, widen_mul, widen_or, widen_select, widen_sext_inreg, widen_shl, widen_sub, widen_xor}
 use Rattle.gi_rule_values.proofs.Numbers.{same}
 use Rattle.gi_rule_values.proofs.Widening.{widen_add_sound, widen_constant_sound, widen_lshr_sound}
-use Rattle.gi_rule_values.proofs.WideningMore.{widen_and_sound, widen_anyext_sound, widen_ashr_sound, widen_condition_sound, widen_ctpop_sound, widen_icmp_result_sound, widen_icmp_sound, widen_implicit_def_sound, widen_or_sound, widen_select_sound, widen_sext_inreg_sound, widen_sext_sound, widen_shl_sound, widen_sub_sound, widen_xor_sound, widen_zext_sound}
+use Rattle.gi_rule_values.proofs.WideningMore.{widen_and_sound, widen_anyext_sound, widen_ashr_sound, widen_condition_sound, widen_ctpop_sound, widen_icmp_result_sound, widen_icmp_sound, widen_implicit_def_sound, widen_mul_sound, widen_or_sound, widen_select_sound, widen_sext_inreg_sound, widen_sext_sound, widen_shl_sound, widen_sub_sound, widen_xor_sound, widen_zext_sound}
 use Rattle.gi_rule_refines.proofs.Passing.{good_by, passes, same_type_itself, word_condition}
 use Rattle.gi_meaning.proofs.Numbers.{unsigned_below}
 use Rattle.gi_rule_values.specs.Forms.{compare, flagged, on_one, rewrite}
@@ -59,6 +60,11 @@ widen_constant_good x flags n w value some less few fits =
 pub widen_sub_good : (x : ℕ) (flags : Flags) (n w : ℕ) → 1 ≤ n → n < w → w ≤ 2 * x → IsGoodRewrite x (widen_sub flags n w)
 widen_sub_good x flags n w some less few =
     good_by x (widen_sub flags n w) (rw (same w, le-leb 1 w (omega (arith, some, less)), le-leb w (2 * x) few, lt-ltb 1 w (omega (arith, some, less)), le-leb 1 n some, le-leb n (2 * x) (omega (arith, less, few)), lt-ltb n w less, same n, lt-ltb n (2 * x) (omega (arith, less, few))) refl) (widen_sub_sound x flags n w less)
+
+pub widen_mul_good : (x : ℕ) (flags : Flags) (n w : ℕ) → 1 ≤ n → n < w → w ≤ x → IsGoodRewrite x (widen_mul flags n w)
+widen_mul_good x flags n w some less few =
+    let word : nat_lt x w ≡ false = grind (arith, nat_tests, few) in
+    good_by x (widen_mul flags n w) (rw (word, same w, le-leb 1 w (omega (arith, some, less)), le-leb w (2 * x) (omega (arith, few)), lt-ltb 1 w (omega (arith, some, less)), le-leb 1 n some, le-leb n (2 * x) (omega (arith, less, few)), lt-ltb n w less, same n, lt-ltb n (2 * x) (omega (arith, less, few))) refl) (widen_mul_sound x flags n w less)
 
 pub widen_and_good : (x : ℕ) (flags : Flags) (n w : ℕ) → 1 ≤ n → n < w → w ≤ 2 * x → IsGoodRewrite x (widen_and flags n w)
 widen_and_good x flags n w some less few =

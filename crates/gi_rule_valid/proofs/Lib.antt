@@ -1,3 +1,4 @@
+pub mod Calls
 pub mod InPlace
 pub mod Lists
 pub mod Origins

@@ -14,10 +14,11 @@ use Rattle.gi_refine.specs.Lifting.{grown}
 use Rattle.gi_soundness.proofs.KeptKinds.{kind_among}
 use Rattle.gi_soundness.proofs.Made.{count, has_def}
 use Rattle.gi_valid.proofs.Single.{often}
+use Rattle.gi_soundness.specs.Rules.{computes}
 use Rattle.gi_rule_values.specs.Data.{OperationData}
 use Rattle.gi_rule_values.specs.declared.rewrite.Slot.{Slot}
 use Rattle.gi_rule_values.specs.declared.rewrite.Slot.TheVariants.{At, Stands}
-use Rattle.gi_rule_valid.specs.Keeping.{are_placed, is_fixed, is_quiet, is_taken}
+use Rattle.gi_rule_valid.specs.Keeping.{are_placed, is_fixed, is_taken}
 use Rattle.gi_rule_valid.specs.Using.{all_instrs_for, all_registers, defined_as, next_behind, next_for, operand_for, or_new, place_for, registers_for, target_at}
 
 -- ══ Lists ══
@@ -130,15 +131,15 @@ kinds_are kind r (q ∷ rs) (t ∷ ts) os many none = ap (first_there (cond (q =
 
 -- what is asked of each operation
 pub record IsPlacedOne (count : ℕ) (o : OperationData) (os : List OperationData) : Type 0 where
-  pub quiet : is_quiet o.op ≡ true
+  pub computes : computes o.op ≡ true
   pub taken : list_all (is_taken count) o.slots ≡ true
   pub rest : are_placed (place_for count o.types) os ≡ true
 
 pub placed_one : (count : ℕ) (o : OperationData) (os : List OperationData) → are_placed count (o ∷ os) ≡ true → IsPlacedOne count o os
 placed_one count o os h =
-    let first = and_parts (is_quiet o.op && list_all (is_taken count) o.slots) (are_placed (place_for count o.types) os) h in
-    let second = and_parts (is_quiet o.op) (list_all (is_taken count) o.slots) first.0 in
-    record { quiet = second.0; taken = second.1; rest = first.1 }
+    let first = and_parts (computes o.op && list_all (is_taken count) o.slots) (are_placed (place_for count o.types) os) h in
+    let second = and_parts (computes o.op) (list_all (is_taken count) o.slots) first.0 in
+    record { computes = second.0; taken = second.1; rest = first.1 }
 
 pub record IsListed (kind : Llt → Kind) (is : List InstrData) (rs : List ℕ) (types : List Llt) : Type 0 where
   pub counts : (r : ℕ) → count r is ≡ often r rs

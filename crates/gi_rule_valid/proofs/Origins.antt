@@ -1,6 +1,6 @@
 -- What is made computes from what the root's results are computed from.
 use Rattle.std.proofs.Common.{◌≡◌, ℕ, zero, suc, ◌+◌, ◌≤◌, ◌<◌, Bool, true, false, not, ◌&&◌, ◌||◌, ◌==◌, nat_lt, List, [], ◌∷◌, ◌++◌, Some, length, map, slice_get, inl, inr, ⊎_elim, ◌⊎◌, refl, sym, ap, ap₂, ◌∙◌, subst, arith, ltb-true, append_assoc}
-use Rattle.std.proofs.lemmas.Bool.{and_parts, and_from, or_cases, or_left, or_right, eqb-true, eq-eqb, not-true}
+use Rattle.std.proofs.lemmas.Bool.{and_parts, and_from, or_cases, or_left, or_right, eqb-true, eq-eqb}
 use Rattle.std.proofs.lemmas.List.Folds.{list_any-append}
 use Rattle.std.proofs.lemmas.Bool.Decides.{nat_tests}
 use Rattle.std.specs.List.{list_all, list_any}
@@ -12,23 +12,21 @@ use Rattle.gi_mir.specs.Formed.{is_def, is_physical, is_physical_def, is_implici
 use Rattle.gi_mir.specs.declared.operand.Kind.{Kind}
 use Rattle.gi_mir.specs.declared.operand.Operand.{Operand}
 use Rattle.gi_mir.specs.declared.operand.Operand.TheVariants as operand
-use Rattle.gi_meaning.specs.InRow.{results_in}
 use Rattle.gi_refine.specs.Lifting.{grown}
 use Rattle.gi_valid.specs.Definitions.{definition, defines_any_physical, is_copy, is_erasable, is_pure, uses_purely}
-use Rattle.gi_valid.specs.Faults.{definitions, is_division, is_product, is_wider, times}
-use Rattle.gi_valid.specs.Typing.{Phase}
+use Rattle.gi_valid.specs.Faults.{definitions, times}
 use Rattle.gi_soundness.specs.Conditions.{is_plain, is_plain_operand}
 use Rattle.gi_soundness.specs.Rewriting.{IsOneOf}
 use Rattle.gi_soundness.specs.Rules.{computes, is_in}
 use Rattle.gi_soundness.proofs.Binding.{in_first_or_rest}
 use Rattle.gi_soundness.proofs.Circles.{computed_on, is_definition, joining_is}
 use Rattle.gi_soundness.proofs.Found.{FromRoot}
-use Rattle.gi_soundness.proofs.Made.{ReadsWell, has_def, never_calls}
+use Rattle.gi_soundness.proofs.Made.{ReadsWell, has_def}
 use Rattle.gi_soundness.proofs.Matching.{computing}
 use Rattle.gi_rule_values.specs.Data.{DefinitionData, OperationData}
 use Rattle.gi_rule_values.specs.declared.rewrite.Slot.{Slot}
 use Rattle.gi_rule_values.specs.declared.rewrite.Slot.TheVariants.{At, Stands}
-use Rattle.gi_rule_valid.specs.Keeping.{are_origins, are_placed, is_asked, is_fixed, is_number, is_quiet, is_taken, places_from, places_taken}
+use Rattle.gi_rule_valid.specs.Keeping.{are_origins, are_placed, is_asked, is_fixed, is_number, is_taken, places_from, places_taken}
 use Rattle.gi_rule_valid.specs.Using.{AreDefined, all_instrs_for, defined_as, instr_for, kind_in, next_for, operand_for, place_for, register_at, registers_for}
 use Rattle.gi_rule_valid.proofs.Lists.{as_many, defines_are, placed_one, slots_none}
 use Rattle.gi_rule_valid.proofs.Targets.{among_at}
@@ -117,16 +115,6 @@ pure_for kind registers rs o line count h slots many some =
     let none : defines_any_physical (instr_for kind registers rs o line) ≡ false = ap₂ (λ s t. s || t) operands.no_def operands.no_implicit in
     let erasable : is_erasable (instr_for kind registers rs o line) ≡ true = ap₂ (λ s t. s && not t) (ap₂ (λ s t. s && not t) (some_def kind rs o.types (map (operand_for registers) o.slots) many some) none) c.no_call in
     ap₂ (λ s t. s && not t) (ap₂ (λ s t. s && not t) (ap₂ (λ s t. s && not t) erasable c.no_load) c.no_phi) (ap (λ t. is_copy o.op && t) physical ∙ and_none (is_copy o.op))
-
-pub calls_none : (x : ℕ) (phase : Phase) (g : FunctionData) (kind : Llt → Kind) (registers rs : List ℕ) (o : OperationData) (line : ℕ) → is_quiet o.op ≡ true → never_calls x phase g (instr_for kind registers rs o line) ≡ true
-calls_none x phase g kind registers rs o line h =
-    let first = and_parts (computes o.op && not (is_division o.op)) (not (is_product o.op)) h in
-    let second = and_parts (computes o.op) (not (is_division o.op)) first.0 in
-    let c = computing o.op second.0 in
-    ap₂ (λ s t. not (s || t)) (ap₂ (λ s t. s || t) c.no_call (not-true (is_division o.op) second.1)) (ap (λ s. s && is_wider x phase g (results_in (instr_for kind registers rs o line).operands)) (not-true (is_product o.op) first.1))
-
-pub quiet_computes : (o : OperationData) → is_quiet o.op ≡ true → computes o.op ≡ true
-quiet_computes o h = (and_parts (computes o.op) (not (is_division o.op)) (and_parts (computes o.op && not (is_division o.op)) (not (is_product o.op)) h).0).0
 
 -- ══ What an instruction uses ══
 

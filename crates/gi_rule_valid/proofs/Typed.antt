@@ -255,7 +255,7 @@ suited x tg kind registers rs types place o line c none =
 
 -- ══ All ══
 
-split_somes : (tg : ℕ → Option Llt) (xs ys : List ℕ) (ts us : List Llt) → length xs ≡ length ts → map tg (xs ++ ys) ≡ somes (ts ++ us) → (map tg xs ≡ somes ts) × (map tg ys ≡ somes us)
+pub split_somes : (tg : ℕ → Option Llt) (xs ys : List ℕ) (ts us : List Llt) → length xs ≡ length ts → map tg (xs ++ ys) ≡ somes (ts ++ us) → (map tg xs ≡ somes ts) × (map tg ys ≡ somes us)
 split_somes tg [] ys [] us many h = (refl, h)
 split_somes tg [] ys (t ∷ ts) us many h = cc
 split_somes tg (x ∷ xs) ys [] us many h = cc

@@ -34,11 +34,12 @@ use Rattle.gi_soundness.proofs.Scaled.{kind_new}
 use Rattle.gi_soundness.proofs.Typed.{in_list, kind_kept, no_kind_in, origin_used, other_alike}
 use Rattle.gi_soundness.proofs.Valid.{great_of, known_of, stays_valid}
 use Rattle.gi_rule_values.specs.Data.{OperationData, RewriteData}
-use Rattle.gi_rule_valid.specs.Keeping.{all_types, are_met, gives_types, are_origins, are_placed, are_results, has_type, is_asked, is_quiet, is_taken, keeps, places_from, places_taken}
+use Rattle.gi_rule_valid.specs.Keeping.{all_types, are_met, gives_types, are_origins, are_placed, are_results, has_type, is_asked, is_taken, keeps, makes_no_call, places_from, places_taken}
 use Rattle.gi_rule_valid.specs.Using.{AreOfTypes, FitsAt, UseData, all_instrs_for, all_registers, instr_for, kind_in, made_of, next_for, operand_for, place_for, register_at, registers_for, rewritten_at, target_at, targets_of}
+use Rattle.gi_rule_valid.proofs.Calls.{none_called}
 use Rattle.gi_rule_valid.proofs.InPlace.{is_replaced_by, replacing}
 use Rattle.gi_rule_valid.proofs.Lists.{IsListed, all_listed, among, as_many, defines_are, flat, flat_registers, flat_types, kind_at, kinds_are, placed_one, results_are, slots_none}
-use Rattle.gi_rule_valid.proofs.Origins.{AreSources, all_ready, asked_taken, calls_none, input_source, origins_sources, plain_for, pure_for, quiet_computes, root_sources}
+use Rattle.gi_rule_valid.proofs.Origins.{AreSources, all_ready, asked_taken, input_source, origins_sources, plain_for, pure_for, root_sources}
 use Rattle.gi_rule_valid.proofs.Targets.{IsTargetOf, among_at, kind_there, made_once, new_or_target, seconds, seconds_among, seconds_often, target_made, target_of}
 use Rattle.gi_rule_valid.proofs.Typed.{all_suited, all_types_are, somes}
 
@@ -50,6 +51,7 @@ pub record IsKeeping (x : ℕ) (r : RewriteData) : Type 0 where
   pub slots : list_all (is_asked (length r.inputs)) r.root.slots ≡ true
   pub origins : are_origins (places_taken r.root.slots) r.definitions (length r.inputs) (places_from 0 r.inputs) ≡ true
   pub placed : are_placed (length r.inputs) r.made ≡ true
+  pub calls : makes_no_call x r ≡ true
   pub met : are_met x r.inputs r.made ≡ true
   pub results : are_results (all_types r.inputs r.made) (length r.inputs) r.results r.root.types ≡ true
 
@@ -60,14 +62,16 @@ keeping x r h =
     let C : Bool = list_all (is_asked (length r.inputs)) r.root.slots in
     let D : Bool = are_origins (places_taken r.root.slots) r.definitions (length r.inputs) (places_from 0 r.inputs) in
     let E : Bool = are_placed (length r.inputs) r.made in
-    let F : Bool = are_met x r.inputs r.made in
-    let first = and_parts (A && B && C && D && E && F) (are_results (all_types r.inputs r.made) (length r.inputs) r.results r.root.types) h in
-    let second = and_parts (A && B && C && D && E) F first.0 in
-    let third = and_parts (A && B && C && D) E second.0 in
-    let fourth = and_parts (A && B && C) D third.0 in
-    let fifth = and_parts (A && B) C fourth.0 in
-    let sixth = and_parts A B fifth.0 in
-    record { computes = sixth.0; some = sixth.1; slots = fifth.1; origins = fourth.1; placed = third.1; met = second.1; results = first.1 }
+    let F : Bool = makes_no_call x r in
+    let G : Bool = are_met x r.inputs r.made in
+    let first = and_parts (A && B && C && D && E && F && G) (are_results (all_types r.inputs r.made) (length r.inputs) r.results r.root.types) h in
+    let second = and_parts (A && B && C && D && E && F) G first.0 in
+    let third = and_parts (A && B && C && D && E) F second.0 in
+    let fourth = and_parts (A && B && C && D) E third.0 in
+    let fifth = and_parts (A && B && C) D fourth.0 in
+    let sixth = and_parts (A && B) C fifth.0 in
+    let seventh = and_parts A B sixth.0 in
+    record { computes = seventh.0; some = seventh.1; slots = sixth.1; origins = fifth.1; placed = fourth.1; calls = third.1; met = second.1; results = first.1 }
 
 -- ══ Types ══
 
@@ -109,7 +113,7 @@ same_many f (r ∷ rs) (t ∷ ts) are = ap suc (same_many f rs ts are.1)
 -- ══ All that is made ══
 
 pub all_pass : (test : InstrData → Bool) (kind : Llt → Kind) (line : ℕ) (targets : List (ℕ × ℕ)) (registers : List ℕ) (place next : ℕ) (os : List OperationData) → are_placed place os ≡ true
-    → ((regs rs : List ℕ) (o : OperationData) (count : ℕ) → is_quiet o.op ≡ true → list_all (is_taken count) o.slots ≡ true → test (instr_for kind regs rs o line) ≡ true)
+    → ((regs rs : List ℕ) (o : OperationData) (count : ℕ) → computes o.op ≡ true → list_all (is_taken count) o.slots ≡ true → test (instr_for kind regs rs o line) ≡ true)
     → list_all test (all_instrs_for kind line targets registers place next os) ≡ true
 all_pass test kind line targets registers place next [] h each = refl
 all_pass test kind line targets registers place next (o ∷ os) h each =
@@ -117,7 +121,7 @@ all_pass test kind line targets registers place next (o ∷ os) h each =
     let rs : List ℕ = registers_for targets place next o.types in
     let later : List ℕ = grown registers rs in
     and_from (test (instr_for kind registers rs o line)) (list_all test (all_instrs_for kind line targets (grown registers rs) (place_for place o.types) (next_for targets place next o.types) os))
-    (each registers rs o place one.quiet one.taken) (all_pass test kind line targets (grown registers rs) (place_for place o.types) (next_for targets place next o.types) os one.rest each)
+    (each registers rs o place one.computes one.taken) (all_pass test kind line targets (grown registers rs) (place_for place o.types) (next_for targets place next o.types) os one.rest each)
 
 -- ══ A use ══
 
@@ -362,7 +366,7 @@ stays_valid_at x phase f id u types c =
       root = plain_for (kind_in f) u.inputs u.results u.rewrite.root c.fits.line (length u.rewrite.inputs) c.keeps.computes (asked_taken (length u.rewrite.inputs) u.rewrite.root.slots c.keeps.slots);
       made = all_of_ids is_plain f.next_id (made_of f id u)
           ∙ all_pass is_plain (kind_in f) (line_of f id) (targets_of u) u.inputs (length u.inputs) f.next_reg u.rewrite.made s.placed
-          (λ regs rs o count quiet taken. plain_for (kind_in f) regs rs o (line_of f id) count (quiet_computes o quiet) taken);
+          (λ regs rs o count gives taken. plain_for (kind_in f) regs rs o (line_of f id) count gives taken);
     }
 
     is_new : (r : ℕ) → f.next_reg ≤ r → IsNew f r
@@ -422,6 +426,5 @@ stays_valid_at x phase f id u types c =
     calls = record {
       made = λ p there. not-true (may_call x phase (rewritten_at f id u) p.1) (one_passes (λ (q : ℕ × InstrData). never_calls x phase (rewritten_at f id u) q.1) p (rewriting_at f id u c.fits.line).made
           (all_of_ids (never_calls x phase (rewritten_at f id u)) f.next_id (made_of f id u)
-          ∙ all_pass (never_calls x phase (rewritten_at f id u)) (kind_in f) (line_of f id) (targets_of u) u.inputs (length u.inputs) f.next_reg u.rewrite.made s.placed
-          (λ regs rs o count quiet taken. calls_none x phase (rewritten_at f id u) (kind_in f) regs rs o (line_of f id) quiet)) there);
+          ∙ none_called x phase (rewritten_at f id u) (kind_in f) (line_of f id) (targets_of u) u.inputs (length u.inputs) f.next_reg u.rewrite.made s.placed c.keeps.calls (made_typed x phase f id u types c)) there);
     }

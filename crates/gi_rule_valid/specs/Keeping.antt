@@ -1,12 +1,12 @@
 -- Tests of a rewrite's own list, by which functions stay valid, where x is the width of a machine register in bits. They look
 -- at no number, and are linear in the list.
-use Rattle.std.specs.Prelude.{ℕ, ◌+◌, Bool, true, false, not, ◌&&◌, ◌==◌, nat_lt, nat_le, List, [], ◌∷◌, ◌++◌, Option, Some, None, is_none, length, map, slice_get}
+use Rattle.std.specs.Prelude.{ℕ, ◌+◌, Bool, true, false, not, ◌&&◌, ◌||◌, ◌==◌, nat_lt, nat_le, List, [], ◌∷◌, ◌++◌, Option, Some, None, is_none, length, map, slice_get}
 use Rattle.std.specs.List.{list_all}
 use Rattle.std.specs.Option.{option_map_or}
+use Rattle.gi_llt.specs.Llt.{width_of}
 use Rattle.gi_llt.specs.declared.Llt.{Llt}
 use Rattle.gi_mir.specs.Data.{InstrData, reg_of}
 use Rattle.gi_mir.specs.Types.{same_type}
-use Rattle.gi_mir.specs.declared.opcode.Opcode.{Opcode}
 use Rattle.gi_mir.specs.declared.operand.Kind.TheVariants.{Generic}
 use Rattle.gi_mir.specs.declared.operand.Operand.{Operand}
 use Rattle.gi_mir.specs.declared.operand.Operand.TheVariants as operand
@@ -69,14 +69,25 @@ places_from place (ty ∷ types) = place ∷ places_from (place + 1) types
 
 -- ══ What is made ══
 
--- it computes, and isn't what may come to be a call
-abbrev pub is_quiet : Opcode → Bool
-is_quiet op = computes op && not (is_division op) && not (is_product op)
-
--- each takes places before it
+-- each computes from places before it
 abbrev pub are_placed : (count : ℕ) → List OperationData → Bool
 are_placed count [] = true
-are_placed count (o ∷ os) = is_quiet o.op && list_all (is_taken count) o.slots && are_placed (place_for count o.types) os
+are_placed count (o ∷ os) = computes o.op && list_all (is_taken count) o.slots && are_placed (place_for count o.types) os
+
+-- ══ Calls ══
+
+-- the first of these types is wider than a register
+abbrev pub begins_wide : (x : ℕ) → List Llt → Bool
+begins_wide x [] = false
+begins_wide x (ty ∷ types) = nat_lt x (width_of x ty)
+
+-- it may come to be a call: a division, or a product wider than a register
+abbrev pub may_become_call : (x : ℕ) → OperationData → Bool
+may_become_call x o = is_division o.op || (is_product o.op && begins_wide x o.types)
+
+-- none of what is made may
+abbrev pub makes_no_call : (x : ℕ) → RewriteData → Bool
+makes_no_call x rewrite = list_all (λ o. not (may_become_call x o)) rewrite.made
 
 -- ══ Types ══
 
@@ -122,14 +133,15 @@ are_results types count _ _ = false
 
 -- ══ All ══
 
--- The root computes a result from its operands, from which the inputs come by the definitions; what is made computes from places before it, in types that
--- meet its rows, each result of the root once.
+-- The root computes a result from its operands, from which the inputs come by the definitions; what is made computes from places before it, without calls, in
+-- types that meet its rows, each result of the root once.
 abbrev pub keeps : (x : ℕ) → RewriteData → Bool
 keeps x rewrite =
     computes rewrite.root.op && nat_lt 0 (length rewrite.root.types)
     && list_all (is_asked (length rewrite.inputs)) rewrite.root.slots
     && are_origins (places_taken rewrite.root.slots) rewrite.definitions (length rewrite.inputs) (places_from 0 rewrite.inputs)
     && are_placed (length rewrite.inputs) rewrite.made
+    && makes_no_call x rewrite
     && are_met x rewrite.inputs rewrite.made
     && are_results (all_types rewrite.inputs rewrite.made) (length rewrite.inputs) rewrite.results rewrite.root.types
 
