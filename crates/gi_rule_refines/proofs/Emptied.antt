@@ -1,5 +1,5 @@
 -- An example function without its dead instructions: every premise is computed.
-use Rattle.std.proofs.Common.{◌≡◌, ℕ, List, true, [], ◌∷◌, inl, refl}
+use Rattle.std.proofs.Common.{◌≡◌, true, [], ◌∷◌, inl, refl}
 use Rattle.std.specs.Int.RustNames.{count_ones}
 use Rattle.gi_mir.specs.Formed.{is_formed}
 use Rattle.gi_refine.specs.Refinement.{RefinesUnchecked}

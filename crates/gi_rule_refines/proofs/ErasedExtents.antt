@@ -1,5 +1,5 @@
 -- Registers that the erased instruction doesn't define are available where they were, and nothing reads the others.
-use Rattle.std.proofs.Common.{◌≡◌, ℕ, zero, suc, Bool, true, false, cond, not, ◌&&◌, ◌||◌, ◌==◌, nat_lt, List, [], ◌∷◌, ◌++◌, Option, Some, None, find, length, slice_get, inl, inr, ⊎_elim, refl, sym, ap, ap₂, ◌∙◌, subst, true≢false, append-nil}
+use Rattle.std.proofs.Common.{◌≡◌, ℕ, zero, suc, Bool, true, false, cond, not, ◌||◌, ◌==◌, nat_lt, List, [], ◌∷◌, ◌++◌, Option, Some, None, find, length, inl, inr, ⊎_elim, refl, sym, ap, ap₂, ◌∙◌, subst, true≢false, append-nil}
 use Rattle.std.proofs.lemmas.Bool.{and_from, and_parts, or_cases, or_left, or_right, eq-eqb, false_from_ne_true}
 use Rattle.std.specs.List.{list_all, list_any}
 use Rattle.std.specs.Option.{option_or}
@@ -9,9 +9,8 @@ use Rattle.gi_mir.specs.Places.{body_at}
 use Rattle.gi_mir.specs.declared.operand.Operand.{Operand}
 use Rattle.gi_mir.specs.declared.operand.Operand.TheVariants as operand
 use Rattle.gi_meaning.specs.Runs.{entry_of, is_among, is_phi}
-use Rattle.gi_pattern.specs.InPlace.{entry_renamed}
-use Rattle.gi_valid.specs.Available.{Extent, IsDefinedInReach, IsExtent, IsReachedBlock, at_end, behind, is_physical_there, successors_of}
-use Rattle.gi_valid.specs.Definitions.{IsComputedFrom, IsComputedOver, definition, defines_physical, uses_purely}
+use Rattle.gi_valid.specs.Available.{Extent, IsDefinedInReach, IsExtent, at_end, behind, is_physical_there}
+use Rattle.gi_valid.specs.Definitions.{IsComputedOver, definition, defines_physical, uses_purely}
 use Rattle.gi_valid.specs.Faults.{Site, is_there, missing_entries, missing_entry, missing_use, not_available, sites, told}
 use Rattle.gi_valid.specs.Typing.{Phase}
 use Rattle.gi_valid.specs.declared.invalid.Invalid.{Invalid}

@@ -1,17 +1,16 @@
 -- A function without a dead instruction does what the function with it may do.
-use Rattle.std.proofs.Common.{◌≡◌, ℕ, zero, suc, Bool, true, false, cond, not, ◌&&◌, ◌==◌, List, [], ◌∷◌, ◌++◌, Option, Some, None, map, slice_get, option_map, inl, inr, ⊎_elim, refl, sym, ap, ap₂, ◌∙◌, subst, true≢false, append_assoc, append-nil}
-use Rattle.std.proofs.lemmas.Bool.{and_parts, and_from, or_parts, false_from_ne_true, not-true}
+use Rattle.std.proofs.Common.{◌≡◌, ℕ, zero, suc, Bool, true, false, cond, not, ◌&&◌, ◌==◌, List, [], ◌∷◌, ◌++◌, Option, Some, None, map, slice_get, option_map, inl, inr, ⊎_elim, refl, sym, ap, ap₂, ◌∙◌, subst, true≢false, append_assoc}
+use Rattle.std.proofs.lemmas.Bool.{and_parts, and_from, false_from_ne_true, not-true}
 use Rattle.std.proofs.lemmas.List.Folds.{list_all-append}
-use Rattle.std.specs.List.{list_all, list_any}
+use Rattle.std.specs.List.{list_all}
 use Rattle.gi_mir.specs.Data.{InstrData, BlockData, FunctionData}
-use Rattle.gi_mir.specs.Edit.{all_instrs, defines, uses, without_instr}
+use Rattle.gi_mir.specs.Edit.{all_instrs, without_instr}
 use Rattle.gi_meaning.specs.Meaning.{meaning_of}
 use Rattle.gi_meaning.specs.Runs.{On, Over, Setting, after_phis, from_block, is_phi, joined, phis_of, places_of, put_value, setting_of, value_at, width_of_kind, written_places}
 use Rattle.gi_meaning.specs.State.{IsWorld, Place, State, World}
 use Rattle.gi_meaning.specs.State as an_outcome
-use Rattle.gi_pattern.specs.InPlace.{entry_renamed}
 use Rattle.gi_refine.specs.Agreement.{Agree, AgreeAt, AgreeEntering, all_shown}
-use Rattle.gi_refine.specs.Kept.{AreSeenAs, HasSameValue, IsKept}
+use Rattle.gi_refine.specs.Kept.{AreSeenAs, HasSameValue}
 use Rattle.gi_refine.specs.OnePlace.{only_virtual}
 use Rattle.gi_refine.specs.Refinement.{RefinesUnchecked}
 use Rattle.gi_refine.specs.Simulation.{IsBlockFollowed, IsFollowed, PhisStand, PlaceFollowed, Stands}
@@ -21,13 +20,12 @@ use Rattle.gi_refine.proofs.Reaching.{followed_within, nothing_followed}
 use Rattle.gi_refine.proofs.Simulating.{followed_on, refined_by_following}
 use Rattle.gi_refine.proofs.Staying.{KeepsWidths, entries_hold_alone, kept_alone, no_phis_after, seen_untouched, uses_hold_alone}
 use Rattle.gi_valid.specs.Typing.{Phase}
-use Rattle.gi_soundness.specs.Rewriting.{IsOneOf, IsRewritten, Rewriting, block_rewritten, rewritten, standing_for}
+use Rattle.gi_soundness.specs.Rewriting.{IsOneOf, Rewriting, block_rewritten}
 use Rattle.gi_soundness.proofs.Circles.{phis_before}
 use Rattle.gi_soundness.proofs.Sites.{IsSite}
 use Rattle.gi_soundness.proofs.Stepwise.{are_phis}
-use Rattle.gi_soundness.proofs.Valid.{great_of, known_of}
+use Rattle.gi_soundness.proofs.Valid.{known_of}
 use Rattle.gi_refining.proofs.UsingElsewhere.{other_inside}
-use Rattle.gi_rule_valid.proofs.InPlace.{entry_stays}
 use Rattle.gi_rule_refines.proofs.Erased.{IsErased, defined_stays, defines_none, erased, erasing, is_gone, kind_stays, untouched, used_stays}
 use Rattle.gi_rule_refines.proofs.ErasedLists.{all_left, left, left_next}
 use Rattle.gi_rule_refines.proofs.Giving.{AllHidden, goes_on, places_hidden, put_hidden}

@@ -1,16 +1,16 @@
 -- A valid function without a dead instruction is valid.
-use Rattle.std.proofs.Common.{◌≡◌, ℕ, ◌+◌, ◌≤◌, Bool, true, false, cond, not, ◌&&◌, ◌||◌, ◌==◌, List, [], ◌∷◌, ◌++◌, Option, Some, None, find, map, option_map, inl, inr, ⊎_elim, refl, sym, ap, ap₂, ◌∙◌, subst, arith, true≢false}
-use Rattle.std.proofs.lemmas.Bool.{and_from, and_parts, or_cases, or_from, or_left, or_parts, or_right, false_from_ne_true, not-true}
+use Rattle.std.proofs.Common.{◌≡◌, ℕ, Bool, true, false, cond, not, ◌&&◌, ◌||◌, ◌==◌, List, [], ◌∷◌, Option, Some, None, find, option_map, inl, inr, ⊎_elim, refl, sym, ap, ap₂, ◌∙◌, subst, arith, true≢false}
+use Rattle.std.proofs.lemmas.Bool.{and_from, and_parts, or_cases, or_from, or_left, or_parts, or_right}
 use Rattle.std.specs.List.{list_all, list_any, range_with_len}
 use Rattle.gi_mir.specs.Data.{InstrData, FunctionData, reg_of}
-use Rattle.gi_mir.specs.Edit.{all_instrs, defines, uses, without_instr}
+use Rattle.gi_mir.specs.Edit.{all_instrs, defines, without_instr}
 use Rattle.gi_mir.specs.Registers.{type_of_kind}
 use Rattle.gi_mir.specs.Row.{is_branch_op, is_call_op, is_terminator_op, is_unconditional_op}
 use Rattle.gi_meaning.specs.InRow.{results_in}
 use Rattle.gi_meaning.specs.Runs.{is_among, is_phi}
-use Rattle.gi_valid.specs.Available.{is_physical_there, predecessors, successors_of}
+use Rattle.gi_valid.specs.Available.{is_physical_there, predecessors}
 use Rattle.gi_valid.specs.Definitions.{defines_physical, reads_physical}
-use Rattle.gi_valid.specs.Faults.{Site, are_entries, blocks_in, goes_across, has_late, is_division, is_late, is_product, is_used_first, is_wider, phi_entries, physical_across, sites, stands_first, terminator, told, type_mismatch, unknown_among, unknown_block}
+use Rattle.gi_valid.specs.Faults.{Site, are_entries, blocks_in, goes_across, is_division, is_product, is_used_first, is_wider, phi_entries, physical_across, sites, stands_first, terminator, told, type_mismatch, unknown_block}
 use Rattle.gi_valid.specs.Typing.{Phase, mismatch, type_in}
 use Rattle.gi_valid.specs.Valid.{IsValid}
 use Rattle.gi_valid.specs.declared.invalid.Invalid.{Invalid}
@@ -29,7 +29,7 @@ use Rattle.gi_soundness.proofs.Sites.{IsSite, nothing_new, site_inside, site_own
 use Rattle.gi_soundness.proofs.Typed.{mismatch_left, results_alike, type_alike}
 use Rattle.gi_soundness.proofs.Valid.{AreQuietAll, faultless_of, great_of, quiet_of}
 use Rattle.gi_rule_valid.proofs.InPlace.{entry_stays}
-use Rattle.gi_rule_refines.proofs.Erased.{IsErased, defined_stays, erased, erasing, gone_defines_none, is_gone, kind_stays, used_stays}
+use Rattle.gi_rule_refines.proofs.Erased.{IsErased, defined_stays, erased, erasing, gone_defines_none, kind_stays, used_stays}
 use Rattle.gi_rule_refines.proofs.ErasedExtents.{all_available, extent_holds, extent_left, quiet_kept}
 use Rattle.gi_rule_refines.proofs.ErasedLists.{IsAlone, all_left, any_before, left, left_next, none_comes}
 

@@ -1,6 +1,6 @@
 -- A formed instruction that defines virtual registers alone, and is no call, does nothing else.
 use Rattle.std.proofs.Common.{◌≡◌, Bool, true, false, not, ◌&&◌, ◌||◌, List, [], ◌∷◌, Option, Some, None, cond, ⊎_elim, refl, sym, ap, ap₂, ◌∙◌, true≢false}
-use Rattle.std.proofs.lemmas.Bool.{and_from, and_parts, or_cases, false_from_ne_true}
+use Rattle.std.proofs.lemmas.Bool.{and_from, and_parts, or_cases}
 use Rattle.std.specs.List.{list_all, list_any}
 use Rattle.std.specs.Option.{option_map_or}
 use Rattle.gi_mir.specs.Data.{InstrData}
