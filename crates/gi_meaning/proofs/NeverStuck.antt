@@ -35,7 +35,7 @@ found A P there = λ none. none there.0 there.1
 -- ══ What is given ══
 
 -- there is something among what is given, or it is undefined
-abbrev IsOpen : Given → Type 0
+abbrev pub IsOpen : Given → Type 0
 IsOpen (LowBits known width value) = known ≤ width
 IsOpen _ = Unit {0}
 
@@ -45,13 +45,13 @@ low_part known width value within =
     let room : 2 ^ known ≤ 2 ^ width = pow-le-pow_right (lit< tt) within in
     omega (arith, small, room)
 
-answers_there : (g : Given) (outside : Outside) → IsOpen g → (answer : Answer) × Answers g outside answer
+pub answers_there : (g : Given) (outside : Outside) → IsOpen g → (answer : Answer) × Answers g outside answer
 answers_there (Exactly results) outside h = (Results results outside, (results, refl, refl))
 answers_there (LowBits known width value) outside h =
     (Results (value % 2 ^ known ∷ []) outside, (value % 2 ^ known ∷ [], (value % 2 ^ known, low_part known width value h, mod-mod value (2 ^ known), refl), refl))
 answers_there a_given.Undefined outside h = (an_answer.Undefined, refl)
 
-words_there : (x : ℕ) (widths : List ℕ) (g : Given) (outside : Outside) → IsOpen g → (answer : Answer) × AnswersWords x widths g outside answer
+pub words_there : (x : ℕ) (widths : List ℕ) (g : Given) (outside : Outside) → IsOpen g → (answer : Answer) × AnswersWords x widths g outside answer
 words_there x widths (Exactly words) outside h = (Results (all_fitted x widths words) outside, (words, refl, refl))
 words_there x widths (LowBits known width value) outside h = (
   Results (all_fitted x widths (value % 2 ^ known ∷ [])) outside,
@@ -85,7 +85,7 @@ copied_open : (m n value : ℕ) → IsOpen (copied m n value)
 copied_open m n value =
     low_open (nat_lt m n) m n value (cond (m == n) (one value) (one (wrapped n value))) refl (either_open (m == n) (one value) (one (wrapped n value)) tt tt)
 
-copy_open : (widths : List ℕ) (arguments : List Argument) → IsOpen (copy widths arguments)
+pub copy_open : (widths : List ℕ) (arguments : List Argument) → IsOpen (copy widths arguments)
 copy_open (n ∷ []) (Value m value ∷ []) = copied_open m n value
 copy_open _ _ = tt
 
@@ -168,12 +168,12 @@ rv64_open f h x arguments = if_open (x == 64) (f x arguments) (h x arguments)
 
 -- ══ Opcodes ══
 
-abbrev OpenMeaning : Meaning → Type 0
+abbrev pub OpenMeaning : Meaning → Type 0
 OpenMeaning (Generic gives) = (widths : List ℕ) (arguments : List Argument) → IsOpen (gives widths arguments)
 OpenMeaning (Machine gives) = (x : ℕ) (arguments : List Argument) → IsOpen (gives x arguments)
 OpenMeaning _ = Unit {0}
 
-open_meaning : (flags : Flags) (o : Opcode) → OpenMeaning (meaning_of flags o)
+pub open_meaning : (flags : Flags) (o : Opcode) → OpenMeaning (meaning_of flags o)
 open_meaning flags op.ImplicitDef = nullary_open free free_open
 open_meaning flags op.GenericImplicitDef = nullary_open free free_open
 open_meaning flags op.GenericConstant = constant_open
@@ -284,12 +284,12 @@ load_open : (x align m n : ℕ) (extension : Extension) (memory : Memory) (addre
 load_open x align m n extension memory address =
     if_open (is_aligned align address) (from_loaded (loaded x (m / 8) memory address) extension m n) (from_loaded_open (loaded x (m / 8) memory address) extension m n)
 
-generic_load_open : (x : ℕ) (extension : Extension) (mem : Option MemOp) (widths : List ℕ) (arguments : List Argument) (memory : Memory) → IsOpen (generic_load x extension mem widths arguments memory)
+pub generic_load_open : (x : ℕ) (extension : Extension) (mem : Option MemOp) (widths : List ℕ) (arguments : List Argument) (memory : Memory) → IsOpen (generic_load x extension mem widths arguments memory)
 generic_load_open x extension (Some mem) (n ∷ []) (Value l address ∷ []) memory =
     if_open mem.load (load x (alignment x mem) (width_of x mem.ty) n extension memory address) (load_open x (alignment x mem) (width_of x mem.ty) n extension memory address)
 generic_load_open x extension _ _ _ memory = tt
 
-machine_load_open : (x : ℕ) (exists : ℕ → Bool) (bytes : ℕ) (extension : Extension) (arguments : List Argument) (memory : Memory) → IsOpen (machine_load x exists bytes extension arguments memory)
+pub machine_load_open : (x : ℕ) (exists : ℕ → Bool) (bytes : ℕ) (extension : Extension) (arguments : List Argument) (memory : Memory) → IsOpen (machine_load x exists bytes extension arguments memory)
 machine_load_open x exists bytes extension (Value l base ∷ Number offset ∷ []) memory =
     if_open (exists x && is_immediate offset) (load x bytes (bytes * 8) x extension memory (wrapped x (base + unsigned x offset))) (load_open x bytes (bytes * 8) x extension memory (wrapped x (base + unsigned x offset)))
 machine_load_open x exists bytes extension _ memory = tt
@@ -340,7 +340,7 @@ read_there x (Value width value) = word_there x width value (nat_lt width x) ref
 read_there x (Number z) = (Number z, refl)
 read_there x other = (other, refl)
 
-reads_there : (x : ℕ) (arguments : List Argument) → (words : List Argument) × AllReadAs x arguments words
+pub reads_there : (x : ℕ) (arguments : List Argument) → (words : List Argument) × AllReadAs x arguments words
 reads_there x [] = ([], refl)
 reads_there x (argument ∷ arguments) =
     let first : (word : Argument) × ReadsAs x argument word = read_there x argument in

@@ -64,7 +64,7 @@ widen small great more (y ∷ ys) h = ⊎_elim (λ here. or_left (great y) (list
 
 -- ══ Widths ══
 
-operands_same : (old new : ℕ → ℕ) (os : List Operand) → ((r : ℕ) → (list_any (is_def_of r) os ≡ true) ⊎ (list_any (is_use_of r) os ≡ true) → new r ≡ old r) → map (widthed new) os ≡ map (widthed old) os
+pub operands_same : (old new : ℕ → ℕ) (os : List Operand) → ((r : ℕ) → (list_any (is_def_of r) os ≡ true) ⊎ (list_any (is_use_of r) os ≡ true) → new r ≡ old r) → map (widthed new) os ≡ map (widthed old) os
 operands_same old new [] same = refl
 operands_same old new (o ∷ os) same = ap₂ (λ p ps. p ∷ ps) (first o (λ r is. same r (⊎_elim (λ d. inl (or_left (is_def_of r o) (list_any (is_def_of r) os) d)) (λ u. inr (or_left (is_use_of r o) (list_any (is_use_of r) os) u)) is)))
     (operands_same old new os (λ r is. same r (⊎_elim (λ d. inl (or_right (is_def_of r o) (list_any (is_def_of r) os) d)) (λ u. inr (or_right (is_use_of r o) (list_any (is_use_of r) os) u)) is)))

@@ -1,3 +1,9 @@
+pub mod Erased
+pub mod ErasedLists
+pub mod Giving
+pub mod ErasedRuns
+pub mod ErasedExtents
+pub mod ErasedValid
 pub mod Fresh
 pub mod Known
 pub mod Refined
@@ -5,9 +11,13 @@ pub mod Shown
 pub mod Widths
 pub mod Numbered
 pub mod Good
+pub mod ErasedGood
+pub mod Going
+pub mod Emptied
 pub mod Rewrites
 pub mod Passing
 pub mod Staged
+pub mod ErasedAt
 pub mod Begun
 pub mod WasRead
 pub mod ConstantRow

@@ -97,7 +97,7 @@ accepted_alike x tf tg i j same alike =
 
 -- ══ What stood before ══
 
-types_same : (tf tg : ℕ → Option Llt) (os : List Operand) → ((r : ℕ) → (list_any (is_def_of r) os ≡ true) ⊎ (list_any (is_use_of r) os ≡ true) → tg r ≡ tf r)
+pub types_same : (tf tg : ℕ → Option Llt) (os : List Operand) → ((r : ℕ) → (list_any (is_def_of r) os ≡ true) ⊎ (list_any (is_use_of r) os ≡ true) → tg r ≡ tf r)
     → (map tg (results_in os) ≡ map tf (results_in os)) × (map tg (sources_in os) ≡ map tf (sources_in os))
 types_same tf tg [] same = (refl, refl)
 types_same tf tg (o ∷ os) same =

@@ -1,3 +1,4 @@
 pub mod Computing
+pub mod Dead
 pub mod Good
 pub mod Stages

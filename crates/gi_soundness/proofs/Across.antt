@@ -120,7 +120,7 @@ same_across w f g is are b front p back own own' n =
       same_first w are n (record { no_zero = zero; no_stack = stack }) back own',
     ))
 
-wider_alike : (x : ℕ) (phase : Phase) (f g : FunctionData) (rs : List ℕ) → map (type_in phase g) rs ≡ map (type_in phase f) rs → is_wider x phase g rs ≡ is_wider x phase f rs
+pub wider_alike : (x : ℕ) (phase : Phase) (f g : FunctionData) (rs : List ℕ) → map (type_in phase g) rs ≡ map (type_in phase f) rs → is_wider x phase g rs ≡ is_wider x phase f rs
 wider_alike x phase f g [] same = refl
 wider_alike x phase f g (r ∷ rs) same =
     let here : ◌≡◌ {A = Option Llt} (type_in phase g r) (type_in phase f r) = cc in ap (λ ty. option_map_or (λ t. nat_lt x (width_of x t)) ty false) here

@@ -181,11 +181,11 @@ still_at_end w f g great c r kept b h =
 
 -- ══ The sets hold as asked ══
 
-reached_before : (w : Rewriting) (f g : FunctionData) → IsRewritten w f g → (n b : ℕ) → IsReachedIn n g b → IsReachedIn n f b
+pub reached_before : (w : Rewriting) (f g : FunctionData) → IsRewritten w f g → (n b : ℕ) → IsReachedIn n g b → IsReachedIn n f b
 reached_before w f g is zero b path = path
 reached_before w f g is (suc n) b path = (path.0, reached_before w f g is n path.0 path.1, sym (ap (is_among b) (same_successors w f g is path.0)) ∙ path.2)
 
-reached_after : (w : Rewriting) (f g : FunctionData) → IsRewritten w f g → (n b : ℕ) → IsReachedIn n f b → IsReachedIn n g b
+pub reached_after : (w : Rewriting) (f g : FunctionData) → IsRewritten w f g → (n b : ℕ) → IsReachedIn n f b → IsReachedIn n g b
 reached_after w f g is zero b path = path
 reached_after w f g is (suc n) b path = (path.0, reached_after w f g is n path.0 path.1, ap (is_among b) (same_successors w f g is path.0) ∙ path.2)
 

@@ -22,7 +22,7 @@ use Rattle.gi_soundness.proofs.Sites.{IsSite, AreQuiet, nothing_new, site_own}
 
 -- ══ Blocks that are there ══
 
-same_unknown : (w : Rewriting) (f g : FunctionData) → IsRewritten w f g → (bs : List ℕ) → unknown_among g bs ≡ unknown_among f bs
+pub same_unknown : (w : Rewriting) (f g : FunctionData) → IsRewritten w f g → (bs : List ℕ) → unknown_among g bs ≡ unknown_among f bs
 same_unknown w f g is bs = ap (λ n. option_map UnknownBlock (find (λ b. not (nat_lt b n)) bs)) (as_many_blocks w f g is)
 
 pub blocks_still_there : (w : Rewriting) (f g : FunctionData) → IsRewritten w f g → ArePlain w → told (unknown_block f) (sites f) ≡ [] → told (unknown_block g) (sites g) ≡ []
@@ -115,11 +115,11 @@ late_at done (x ∷ xs) p ys h =
     (late_at (done ++ x ∷ []) xs p ys (or_parts (is_late done x.1) (has_late (done ++ x ∷ []) (xs ++ p ∷ ys)) h).1)
 
 -- nothing at a site is late or goes astray
-record IsOrdered (f : FunctionData) (b : ℕ) (front : List (ℕ × InstrData)) (p : ℕ × InstrData) : Type 0 where
-  early : is_late front p.1 ≡ false
-  aimed : (is_branch_op p.1.op && not (list_all (λ c. is_among c (successors_of f b)) (blocks_in p.1.operands))) ≡ false
+pub record IsOrdered (f : FunctionData) (b : ℕ) (front : List (ℕ × InstrData)) (p : ℕ × InstrData) : Type 0 where
+  pub early : is_late front p.1 ≡ false
+  pub aimed : (is_branch_op p.1.op && not (list_all (λ c. is_among c (successors_of f b)) (blocks_in p.1.operands))) ≡ false
 
-ordered : (f : FunctionData) → told (terminator f) (sites f) ≡ [] → (b : ℕ) (front : List (ℕ × InstrData)) (p : ℕ × InstrData) (back : List (ℕ × InstrData)) → IsSite f b front p back → IsOrdered f b front p
+pub ordered : (f : FunctionData) → told (terminator f) (sites f) ≡ [] → (b : ℕ) (front : List (ℕ × InstrData)) (p : ℕ × InstrData) (back : List (ℕ × InstrData)) → IsSite f b front p back → IsOrdered f b front p
 ordered f none b front p back site = record {
   early = late_at [] front p back (subst (λ l. has_late [] l ≡ false) site.splits (none_late f none b site.block site.found));
   aimed = by (is_first_late here) (is_astray f here) (at_site f (terminator f) none b site.block site.found front p back site.splits);
@@ -133,7 +133,7 @@ ordered f none b front p back site = record {
     by true true h = cc
     by false true h = cc
 
-none_told : (f : FunctionData) (site : Site) → is_late site.before site.instr ≡ false → is_astray f site ≡ false → terminator f site ≡ None
+pub none_told : (f : FunctionData) (site : Site) → is_late site.before site.instr ≡ false → is_astray f site ≡ false → terminator f site ≡ None
 none_told f site early aimed = ap₂ (λ s t. cond ((s && not (has_late [] site.before)) || t) (Some Terminator) None) early aimed
 
 abbrev ends : ℕ × InstrData → Bool

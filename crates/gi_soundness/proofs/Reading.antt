@@ -108,7 +108,7 @@ entry_left rename (operand.Use r ∷ operand.Use q ∷ os) = refl
 entry_left rename (operand.Use r ∷ _ ∷ os) = refl
 entry_left rename (_ ∷ os) = refl
 
-entry_used : (os : List Operand) (e : ℕ × ℕ) → entry_of os ≡ Some e → list_any (is_use_of e.0) os ≡ true
+pub entry_used : (os : List Operand) (e : ℕ × ℕ) → entry_of os ≡ Some e → list_any (is_use_of e.0) os ≡ true
 entry_used [] e h = cc
 entry_used (operand.Use r ∷ []) e h = cc
 entry_used (operand.Use r ∷ operand.Block b ∷ os) e h = let same : r.0 ≡ e.0 = cc in or_left (r.0 == e.0) (list_any (is_use_of e.0) (operand.Block b ∷ os)) (eq-eqb r.0 e.0 same)

@@ -284,7 +284,7 @@ unsuited_left x tf tg rename p results sources none =
       sized = λ constant. unsized_left x tf tg rename p.1.operands results (old.sized constant);
     })
 
-mismatch_left : (x : ℕ) (phase : Phase) (f g : FunctionData) (rename : ℕ → ℕ) (p : ℕ × InstrData) → ((r : ℕ) → defines r p ≡ true → type_in phase g r ≡ type_in phase f r) → ((r : ℕ) → uses r p ≡ true → type_in phase g (rename r) ≡ type_in phase f r)
+pub mismatch_left : (x : ℕ) (phase : Phase) (f g : FunctionData) (rename : ℕ → ℕ) (p : ℕ × InstrData) → ((r : ℕ) → defines r p ≡ true → type_in phase g r ≡ type_in phase f r) → ((r : ℕ) → uses r p ≡ true → type_in phase g (rename r) ≡ type_in phase f r)
     → mismatch x phase f p.1 ≡ None → mismatch x phase g (entry_renamed rename p).1 ≡ None
 mismatch_left x phase f g rename p results sources none = by (joins_any phase p.1) refl
   where

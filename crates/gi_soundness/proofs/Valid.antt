@@ -26,15 +26,15 @@ use Rattle.gi_soundness.proofs.Single.{none_defined_twice}
 use Rattle.gi_soundness.proofs.Sites.{all_quiet}
 
 -- each kind of fault by itself
-record AreQuietAll (x : ℕ) (phase : Phase) (f : FunctionData) (extents : ℕ → Extent) : Type 0 where
-  double : double_definitions f ≡ []
-  unavailable : told (not_available f extents) (sites f) ≡ []
-  mismatch : told (type_mismatch x phase f) (sites f) ≡ []
-  unknown : told (unknown_block f) (sites f) ≡ []
-  entries : told (phi_entries f) (sites f) ≡ []
-  across : told (physical_across x phase f) (sites f) ≡ []
-  ends : told (terminator f) (sites f) ≡ []
-  successors : unknown_successors f 1 f.blocks ≡ []
+pub record AreQuietAll (x : ℕ) (phase : Phase) (f : FunctionData) (extents : ℕ → Extent) : Type 0 where
+  pub double : double_definitions f ≡ []
+  pub unavailable : told (not_available f extents) (sites f) ≡ []
+  pub mismatch : told (type_mismatch x phase f) (sites f) ≡ []
+  pub unknown : told (unknown_block f) (sites f) ≡ []
+  pub entries : told (phi_entries f) (sites f) ≡ []
+  pub across : told (physical_across x phase f) (sites f) ≡ []
+  pub ends : told (terminator f) (sites f) ≡ []
+  pub successors : unknown_successors f 1 f.blocks ≡ []
 
 record HasNone (x : ℕ) (phase : Phase) (f : FunctionData) (extents : ℕ → Extent) (site : Site) : Type 0 where
   unavailable : not_available f extents site ≡ None
@@ -58,7 +58,7 @@ fewer g h less [] none = refl
 fewer g h less (site ∷ sites) none =
     let each : (g site ≡ None) × (told g sites ≡ []) = nothing_in_front site.instr.line (g site) (told g sites) none in ap₂ (with_fault site.instr.line) (less site each.0) (fewer g h less sites each.1)
 
-quiet_of : (x : ℕ) (phase : Phase) (f : FunctionData) (extents : ℕ → Extent) → faults x phase f extents ≡ [] → AreQuietAll x phase f extents
+pub quiet_of : (x : ℕ) (phase : Phase) (f : FunctionData) (extents : ℕ → Extent) → faults x phase f extents ≡ [] → AreQuietAll x phase f extents
 quiet_of x phase f extents none =
     let m : AreMissing x phase f extents = missing x phase f extents none in
     record {
@@ -73,7 +73,7 @@ quiet_of x phase f extents none =
     }
 
 -- and all together
-faultless_of : (x : ℕ) (phase : Phase) (f : FunctionData) (extents : ℕ → Extent) → AreQuietAll x phase f extents → faults x phase f extents ≡ []
+pub faultless_of : (x : ℕ) (phase : Phase) (f : FunctionData) (extents : ℕ → Extent) → AreQuietAll x phase f extents → faults x phase f extents ≡ []
 faultless_of x phase f extents q = ap₂ (λ a b. a ++ b) (ap₂ (λ a b. a ++ b) q.double (all_quiet f (fault_in x phase f extents) each)) q.successors
   where
     each : (b : ℕ) (block : BlockData) → slice_get f.blocks b ≡ Some block → (before : List (ℕ × InstrData)) (i : ℕ × InstrData) (after : List (ℕ × InstrData)) → block.instrs ≡ before ++ i ∷ after
