@@ -4,7 +4,7 @@ use Rattle.gi_mir.specs.Data.{FunctionData}
 use Rattle.gi_valid.specs.Faults.{double_definitions, physical_across, sites, told, type_mismatch}
 use Rattle.gi_valid.specs.Typing.{Phase}
 use Rattle.gi_valid.proofs.Single.{defined_once}
-use Rattle.gi_soundness.specs.Conditions.{DefinesAnew, AccountsForResults, ArePlain, KeepsTypes, MakesNoCall}
+use Rattle.gi_soundness.specs.Conditions.{DefinesAnew, AccountsForResults, ArePlain, KeepsTypes, MakesNoNewCall}
 use Rattle.gi_soundness.specs.Rewriting.{Rewriting, IsRewritten}
 use Rattle.gi_soundness.proofs.Across.{none_across}
 use Rattle.gi_soundness.proofs.Typed.{IsAccounted, types_still_meet}
@@ -16,6 +16,6 @@ pub types_met : (x : ℕ) (phase : Phase) (w : Rewriting) (f g : FunctionData) �
     → told (type_mismatch x phase f) (sites f) ≡ [] → told (type_mismatch x phase g) (sites g) ≡ []
 types_met x phase w f g is anew results keeps none = types_still_meet x phase w f g (accounted w f g is anew results none) keeps
 
-pub no_call_across : (x : ℕ) (phase : Phase) (w : Rewriting) (f g : FunctionData) → IsRewritten w f g → ArePlain w → DefinesAnew w f → AccountsForResults w f → KeepsTypes x phase w f g → MakesNoCall x phase w g → double_definitions f ≡ []
+pub no_call_across : (x : ℕ) (phase : Phase) (w : Rewriting) (f g : FunctionData) → IsRewritten w f g → ArePlain w → DefinesAnew w f → AccountsForResults w f → KeepsTypes x phase w f g → MakesNoNewCall x phase w f g → double_definitions f ≡ []
     → told (physical_across x phase f) (sites f) ≡ [] → told (physical_across x phase g) (sites g) ≡ []
 no_call_across x phase w f g is are anew results keeps calls none = none_across x phase w f g (accounted w f g is anew results none) are keeps calls

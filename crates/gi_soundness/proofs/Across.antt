@@ -2,6 +2,7 @@
 use Rattle.std.proofs.Common.{◌≡◌, ℕ, Bool, true, false, cond, not, ◌&&◌, ◌||◌, ◌==◌, nat_lt, List, [], ◌∷◌, ◌++◌, Option, Some, None, option_map, find, map, length, inl, ⊎_elim, refl, sym, ap, ap₂, ◌∙◌, subst, true≢false}
 use Rattle.std.proofs.lemmas.Bool.{or_cases, and_parts, eqb-true, eq-eqb, false_from_ne_true}
 use Rattle.std.specs.List.{list_any, list_all, range_with_len}
+use Rattle.std.proofs.lemmas.List.Folds.{list_any-append}
 use Rattle.std.specs.Option.{option_map_or}
 use Rattle.gi_llt.specs.Llt.{width_of}
 use Rattle.gi_llt.specs.declared.Llt.{Llt}
@@ -14,14 +15,14 @@ use Rattle.gi_meaning.specs.Runs.{is_among}
 use Rattle.gi_pattern.specs.InPlace.{operand_renamed, entry_renamed}
 use Rattle.gi_valid.specs.Available.{is_physical_at_start, is_physical_there}
 use Rattle.gi_valid.specs.Definitions.{is_physical_def_of, is_physical_use_of, defines_physical, reads_physical}
-use Rattle.gi_valid.specs.Faults.{sites, told, is_division, is_product, is_wider, is_used_first, goes_across, physical_across}
+use Rattle.gi_valid.specs.Faults.{sites, told, is_division, is_product, is_wider, is_used_first, goes_across, may_call, physical_across}
 use Rattle.gi_meaning.specs.InRow.{results_in}
 use Rattle.gi_valid.specs.Typing.{Phase, type_in}
 use Rattle.gi_valid.specs.declared.invalid.Invalid.TheVariants.{PhysicalAcross}
 use Rattle.gi_valid.proofs.Sited.{site_of}
-use Rattle.gi_soundness.specs.Conditions.{is_plain_operand, is_plain, ArePlain, KeepsTypes, MakesNoCall}
+use Rattle.gi_soundness.specs.Conditions.{is_plain_operand, is_plain, ArePlain, KeepsTypes, MakesNoNewCall}
 use Rattle.gi_soundness.specs.Rewriting.{Rewriting, rewritten, IsOneOf, IsRewritten}
-use Rattle.gi_soundness.proofs.Frames.{body_after, same_predecessors, IsOwn, own_later, IsIdle, any_rewritten, Plain, plain, idle}
+use Rattle.gi_soundness.proofs.Frames.{body_after, same_predecessors, IsOwn, own_later, IsIdle, any_earlier, any_rewritten, Plain, made_plain, plain, idle}
 use Rattle.gi_soundness.proofs.Listed.{results_left, defines_physical_left, reads_physical_left}
 use Rattle.gi_soundness.proofs.Sites.{IsSite, nothing_new, site_inside, site_own}
 use Rattle.gi_soundness.proofs.Typed.{IsAccounted, result_type, results_alike, one_of_made}
@@ -120,12 +121,33 @@ same_across w f g is are b front p back own own' n =
       same_first w are n (record { no_zero = zero; no_stack = stack }) back own',
     ))
 
+-- the same registers go across what is made as across the root
+root_across : (w : Rewriting) (f g : FunctionData) → IsRewritten w f g → ArePlain w → (b : ℕ) (front back earlier : List (ℕ × InstrData)) (i : ℕ × InstrData) (later : List (ℕ × InstrData)) → IsOwn w front → IsOwn w back → w.made ≡ earlier ++ i ∷ later → (n : ℕ)
+    → goes_across g (site_of b (rewritten w front ++ earlier) i (later ++ rewritten w back)) n ≡ goes_across f (site_of b front w.root back) n
+root_across w f g is are b front back earlier i later own own' splits n =
+    alike_unless (n == 0) (n == 2) _ _ _ _ _ _ (λ zero stack. (
+      ap₂ (λ s t. s || t) (same_start w f g is b n)
+          (list_any-append (defines_physical n) (rewritten w front) earlier
+          ∙ ap₂ (λ s t. s || t) (any_rewritten w (defines_physical n) (physical_idle w are n) front own) (any_earlier (defines_physical n) w.made earlier i later splits (physical_idle w are n).made).0 ∙ or_false (list_any (defines_physical n) front)),
+      ap not (plain_defines_none n (0, i.1) (made_plain w are earlier i later splits) ∙ sym (plain_defines_none n (0, w.root.1) (plain w.root.1 are.root))),
+      made_left n (record { no_zero = zero; no_stack = stack }) later (rewritten w back) (rest_plain (λ p. is_plain p.1) earlier i later (subst (λ l. list_all (λ p. is_plain p.1) l ≡ true) splits are.made))
+          ∙ same_first w are n (record { no_zero = zero; no_stack = stack }) back own',
+    ))
+  where
+    or_false : (t : Bool) → (t || false) ≡ t
+    or_false true = refl
+    or_false false = refl
+
+    rest_plain : (test : ℕ × InstrData → Bool) (earlier : List (ℕ × InstrData)) (i : ℕ × InstrData) (later : List (ℕ × InstrData)) → list_all test (earlier ++ i ∷ later) ≡ true → list_all test later ≡ true
+    rest_plain test [] i later all = (and_parts (test i) (list_all test later) all).1
+    rest_plain test (p ∷ earlier) i later all = rest_plain test earlier i later (and_parts (test p) (list_all test (earlier ++ i ∷ later)) all).1
+
 pub wider_alike : (x : ℕ) (phase : Phase) (f g : FunctionData) (rs : List ℕ) → map (type_in phase g) rs ≡ map (type_in phase f) rs → is_wider x phase g rs ≡ is_wider x phase f rs
 wider_alike x phase f g [] same = refl
 wider_alike x phase f g (r ∷ rs) same =
     let here : ◌≡◌ {A = Option Llt} (type_in phase g r) (type_in phase f r) = cc in ap (λ ty. option_map_or (λ t. nat_lt x (width_of x t)) ty false) here
 
-pub none_across : (x : ℕ) (phase : Phase) (w : Rewriting) (f g : FunctionData) → IsAccounted w f g → ArePlain w → KeepsTypes x phase w f g → MakesNoCall x phase w g
+pub none_across : (x : ℕ) (phase : Phase) (w : Rewriting) (f g : FunctionData) → IsAccounted w f g → ArePlain w → KeepsTypes x phase w f g → MakesNoNewCall x phase w f g
     → told (physical_across x phase f) (sites f) ≡ [] → told (physical_across x phase g) (sites g) ≡ []
 none_across x phase w f g a are keeps calls none = nothing_new w f g a.is (physical_across x phase f) (physical_across x phase g) (record { kept = kept; made = made }) none
   where
@@ -145,5 +167,14 @@ none_across x phase w f g a are keeps calls none = nothing_new w f g a.is (physi
         → (earlier : List (ℕ × InstrData)) (i : ℕ × InstrData) (later : List (ℕ × InstrData)) → w.made ≡ earlier ++ i ∷ later
         → physical_across x phase g (site_of b (rewritten w front ++ earlier) i (later ++ rewritten w back)) ≡ None
     made b front back site old earlier i later splits =
-        ap (λ t. cond t (option_map PhysicalAcross (find (goes_across g (site_of b (rewritten w front ++ earlier) i (later ++ rewritten w back))) (range_with_len 0 32))) None)
-        (calls.made i (one_of_made w.made earlier i later splits))
+        by (may_call x phase g i.1) refl
+      where
+        now : ℕ → Bool
+        now = goes_across g (site_of b (rewritten w front ++ earlier) i (later ++ rewritten w back))
+
+        by : (t : Bool) → may_call x phase g i.1 ≡ t → cond (may_call x phase g i.1) (option_map PhysicalAcross (find now (range_with_len 0 32))) None ≡ None
+        by false so = ap (λ t. cond t (option_map PhysicalAcross (find now (range_with_len 0 32))) None) so
+        by true so =
+            let own : IsOwn w front × IsOwn w back = site_own w f g a.is b front w.root back site in
+            ap₂ (λ t o. cond t (option_map PhysicalAcross o) None) so (same_found (goes_across f (site_of b front w.root back)) now (root_across w f g a.is are b front back earlier i later own.0 own.1 splits) (range_with_len 0 32))
+            ∙ sym (ap (λ t. cond t (option_map PhysicalAcross (find (goes_across f (site_of b front w.root back)) (range_with_len 0 32))) None) (calls.made i (one_of_made w.made earlier i later splits) so)) ∙ old

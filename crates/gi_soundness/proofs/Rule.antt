@@ -20,7 +20,7 @@ use Rattle.gi_valid.specs.Faults.{definitions, may_call, times}
 use Rattle.gi_valid.specs.Typing.{Phase}
 use Rattle.gi_valid.specs.Valid.{IsValid}
 use Rattle.gi_soundness.specs.Applying.{rewriting_of}
-use Rattle.gi_soundness.specs.Conditions.{is_plain, is_replaced, IsNew, ArePlain, DefinesAnew, AccountsForResults, ReadsOrigins, MeetsRows, MakesNoCall}
+use Rattle.gi_soundness.specs.Conditions.{is_plain, is_replaced, IsNew, ArePlain, DefinesAnew, AccountsForResults, ReadsOrigins, MeetsRows, MakesNoNewCall}
 use Rattle.gi_soundness.specs.Rewriting.{Rewriting, IsOneOf}
 use Rattle.gi_soundness.specs.Rules.{HasHadAll, all_places_made, are_results, computes, is_in, is_looked_at, is_result, is_pure_make, is_pure_match, keeps_rooted, keeps_valid, keeps_with, origins_in, places_defined, replaced_places}
 use Rattle.gi_soundness.proofs.Binding.{Extends, IsBound, bound_on}
@@ -209,7 +209,7 @@ pub record MeetsAll (x : ℕ) (phase : Phase) (w : Rewriting) (f g : FunctionDat
   pub anew : DefinesAnew w f
   pub results : AccountsForResults w f
   pub reads : ReadsOrigins w f
-  pub calls : MakesNoCall x phase w g
+  pub calls : MakesNoNewCall x phase w f g
   pub kinds : (r : ℕ) → list_any (defines r) w.made ≡ true → defines r w.root ≡ true → kind_in_instrs r w.made ≡ kind_in_operands r w.root.1.operands
 
 pub meets_all : (x : ℕ) (phase : Phase) (f g : FunctionData) (great : ℕ → Extent) (rule : RuleData) (m : MatchData) (id : ℕ) (root : InstrData) (b : Binding) → IsFit f great rule m (id, root) b → MeetsAll x phase (rewriting_of x rule b id root f) f g
@@ -219,7 +219,7 @@ meets_all x phase f g great rule m id root b c = record {
   results = record { results = results; covered = covered; origins = sources; apart = apart };
   reads = record { pure = c.pure.pure; read = λ earlier i later splits r used. read_at (FromRoot f (id, root)) [] made h.next_id earlier i later (all_read (FromRoot f (id, root)) x h b line origins c.sources rule.makes h.next_reg [] c.keeps.makes) (sym made_same ∙ splits) r used };
   kinds = kinds;
-  calls = record { made = λ p there. not-true (may_call x phase g p.1) (one_passes (λ (q : ℕ × InstrData). never_calls x phase g q.1) p w.made (ap (list_all (λ (q : ℕ × InstrData). never_calls x phase g q.1)) made_same ∙ all_of_ids (never_calls x phase g) h.next_id made ∙ none_calls x phase g h b line origins rule.makes h.next_reg c.keeps.makes) there) };
+  calls = record { made = λ p there may. absurd (true≢false (sym may ∙ not-true (may_call x phase g p.1) (one_passes (λ (q : ℕ × InstrData). never_calls x phase g q.1) p w.made (ap (list_all (λ (q : ℕ × InstrData). never_calls x phase g q.1)) made_same ∙ all_of_ids (never_calls x phase g) h.next_id made ∙ none_calls x phase g h b line origins rule.makes h.next_reg c.keeps.makes) there))) };
 }
   where
     w : Rewriting

@@ -14,7 +14,7 @@ use Rattle.gi_valid.proofs.Greatest.{faultless_in_greatest}
 use Rattle.gi_valid.proofs.Single.{defined_once}
 use Rattle.gi_valid.proofs.Sited.{neither, nothing_in_front, site_of, at_site}
 use Rattle.gi_valid.proofs.Valid.{AreMissing, missing, nothing_mapped}
-use Rattle.gi_soundness.specs.Conditions.{DefinesAnew, AccountsForResults, ArePlain, ReadsOrigins, KeepsTypes, MakesNoCall}
+use Rattle.gi_soundness.specs.Conditions.{DefinesAnew, AccountsForResults, ArePlain, ReadsOrigins, KeepsTypes, MakesNoNewCall}
 use Rattle.gi_soundness.specs.Rewriting.{Rewriting, IsOneOf, IsRewritten}
 use Rattle.gi_soundness.proofs.Accounted.{accounted, types_met, no_call_across}
 use Rattle.gi_soundness.proofs.Available.{extent_holds}
@@ -53,7 +53,7 @@ none_of x phase f extents site h =
     let (across, ends) = neither (physical_across x phase f site) (terminator f site) fourth in
     record { unavailable = unavailable; mismatch = mismatch; unknown = unknown; entries = entries; across = across; ends = ends }
 
-fewer : (g h : Site → Option Invalid) → ((site : Site) → g site ≡ None → h site ≡ None) → (sites : List Site) → told g sites ≡ [] → told h sites ≡ []
+pub fewer : (g h : Site → Option Invalid) → ((site : Site) → g site ≡ None → h site ≡ None) → (sites : List Site) → told g sites ≡ [] → told h sites ≡ []
 fewer g h less [] none = refl
 fewer g h less (site ∷ sites) none =
     let each : (g site ≡ None) × (told g sites ≡ []) = nothing_in_front site.instr.line (g site) (told g sites) none in ap₂ (with_fault site.instr.line) (less site each.0) (fewer g h less sites each.1)
@@ -95,7 +95,7 @@ known_of x phase f valid =
     let q : AreQuietAll x phase f (great_of f) = quiet_of x phase f (great_of f) (faultless_in_greatest x phase f valid (great_of f) greatest) in
     record { greatest = greatest; available = q.unavailable; entries = q.entries; once = defined_once f q.double }
 
-pub stays_valid : (x : ℕ) (phase : Phase) (w : Rewriting) (f g : FunctionData) → IsRewritten w f g → ArePlain w → DefinesAnew w f → AccountsForResults w f → ReadsOrigins w f → KeepsTypes x phase w f g → MakesNoCall x phase w g
+pub stays_valid : (x : ℕ) (phase : Phase) (w : Rewriting) (f g : FunctionData) → IsRewritten w f g → ArePlain w → DefinesAnew w f → AccountsForResults w f → ReadsOrigins w f → KeepsTypes x phase w f g → MakesNoNewCall x phase w f g
     → IsValid x phase f → IsValid x phase g
 stays_valid x phase w f g is are anew results reads keeps calls valid =
     let great : ℕ → Extent = great_of f in

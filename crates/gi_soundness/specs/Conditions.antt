@@ -86,6 +86,6 @@ pub record MeetsRows (x : ℕ) (phase : Phase) (w : Rewriting) (f g : FunctionDa
   pub replaced : (r : ℕ) → is_replaced w r ≡ true → type_in phase f (w.rename r) ≡ type_in phase f r
   pub made : (p : ℕ × InstrData) → IsOneOf p w.made → mismatch x phase g p.1 ≡ None
 
--- none of what is made may come to be a call
-pub record MakesNoCall (x : ℕ) (phase : Phase) (w : Rewriting) (g : FunctionData) : Type 0 where
-  pub made : (p : ℕ × InstrData) → IsOneOf p w.made → may_call x phase g p.1 ≡ false
+-- what is made may come to be a call only where the root may
+pub record MakesNoNewCall (x : ℕ) (phase : Phase) (w : Rewriting) (f g : FunctionData) : Type 0 where
+  pub made : (p : ℕ × InstrData) → IsOneOf p w.made → may_call x phase g p.1 ≡ true → may_call x phase f w.root.1 ≡ true

@@ -13,7 +13,7 @@ ghost use Rattle.gi_valid.specs.Faults.{double_definitions, phi_entries, physica
 ghost use Rattle.gi_valid.specs.Typing.{Phase};
 ghost use Rattle.gi_valid.specs.Valid.{IsValid};
 ghost use Rattle.gi_soundness.specs.Applying.{rewriting_of};
-ghost use Rattle.gi_soundness.specs.Conditions.{AccountsForResults, ArePlain, DefinesAnew, KeepsTypes, MakesNoCall, MeetsRows, ReadsOrigins};
+ghost use Rattle.gi_soundness.specs.Conditions.{AccountsForResults, ArePlain, DefinesAnew, KeepsTypes, MakesNoNewCall, MeetsRows, ReadsOrigins};
 ghost use Rattle.gi_soundness.specs.Rewriting.{IsRewritten, Rewriting};
 ghost use Rattle.gi_soundness.specs.Rules.{HasHadAll, KeepsFunctionsValid, keeps_valid};
 
@@ -52,13 +52,13 @@ pub fn types_stay_met()
 
 /// No physical register comes to be used behind what may overwrite it.
 pub fn physical_registers_stay()
-    ensures { (x : ℕ) (phase : Phase) (w : Rewriting) (f g : FunctionData) → IsRewritten w f g → ArePlain w → DefinesAnew w f → AccountsForResults w f → KeepsTypes x phase w f g → MakesNoCall x phase w g → double_definitions f ≡ []
+    ensures { (x : ℕ) (phase : Phase) (w : Rewriting) (f g : FunctionData) → IsRewritten w f g → ArePlain w → DefinesAnew w f → AccountsForResults w f → KeepsTypes x phase w f g → MakesNoNewCall x phase w f g → double_definitions f ≡ []
         → told (physical_across x phase f) (sites f) ≡ [] → told (physical_across x phase g) (sites g) ≡ [] }
 {}
 
 /// A valid function stays valid: also each register that is read is available.
 pub fn valid_function_stays_valid()
-    ensures { (x : ℕ) (phase : Phase) (w : Rewriting) (f g : FunctionData) → IsRewritten w f g → ArePlain w → DefinesAnew w f → AccountsForResults w f → ReadsOrigins w f → KeepsTypes x phase w f g → MakesNoCall x phase w g
+    ensures { (x : ℕ) (phase : Phase) (w : Rewriting) (f g : FunctionData) → IsRewritten w f g → ArePlain w → DefinesAnew w f → AccountsForResults w f → ReadsOrigins w f → KeepsTypes x phase w f g → MakesNoNewCall x phase w f g
         → IsValid x phase f → IsValid x phase g }
 {}
 
