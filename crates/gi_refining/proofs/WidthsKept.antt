@@ -1,10 +1,12 @@
 -- Values fit their registers wherever runs come, in a function that passes the test of widths.
-use Rattle.std.proofs.Common.{◌≡◌, ◌⊎◌, ℕ, ◌*◌, ◌/◌, ◌^◌, ◌<◌, ◌≤◌, ◌==◌, Bool, true, false, cond, not, ◌&&◌, ◌||◌, nat_lt, nat_le, List, [], ◌∷◌, ◌++◌, map, Option, Some, None, option_map, inl, inr, ⊎_elim, refl, sym, ap, ◌∙◌, subst, arith, lit<, leb-true, ltb-true, eqb-true, le-leb}
+use Rattle.std.proofs.Common.{◌≡◌, ◌⊎◌, ℕ, ◌*◌, ◌/◌, ◌^◌, ◌<◌, ◌≤◌, ◌==◌, Bool, true, false, cond, not, ◌&&◌, ◌||◌, nat_lt, nat_le, List, [], ◌∷◌, ◌++◌, map, Option, Some, None, option_map, inl, inr, ⊎_elim, refl, sym, ap, ◌∙◌, subst, arith, lit<, leb-true, ltb-false, ltb-true, eqb-true, le-leb}
 use Rattle.std.specs.Prelude.{IfSome}
 use Rattle.std.proofs.lemmas.Bool.{and_parts, and_from, or_cases, not-true}
 use Rattle.std.specs.List.{list_all}
 use Rattle.std.proofs.lemmas.Option.{same_Some}
 use Rattle.std.proofs.Math.Nat.{div-mul-le_self, pow-le-pow_right}
+use Rattle.std.proofs.lemmas.Nat.{mod_below, pow_pos}
+use Rattle.gi_llt.specs.Bits.{wrapped}
 use Rattle.gi_llt.specs.Llt.{width_of}
 use Rattle.gi_mir.specs.Data.{InstrData, BlockData, FunctionData}
 use Rattle.gi_mir.specs.Names.{name_at}
@@ -15,7 +17,7 @@ use Rattle.gi_mir.specs.declared.operand.Flags.{Flags}
 use Rattle.gi_mir.specs.declared.operand.MemOp.{MemOp}
 use Rattle.gi_mir.specs.declared.operand.Operand.{Operand}
 use Rattle.gi_mir.specs.declared.operand.Operand.TheVariants as operand
-use Rattle.gi_meaning.specs.Act.{Act, Answer, Asks, GenericStores, Leaves, MachineStores, Results, Returns, Stores, StoresThere, alignment, clobbered, extended, from_loaded, generic_load, is_result_register, load}
+use Rattle.gi_meaning.specs.Act.{Act, Answer, AnswersWords, Asks, GenericStores, Leaves, MachineStores, Results, Returns, Stores, StoresThere, alignment, all_fitted, clobbered, extended, from_loaded, generic_load, is_result_register, load, machine_load}
 use Rattle.gi_meaning.specs.Act as an_answer
 use Rattle.gi_meaning.specs.Argument.{Argument, Bits, Number, Symbol, Value}
 use Rattle.gi_meaning.specs.Generic.{constant, symbol_address}
@@ -295,13 +297,15 @@ words_given x (_ ∷ arguments) fits narrow = words_given x arguments fits.1 nar
 
 -- what gives words, in places that hold them, from values that are no wider
 words_answered : (s : Setting) (w : World) → 32 ≤ s.x → IsWorld s.x w → (i : InstrData) (m : Meaning) → meaning_of i.flags i.op ≡ m → may_have_words m i.op i.operands ≡ true
-    → AreWide s.x (map (width_of_place s) (written_places m i.operands)) → list_all (λ n. nat_le n s.x) (widths_read s i.operands) ≡ true → FitsBy s w m i
-words_answered s w wide is_world i m is worded all narrow = λ state arguments answer answered act.
+    → AtMost s.x (map (width_of_place s) (written_places m i.operands)) → list_all (λ n. nat_le n s.x) (widths_read s i.operands) ≡ true
+    → ((arguments : List Argument) (outside : Outside) (answer : Answer) → Act s.x w m i.mem (map (width_of_place s) (written_places m i.operands)) arguments outside answer → IsAnswerSized s.x answer
+    → AnswerFits (map (width_of_place s) (written_places m i.operands)) answer) → FitsBy s w m i
+words_answered s w wide is_world i m is worded all narrow fits = λ state arguments answer answered act.
     let places : List ℕ = map (width_of_place s) (written_places m i.operands) in
     let small : AreSmall s.x arguments =
     words_given s.x arguments answered.small (subst (λ ms. list_all (λ n. nat_le n s.x) ms ≡ true) (sym (arguments_given s w state i.operands arguments answered.read)) narrow) in
-    sized_fits s.x places answer all
-    (act_sized s.x wide w is_world i.flags i.op i.operands i.mem places arguments (outside_of state) answer (subst (λ k. may_have_words k i.op i.operands ≡ true) (sym is) worded) (wide_at_most s.x places all) small answered.keeping.bytes
+    fits arguments (outside_of state) answer act
+    (act_sized s.x wide w is_world i.flags i.op i.operands i.mem places arguments (outside_of state) answer (subst (λ k. may_have_words k i.op i.operands ≡ true) (sym is) worded) all small answered.keeping.bytes
     (subst (λ k. Act s.x w k i.mem places arguments (outside_of state) answer) (sym is) act))
 
 reads_words : (s : Setting) (os : List Operand) → has_virtual os ≡ false → list_all (λ n. nat_le n s.x) (widths_read s os) ≡ true
@@ -312,30 +316,53 @@ reads_words s (operand.Phys n ∷ os) none = and_from (nat_le s.x s.x) (list_all
 reads_words s (operand.Frame object ∷ os) none = and_from (nat_le s.x s.x) (list_all (λ m. nat_le m s.x) (widths_read s os)) (le-leb s.x s.x (omega arith)) (reads_words s os none)
 reads_words s (_ ∷ os) none = reads_words s os none
 
-all_wide : (x : ℕ) (ns : List ℕ) → list_all (λ n. n == x) ns ≡ true → AreWide x ns
-all_wide x [] same = tt
-all_wide x (n ∷ ns) same = let each : ((n == x) ≡ true) × (list_all (λ m. m == x) ns ≡ true) = and_parts (n == x) (list_all (λ m. m == x) ns) same in (eqb-true n x each.0, all_wide x ns each.1)
+at_most : (x : ℕ) (ns : List ℕ) → list_all (λ n. nat_le n x) ns ≡ true → AtMost x ns
+at_most x [] within = tt
+at_most x (n ∷ ns) within = let each : (nat_le n x ≡ true) × (list_all (λ m. nat_le m x) ns ≡ true) = and_parts (nat_le n x) (list_all (λ m. nat_le m x) ns) within in (leb-true n x each.0, at_most x ns each.1)
+
+-- a word in a place of at most as many bits
+fitted_fits : (t : Bool) (x n v : ℕ) → nat_lt n x ≡ t → n ≤ x → cond t (wrapped n v) v < 2 ^ x → cond t (wrapped n v) v < 2 ^ n
+fitted_fits true x n v so within small = mod_below v (2 ^ n) (pow_pos n)
+fitted_fits false x n v so within small = let same : n ≡ x = omega (arith, ltb-false n x so, within) in subst (λ k. v < 2 ^ k) (sym same) small
+
+all_fitted_fit : (x : ℕ) (ns vs : List ℕ) → AtMost x ns → AreWords x (all_fitted x ns vs) → AreFit ns (all_fitted x ns vs)
+all_fitted_fit x [] vs within words = tt
+all_fitted_fit x (n ∷ ns) [] within words = tt
+all_fitted_fit x (n ∷ ns) (v ∷ vs) within words = (fitted_fits (nat_lt n x) x n v refl within.0 words.0, all_fitted_fit x ns vs within.1 words.1)
+
+words_fitted : (x : ℕ) (ns : List ℕ) (given : Given) (outside : Outside) (a : Answer) → AtMost x ns → AnswersWords x ns given outside a → IsAnswerSized x a → AnswerFits ns a
+words_fitted x ns a_given.Undefined outside a within h sized = subst (AnswerFits ns) (sym h) tt
+words_fitted x ns (a_given.Exactly results) outside a within h sized = subst (AnswerFits ns) (sym h.2) (all_fitted_fit x ns h.0 within (subst (IsAnswerSized x) h.2 sized).0)
+words_fitted x ns (a_given.LowBits known width value) outside a within h sized = subst (AnswerFits ns) (sym h.2) (all_fitted_fit x ns h.0 within (subst (IsAnswerSized x) h.2 sized).0)
 
 calling_fits : (s : Setting) (w : World) → 32 ≤ s.x → IsWorld s.x w → (i : InstrData) → meaning_of i.flags i.op ≡ Calling → not (has_virtual i.operands) ≡ true → FitsBy s w Calling i
 calling_fits s w wide is_world i is none =
-    words_answered s w wide is_world i Calling is none (clobbered_wide s clobbered i.operands) (reads_words s i.operands (not-true (has_virtual i.operands) none))
+    let places : List ℕ = map (width_of_place s) (written_places Calling i.operands) in
+    words_answered s w wide is_world i Calling is none (wide_at_most s.x places (clobbered_wide s clobbered i.operands)) (reads_words s i.operands (not-true (has_virtual i.operands) none))
+    (λ arguments outside answer act sized. sized_fits s.x places answer (clobbered_wide s clobbered i.operands) sized)
 
 machine_fits : (s : Setting) (w : World) → 32 ≤ s.x → IsWorld s.x w → (i : InstrData) (m : Meaning) → meaning_of i.flags i.op ≡ m → may_have_words m i.op i.operands ≡ true → written_places m i.operands ≡ places_of i.operands
+    → ((arguments : List Argument) (outside : Outside) (answer : Answer) → Act s.x w m i.mem (map (width_of_place s) (written_places m i.operands)) arguments outside answer
+    → (given : Given) × AnswersWords s.x (map (width_of_place s) (written_places m i.operands)) given outside answer)
     → has_words s i.operands ≡ true → FitsBy s w m i
-machine_fits s w wide is_world i m is worded written words =
-    let each : (list_all (λ n. n == s.x) (widths_written s i.operands) ≡ true) × (list_all (λ n. nat_le n s.x) (widths_read s i.operands) ≡ true) =
-    and_parts (list_all (λ n. n == s.x) (widths_written s i.operands)) (list_all (λ n. nat_le n s.x) (widths_read s i.operands)) words in
-    words_answered s w wide is_world i m is worded (subst (λ ps. AreWide s.x (map (width_of_place s) ps)) (sym written) (all_wide s.x (widths_written s i.operands) each.0)) each.1
+machine_fits s w wide is_world i m is worded written gives words =
+    let each : (list_all (λ n. nat_le n s.x) (widths_written s i.operands) ≡ true) × (list_all (λ n. nat_le n s.x) (widths_read s i.operands) ≡ true) =
+    and_parts (list_all (λ n. nat_le n s.x) (widths_written s i.operands)) (list_all (λ n. nat_le n s.x) (widths_read s i.operands)) words in
+    let places : List ℕ = map (width_of_place s) (written_places m i.operands) in
+    let within : AtMost s.x places = subst (λ ps. AtMost s.x (map (width_of_place s) ps)) (sym written) (at_most s.x (widths_written s i.operands) each.0) in
+    words_answered s w wide is_world i m is worded within each.1
+    (λ arguments outside answer act sized. let given = gives arguments outside answer act in words_fitted s.x places given.0 outside answer within given.1 sized)
 
 -- ══ Instructions ══
 
 answer_fits : (s : Setting) (w : World) → 32 ≤ s.x → IsWorld s.x w → (i : InstrData) (m : Meaning) → meaning_of i.flags i.op ≡ m → keeps_values s m i ≡ true → FitsBy s w m i
 answer_fits s w wide is_world i Copying is keeps = plain_fits s w Copying i tt refl
 answer_fits s w wide is_world i (Generic gives) is keeps = given_here s w gives i (results_here s w is_world gives i is keeps)
-answer_fits s w wide is_world i (Machine gives) is keeps = machine_fits s w wide is_world i (Machine gives) is refl refl keeps
+answer_fits s w wide is_world i (Machine gives) is keeps = machine_fits s w wide is_world i (Machine gives) is refl refl (λ arguments outside answer act. (gives s.x act.0, act.2)) keeps
 answer_fits s w wide is_world i (Loading extension) is keeps = loading_fits s w extension i keeps
 answer_fits s w wide is_world i Storing is keeps = λ state arguments answer answered act. store_fits (widths_written s i.operands) s.x i.mem arguments (outside_of state) answer act
-answer_fits s w wide is_world i (MachineLoading exists bytes extension) is keeps = machine_fits s w wide is_world i (MachineLoading exists bytes extension) is refl refl keeps
+answer_fits s w wide is_world i (MachineLoading exists bytes extension) is keeps = machine_fits s w wide is_world i (MachineLoading exists bytes extension) is refl refl
+    (λ arguments outside answer act. (machine_load s.x exists bytes extension act.0 outside.memory, act.2)) keeps
 answer_fits s w wide is_world i (MachineStoring exists bytes) is keeps = λ state arguments answer answered act.
     machine_store_fits (widths_written s i.operands) s.x exists bytes act.0 (outside_of state) answer act.2
 answer_fits s w wide is_world i Jumping is keeps = plain_fits s w Jumping i tt refl

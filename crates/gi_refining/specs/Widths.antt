@@ -1,5 +1,5 @@
 -- A test of a function by the widths of its registers, by which values fit them wherever runs come: it knows every opcode.
-use Rattle.std.specs.Prelude.{ℕ, ◌+◌, Bool, true, false, ◌&&◌, ◌||◌, not, nat_lt, nat_le, ◌==◌, List, [], ◌∷◌, drop, map, Option, Some}
+use Rattle.std.specs.Prelude.{ℕ, ◌+◌, Bool, true, false, ◌&&◌, ◌||◌, not, nat_lt, nat_le, List, [], ◌∷◌, drop, map, Option, Some}
 use Rattle.std.specs.List.{list_all}
 use Rattle.gi_llt.specs.Llt.{width_of}
 use Rattle.gi_mir.specs.Data.{InstrData, FunctionData}
@@ -82,9 +82,10 @@ is_fitting_load x Zeros mem ns = false
 
 -- ══ Instructions of the machine ══
 
--- words in places of words, from values that are no wider
+-- Words in places of at most as many bits, from values that are no wider. While selection goes on a place of fewer bits has the
+-- low ones.
 abbrev pub has_words : Setting → List Operand → Bool
-has_words s os = list_all (λ n. n == s.x) (widths_written s os) && list_all (λ m. nat_le m s.x) (widths_read s os)
+has_words s os = list_all (λ n. nat_le n s.x) (widths_written s os) && list_all (λ m. nat_le m s.x) (widths_read s os)
 
 -- ══ All ══
 
