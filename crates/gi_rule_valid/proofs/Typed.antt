@@ -1,10 +1,11 @@
 -- The types of what is made meet their rows on registers, where they do on places.
-use Rattle.std.proofs.Common.{◌≡◌, ℕ, zero, suc, ◌+◌, ◌<◌, Bool, true, false, cond, nat_lt, List, [], ◌∷◌, ◌++◌, Option, Some, None, length, map, slice_get, refl, sym, ap, ap₂, ◌∙◌, arith, ltb-true}
-use Rattle.std.proofs.lemmas.Bool.{and_parts, and_from}
-use Rattle.std.specs.List.{list_all}
+use Rattle.std.proofs.Common.{◌≡◌, ℕ, zero, suc, ◌+◌, ◌<◌, Bool, true, false, cond, nat_lt, List, [], ◌∷◌, ◌++◌, Option, Some, None, length, map, slice_get, ◌||◌, ◌&&◌, ⊎_elim, refl, sym, ap, ap₂, ◌∙◌, arith, ltb-true}
+use Rattle.std.proofs.lemmas.Bool.{and_parts, and_from, or_cases, or_left, or_right}
+use Rattle.std.specs.List.{list_all, list_any}
 use Rattle.std.specs.Option.{is_none, option_or}
 use Rattle.gi_llt.specs.declared.Llt.{Llt}
 use Rattle.gi_mir.specs.Data.{InstrData, reg_of}
+use Rattle.gi_mir.specs.Formed.{is_use}
 use Rattle.gi_mir.specs.Row.{typing_of}
 use Rattle.gi_mir.specs.Typings.{TypingData}
 use Rattle.gi_mir.specs.declared.operand.Kind.{Kind}
@@ -13,7 +14,8 @@ use Rattle.gi_mir.specs.declared.operand.Operand.{Operand}
 use Rattle.gi_mir.specs.declared.operand.Operand.TheVariants as operand
 use Rattle.gi_meaning.specs.InRow.{results_in, sources_in}
 use Rattle.gi_refine.specs.Lifting.{grown}
-use Rattle.gi_valid.specs.Typing.{first_unmet, is_as_wide, is_constant_op, unmet, unsized, unsuited}
+use Rattle.gi_valid.specs.Definitions.{is_copy}
+use Rattle.gi_valid.specs.Typing.{Phase, Selecting, Typed, Untyped, first_unmet, is_as_wide, is_constant_op, joins_any, unmet, unsized, unsuited}
 use Rattle.gi_soundness.proofs.Typed.{still_unmet}
 use Rattle.gi_rule_values.specs.Data.{OperationData}
 use Rattle.gi_rule_values.specs.declared.rewrite.Slot.{Slot}
@@ -292,13 +294,35 @@ all_alike test tg kind line goes targets registers types place next (o ∷ os) m
     (length_types types o.types ∙ ap (λ n. n + length o.types) many ∙ sym (place_is place o.types))
     (ap (map tg) (grown_is registers rs) ∙ map_append tg registers rs ∙ ap₂ (λ a b. a ++ b) are parts.0 ∙ sym (somes_append types o.types)) one.rest each.1 parts.1)
 
+-- a copy joins any two types on registers as it does on places
+uses_behind : (kind : Llt → Kind) (rs : List ℕ) (types : List Llt) (os : List Operand) → list_any is_use (defined_as kind rs types ++ os) ≡ list_any is_use os
+uses_behind kind [] types os = refl
+uses_behind kind (r ∷ rs) [] os = refl
+uses_behind kind (r ∷ rs) (ty ∷ types) os = uses_behind kind rs types os
+
+uses_alike : (registers : List ℕ) (slots : List Slot) → list_any is_use (map (operand_for registers) slots) ≡ list_any is_use (map place_operand slots)
+uses_alike registers [] = refl
+uses_alike registers (At place ∷ slots) = refl
+uses_alike registers (Stands o ∷ slots) = ap (λ t. is_use o || t) (uses_alike registers slots)
+
+joined_alike : (phase : Phase) (kind : Llt → Kind) (registers rs : List ℕ) (types : List Llt) (o : OperationData) (line : ℕ) → joins_any phase (instr_for kind registers rs o line) ≡ joins_any phase (on_places (length types) o)
+joined_alike Typed kind registers rs types o line = refl
+joined_alike Untyped kind registers rs types o line = refl
+joined_alike Selecting kind registers rs types o line =
+    ap (λ t. is_copy o.op && t) (uses_behind kind rs o.types (map (operand_for registers) o.slots) ∙ uses_alike registers o.slots ∙ sym (uses_behind Generic (places_from (length types) o.types) o.types (map place_operand o.slots)))
+
 -- it meets its rows
-pub all_suited : (x : ℕ) (tg : ℕ → Option Llt) (kind : Llt → Kind) (line : ℕ) (targets : List (ℕ × ℕ)) (registers : List ℕ) (types : List Llt) (place next : ℕ) (os : List OperationData) → length types ≡ place → map tg registers ≡ somes types
-    → are_placed place os ≡ true → are_met x types os ≡ true → map tg (flat (all_registers targets place next os)) ≡ somes (flat_types os)
-    → list_all (λ i. is_none (unsuited x tg i)) (all_instrs_for kind line targets registers place next os) ≡ true
-all_suited x tg kind line targets registers types place next os many are placed met typed =
-    all_alike (λ type_of i. is_none (unsuited x type_of i)) tg kind line
-    (λ registers rs types place o set alike none. ap is_none (suited x tg kind registers rs types place o line set (none_of (unsuited x (slice_get (types ++ o.types)) (on_places (length types) o)) none)))
+pub all_suited : (x : ℕ) (phase : Phase) (tg : ℕ → Option Llt) (kind : Llt → Kind) (line : ℕ) (targets : List (ℕ × ℕ)) (registers : List ℕ) (types : List Llt) (place next : ℕ) (os : List OperationData) → length types ≡ place → map tg registers ≡ somes types
+    → are_placed place os ≡ true → are_met x phase types os ≡ true → map tg (flat (all_registers targets place next os)) ≡ somes (flat_types os)
+    → list_all (λ i. is_none (unsuited x tg i) || joins_any phase i) (all_instrs_for kind line targets registers place next os) ≡ true
+all_suited x phase tg kind line targets registers types place next os many are placed met typed =
+    all_alike (λ type_of i. is_none (unsuited x type_of i) || joins_any phase i) tg kind line
+    (λ registers rs types place o set alike passed.
+    let before : Option ℕ = unsuited x (slice_get (types ++ o.types)) (on_places (length types) o) in
+    let after : Option ℕ = unsuited x tg (instr_for kind registers rs o line) in
+    ⊎_elim (λ none. or_left (is_none after) (joins_any phase (instr_for kind registers rs o line)) (ap is_none (suited x tg kind registers rs types place o line set (none_of before none))))
+    (λ joins. or_right (is_none after) (joins_any phase (instr_for kind registers rs o line)) (joined_alike phase kind registers rs types o line ∙ joins))
+    (or_cases (is_none before) (joins_any phase (on_places (length types) o)) passed))
     targets registers types place next os many are placed met typed
 
 pub all_types_are : (types : List Llt) (os : List OperationData) → all_types types os ≡ types ++ flat_types os

@@ -1,6 +1,7 @@
 -- A valid function stays valid.
-use Rattle.std.proofs.Common.{◌≡◌, ℕ, zero, suc, ◌+◌, ◌-◌, ◌≤◌, ◌<◌, Bool, true, false, cond, not, ◌&&◌, ◌==◌, nat_lt, List, [], ◌∷◌, ◌++◌, Option, Some, None, length, map, slice_get, inl, inr, ⊎_elim, ◌⊎◌, refl, sym, ap, ap₂, ◌∙◌, subst, arith, true≢false}
-use Rattle.std.proofs.lemmas.Bool.{and_parts, and_from, or_left, eqb-true, eq-eqb, not-true, false_from_ne_true}
+use Rattle.std.proofs.Common.{◌≡◌, ℕ, zero, suc, ◌+◌, ◌-◌, ◌≤◌, ◌<◌, Bool, true, false, cond, not, ◌&&◌, ◌||◌, ◌==◌, nat_lt, List, [], ◌∷◌, ◌++◌, Option, Some, None, length, map, slice_get, inl, inr, ⊎_elim, ◌⊎◌, refl, sym, ap, ap₂, ◌∙◌, subst, arith, true≢false}
+use Rattle.std.proofs.lemmas.Bool.{and_parts, and_from, or_cases, or_left, eqb-true, eq-eqb, not-true, false_from_ne_true}
+use Rattle.std.proofs.lemmas.Option.{same_Some}
 use Rattle.std.specs.List.{list_all, list_any}
 use Rattle.std.specs.Option.{is_none}
 use Rattle.gi_llt.specs.declared.Llt.{Llt}
@@ -20,7 +21,7 @@ use Rattle.gi_valid.specs.Faults.{may_call}
 use Rattle.gi_valid.specs.Typing.{Phase, Typed, Selecting, Untyped, joins_any, mismatch, type_in, unsuited}
 use Rattle.gi_valid.specs.Valid.{IsValid}
 use Rattle.gi_valid.proofs.Single.{often, results_once}
-use Rattle.gi_soundness.specs.Conditions.{AccountsForResults, ArePlain, DefinesAnew, IsNew, KeepsTypes, MakesNoCall, ReadsOrigins, is_plain, is_replaced}
+use Rattle.gi_soundness.specs.Conditions.{AccountsForResults, ArePlain, DefinesAnew, IsNew, KeepsTypes, MakesNoNewCall, ReadsOrigins, is_plain, is_replaced}
 use Rattle.gi_soundness.specs.Rewriting.{IsOneOf, IsRewritten, Rewriting}
 use Rattle.gi_soundness.specs.Rules.{HasHadAll, computes}
 use Rattle.gi_soundness.proofs.Circles.{IsKnown}
@@ -34,9 +35,9 @@ use Rattle.gi_soundness.proofs.Scaled.{kind_new}
 use Rattle.gi_soundness.proofs.Typed.{in_list, kind_kept, no_kind_in, origin_used, other_alike}
 use Rattle.gi_soundness.proofs.Valid.{great_of, known_of, stays_valid}
 use Rattle.gi_rule_values.specs.Data.{OperationData, RewriteData}
-use Rattle.gi_rule_valid.specs.Keeping.{all_types, are_met, gives_types, are_origins, are_placed, are_results, has_type, is_asked, is_taken, keeps, makes_no_call, places_from, places_taken}
+use Rattle.gi_rule_valid.specs.Keeping.{all_types, are_met, gives_types, are_origins, are_placed, are_results, has_type, is_asked, is_taken, keeps, makes_no_new_call, may_become_call, places_from, places_taken}
 use Rattle.gi_rule_valid.specs.Using.{AreOfTypes, FitsAt, UseData, all_instrs_for, all_registers, instr_for, kind_in, made_of, next_for, operand_for, place_for, register_at, registers_for, rewritten_at, target_at, targets_of}
-use Rattle.gi_rule_valid.proofs.Calls.{none_called}
+use Rattle.gi_rule_valid.proofs.Calls.{call_is, none_called}
 use Rattle.gi_rule_valid.proofs.InPlace.{is_replaced_by, replacing}
 use Rattle.gi_rule_valid.proofs.Lists.{IsListed, all_listed, among, as_many, defines_are, flat, flat_registers, flat_types, kind_at, kinds_are, placed_one, results_are, slots_none}
 use Rattle.gi_rule_valid.proofs.Origins.{AreSources, all_ready, asked_taken, input_source, origins_sources, plain_for, pure_for, root_sources}
@@ -45,25 +46,25 @@ use Rattle.gi_rule_valid.proofs.Typed.{all_suited, all_types_are, somes}
 
 -- ══ The tests ══
 
-pub record IsKeeping (x : ℕ) (r : RewriteData) : Type 0 where
+pub record IsKeeping (x : ℕ) (phase : Phase) (r : RewriteData) : Type 0 where
   pub computes : computes r.root.op ≡ true
   pub some : nat_lt 0 (length r.root.types) ≡ true
   pub slots : list_all (is_asked (length r.inputs)) r.root.slots ≡ true
   pub origins : are_origins (places_taken r.root.slots) r.definitions (length r.inputs) (places_from 0 r.inputs) ≡ true
   pub placed : are_placed (length r.inputs) r.made ≡ true
-  pub calls : makes_no_call x r ≡ true
-  pub met : are_met x r.inputs r.made ≡ true
+  pub calls : makes_no_new_call x r ≡ true
+  pub met : are_met x phase r.inputs r.made ≡ true
   pub results : are_results (all_types r.inputs r.made) (length r.inputs) r.results r.root.types ≡ true
 
-pub keeping : (x : ℕ) (r : RewriteData) → keeps x r ≡ true → IsKeeping x r
-keeping x r h =
+pub keeping : (x : ℕ) (phase : Phase) (r : RewriteData) → keeps x phase r ≡ true → IsKeeping x phase r
+keeping x phase r h =
     let A : Bool = computes r.root.op in
     let B : Bool = nat_lt 0 (length r.root.types) in
     let C : Bool = list_all (is_asked (length r.inputs)) r.root.slots in
     let D : Bool = are_origins (places_taken r.root.slots) r.definitions (length r.inputs) (places_from 0 r.inputs) in
     let E : Bool = are_placed (length r.inputs) r.made in
-    let F : Bool = makes_no_call x r in
-    let G : Bool = are_met x r.inputs r.made in
+    let F : Bool = makes_no_new_call x r in
+    let G : Bool = are_met x phase r.inputs r.made in
     let first = and_parts (A && B && C && D && E && F && G) (are_results (all_types r.inputs r.made) (length r.inputs) r.results r.root.types) h in
     let second = and_parts (A && B && C && D && E && F) G first.0 in
     let third = and_parts (A && B && C && D && E) F second.0 in
@@ -132,7 +133,7 @@ pub record IsUse (x : ℕ) (phase : Phase) (f : FunctionData) (id : ℕ) (u : Us
   pub had : HasHadAll f
   pub live : IsLive f id
   pub fits : FitsAt f id u
-  pub keeps : IsKeeping x u.rewrite
+  pub keeps : IsKeeping x phase u.rewrite
 
 -- its root
 abbrev pub root_of : FunctionData → UseData → (line : ℕ) → InstrData
@@ -213,8 +214,8 @@ pub record IsMadeResult (f : FunctionData) (u : UseData) (r : ℕ) : Type 0 wher
   pub is : place ≡ length u.inputs + k
   pub target : target_at (targets_of u) place ≡ Some r
 
-pub made_result : (x : ℕ) (f : FunctionData) (id : ℕ) (u : UseData) (line r : ℕ) → IsSeen f id u line → IsKeeping x u.rewrite → length u.results ≡ length u.rewrite.root.types → among r u.results ≡ true → IsMadeResult f u r
-made_result x f id u line r s keeps many inside =
+pub made_result : (x : ℕ) (phase : Phase) (f : FunctionData) (id : ℕ) (u : UseData) (line r : ℕ) → IsSeen f id u line → IsKeeping x phase u.rewrite → length u.results ≡ length u.rewrite.root.types → among r u.results ≡ true → IsMadeResult f u r
+made_result x phase f id u line r s keeps many inside =
     let t : IsTargetOf (kind_in f) (all_types u.rewrite.inputs u.rewrite.made) (length u.rewrite.inputs) u.rewrite.results u.results u.rewrite.root.types r =
     target_of (kind_in f) (all_types u.rewrite.inputs u.rewrite.made) (length u.rewrite.inputs) u.rewrite.results u.results u.rewrite.root.types r keeps.results many inside in
     let k : ℕ = t.place - length u.rewrite.inputs in
@@ -241,25 +242,25 @@ pub kind_made : (f : FunctionData) (id : ℕ) (u : UseData) (line r k : ℕ) (ty
 kind_made f id u line r k ty s at has =
     kind_of_ids r f.next_id (made_of f id u) ∙ s.listed.kinds r ∙ kind_there (kind_in f) r (new_registers f u) (flat_types u.rewrite.made) k ty (each_once f id u line r s) at has
 
-root_kinds : (x : ℕ) (f : FunctionData) (id : ℕ) (u : UseData) (line r : ℕ) → IsSeen f id u line → IsKeeping x u.rewrite → length u.results ≡ length u.rewrite.root.types → kind_in_operands r (root_of f u line).operands ≡ kind_at (kind_in f) r u.results u.rewrite.root.types
-root_kinds x f id u line r s keeps many =
+root_kinds : (x : ℕ) (phase : Phase) (f : FunctionData) (id : ℕ) (u : UseData) (line r : ℕ) → IsSeen f id u line → IsKeeping x phase u.rewrite → length u.results ≡ length u.rewrite.root.types → kind_in_operands r (root_of f u line).operands ≡ kind_at (kind_in f) r u.results u.rewrite.root.types
+root_kinds x phase f id u line r s keeps many =
     kinds_are (kind_in f) r u.results u.rewrite.root.types (map (operand_for u.inputs) u.rewrite.root.slots) many
     (slots_none (length u.rewrite.inputs) u.inputs u.rewrite.root.slots (asked_taken (length u.rewrite.inputs) u.rewrite.root.slots keeps.slots))
 
-pub result_kinds : (x : ℕ) (f : FunctionData) (id : ℕ) (u : UseData) (line r : ℕ) → IsSeen f id u line → IsKeeping x u.rewrite → length u.results ≡ length u.rewrite.root.types → among r u.results ≡ true
+pub result_kinds : (x : ℕ) (phase : Phase) (f : FunctionData) (id : ℕ) (u : UseData) (line r : ℕ) → IsSeen f id u line → IsKeeping x phase u.rewrite → length u.results ≡ length u.rewrite.root.types → among r u.results ≡ true
     → kind_in_instrs r (rewriting_at f id u line).made ≡ kind_in_operands r (root_of f u line).operands
-result_kinds x f id u line r s keeps many inside =
-    let m = made_result x f id u line r s keeps many inside in
-    kind_made f id u line r m.k m.ty s m.at m.has ∙ sym (root_kinds x f id u line r s keeps many ∙ m.root)
+result_kinds x phase f id u line r s keeps many inside =
+    let m = made_result x phase f id u line r s keeps many inside in
+    kind_made f id u line r m.k m.ty s m.at m.has ∙ sym (root_kinds x phase f id u line r s keeps many ∙ m.root)
 
 -- each register that is made has its type in the function after it
-pub new_kind : (x : ℕ) (f : FunctionData) (id : ℕ) (u : UseData) (line r k : ℕ) (ty : Llt) → IsSeen f id u line → IsKeeping x u.rewrite → length u.results ≡ length u.rewrite.root.types → HasHadAll f
+pub new_kind : (x : ℕ) (phase : Phase) (f : FunctionData) (id : ℕ) (u : UseData) (line r k : ℕ) (ty : Llt) → IsSeen f id u line → IsKeeping x phase u.rewrite → length u.results ≡ length u.rewrite.root.types → HasHadAll f
     → IsRewritten (rewriting_at f id u line) f (rewritten_at f id u) → slice_get (new_registers f u) k ≡ Some r → slice_get (flat_types u.rewrite.made) k ≡ Some ty → kind_of (rewritten_at f id u) r ≡ kind_in f ty
-new_kind x f id u line r k ty s keeps many had is at has =
+new_kind x phase f id u line r k ty s keeps many had is at has =
     ⊎_elim
     (λ new. kind_new w f (rewritten_at f id u) is r (kind_in f ty) made (no_kind_in r (all_instrs f.blocks) (false_from_ne_true (list_any (defines r) (all_instrs f.blocks)) (λ d. over new (had.defined r d)))))
     (λ result.
-    let alike = result_kinds x f id u line r s keeps many result in
+    let alike = result_kinds x phase f id u line r s keeps many result in
     kind_kept w f (rewritten_at f id u) is r alike
     ∙ some_is (kind_of f r) (kind_in f ty) (sym (root_kind f s.known.once (id, root_of f u line) s.there r (s.defined r ∙ result)) ∙ sym alike ∙ made))
     (new_or_result f id u line r s (among_at r (new_registers f u) k at))
@@ -337,7 +338,16 @@ made_typed x phase f id u types c =
     ap (map (type_in phase (rewritten_at f id u))) (flat_registers (targets_of u) (length u.inputs) f.next_reg u.rewrite.made)
     ∙ all_typed phase (rewritten_at f id u) f.banked types (new_registers f u) (flat_types u.rewrite.made) (as_many (targets_of u) (length u.inputs) f.next_reg (flat_types u.rewrite.made))
     (λ k r ty at has.
-    new_kind x f id u c.fits.line r k ty (seen x phase f id u c) c.keeps c.fits.many c.had (is_replaced_by f id (root_of f u c.fits.line) (made_of f id u) c.own c.live c.fits.root) at has)
+    new_kind x phase f id u c.fits.line r k ty (seen x phase f id u c) c.keeps c.fits.many c.had (is_replaced_by f id (root_of f u c.fits.line) (made_of f id u) c.own c.live c.fits.root) at has)
+
+-- the root's results have its types before
+results_typed : (x : ℕ) (phase : Phase) (f : FunctionData) (id : ℕ) (u : UseData) → gives_types phase ≡ true → IsUse x phase f id u → map (type_in phase f) u.results ≡ somes u.rewrite.root.types
+results_typed x phase f id u types c =
+    let s = seen x phase f id u c in
+    all_typed phase f f.banked types u.results u.rewrite.root.types c.fits.many
+    (λ k r ty at has. same_Some (kind_of f r) (kind_in f ty)
+    (sym (root_kind f s.known.once (id, root_of f u c.fits.line) s.there r (s.defined r ∙ among_at r u.results k at))
+    ∙ root_kinds x phase f id u c.fits.line r s c.keeps c.fits.many ∙ kind_there (kind_in f) r u.results u.rewrite.root.types k ty (s.once r) at has))
 
 pub stays_valid_at : (x : ℕ) (phase : Phase) (f : FunctionData) (id : ℕ) (u : UseData) → gives_types phase ≡ true → IsUse x phase f id u → IsValid x phase (rewritten_at f id u)
 stays_valid_at x phase f id u types c =
@@ -387,7 +397,7 @@ stays_valid_at x phase f id u types c =
     results : AccountsForResults (rewriting_at f id u c.fits.line) f
     results = record {
       results = λ r so. absurd (moved r so);
-      covered = λ r result so. let m = made_result x f id u c.fits.line r s c.keeps c.fits.many (sym (s.defined r) ∙ result) in made_defines f id u c.fits.line r s ∙ among_at r (new_registers f u) m.k m.at;
+      covered = λ r result so. let m = made_result x phase f id u c.fits.line r s c.keeps c.fits.many (sym (s.defined r) ∙ result) in made_defines f id u c.fits.line r s ∙ among_at r (new_registers f u) m.k m.at;
       origins = λ r so. absurd (moved r so);
       apart = λ r so. absurd (moved r so);
     }
@@ -401,30 +411,36 @@ stays_valid_at x phase f id u types c =
           (record { many = refl; by = λ p below. inr (input_source f (id, root_of f u c.fits.line) u.inputs u.rewrite.inputs p s.sources (subst (λ n. p < n) s.many below)) })) splits r used;
     }
 
-    met : list_all (λ i. is_none (unsuited x (type_in phase (rewritten_at f id u)) i)) (made_of f id u) ≡ true
+    met : list_all (λ i. is_none (unsuited x (type_in phase (rewritten_at f id u)) i) || joins_any phase i) (made_of f id u) ≡ true
     met =
-        all_suited x (type_in phase (rewritten_at f id u)) (kind_in f) (line_of f id) (targets_of u) u.inputs u.rewrite.inputs (length u.inputs) f.next_reg u.rewrite.made (sym s.many)
+        all_suited x phase (type_in phase (rewritten_at f id u)) (kind_in f) (line_of f id) (targets_of u) u.inputs u.rewrite.inputs (length u.inputs) f.next_reg u.rewrite.made (sym s.many)
         (inputs_typed x phase f id u types c) s.placed c.keeps.met (made_typed x phase f id u types c)
 
-    mismatched : (i : InstrData) → is_none (unsuited x (type_in phase (rewritten_at f id u)) i) ≡ true → mismatch x phase (rewritten_at f id u) i ≡ None
+    mismatched : (i : InstrData) → (is_none (unsuited x (type_in phase (rewritten_at f id u)) i) || joins_any phase i) ≡ true → mismatch x phase (rewritten_at f id u) i ≡ None
     mismatched i h = by (joins_any phase i) (unsuited x (type_in phase (rewritten_at f id u)) i) h
       where
-        by : (b : Bool) (o : Option ℕ) → is_none o ≡ true → cond b None o ≡ None
+        by : (b : Bool) (o : Option ℕ) → (is_none o || b) ≡ true → cond b None o ≡ None
         by true o h = refl
         by false None h = refl
         by false (Some r) h = cc
 
     kinds : KeepsTypes x phase (rewriting_at f id u c.fits.line) f (rewritten_at f id u)
     kinds = record {
-      own = λ r made result. result_kinds x f id u c.fits.line r s c.keeps c.fits.many (sym (s.defined r) ∙ result);
+      own = λ r made result. result_kinds x phase f id u c.fits.line r s c.keeps c.fits.many (sym (s.defined r) ∙ result);
       replaced = λ r so. refl;
-      made = λ p there. mismatched p.1 (one_passes (λ (q : ℕ × InstrData). is_none (unsuited x (type_in phase (rewritten_at f id u)) q.1)) p (rewriting_at f id u c.fits.line).made
-          (all_of_ids (λ i. is_none (unsuited x (type_in phase (rewritten_at f id u)) i)) f.next_id (made_of f id u) ∙ met) there);
+      made = λ p there. mismatched p.1 (one_passes (λ (q : ℕ × InstrData). is_none (unsuited x (type_in phase (rewritten_at f id u)) q.1) || joins_any phase q.1) p (rewriting_at f id u c.fits.line).made
+          (all_of_ids (λ i. is_none (unsuited x (type_in phase (rewritten_at f id u)) i) || joins_any phase i) f.next_id (made_of f id u) ∙ met) there);
     }
 
-    calls : MakesNoCall x phase (rewriting_at f id u c.fits.line) (rewritten_at f id u)
-    calls = record {
-      made = λ p there. not-true (may_call x phase (rewritten_at f id u) p.1) (one_passes (λ (q : ℕ × InstrData). never_calls x phase (rewritten_at f id u) q.1) p (rewriting_at f id u c.fits.line).made
-          (all_of_ids (never_calls x phase (rewritten_at f id u)) f.next_id (made_of f id u)
-          ∙ none_called x phase (rewritten_at f id u) (kind_in f) (line_of f id) (targets_of u) u.inputs (length u.inputs) f.next_reg u.rewrite.made s.placed c.keeps.calls (made_typed x phase f id u types c)) there);
-    }
+    calls : MakesNoNewCall x phase (rewriting_at f id u c.fits.line) f (rewritten_at f id u)
+    calls = record { made = λ p there may. ⊎_elim (none p there may) root (or_cases _ _ c.keeps.calls) }
+      where
+        none : (p : ℕ × InstrData) → IsOneOf p (rewriting_at f id u c.fits.line).made → may_call x phase (rewritten_at f id u) p.1 ≡ true → list_all (λ o. not (may_become_call x o)) u.rewrite.made ≡ true → may_call x phase f (root_of f u c.fits.line) ≡ true
+        none p there may without =
+            absurd (true≢false (sym may ∙ not-true (may_call x phase (rewritten_at f id u) p.1) (one_passes (λ (q : ℕ × InstrData). never_calls x phase (rewritten_at f id u) q.1) p (rewriting_at f id u c.fits.line).made
+            (all_of_ids (never_calls x phase (rewritten_at f id u)) f.next_id (made_of f id u)
+            ∙ none_called x phase (rewritten_at f id u) (kind_in f) (line_of f id) (targets_of u) u.inputs (length u.inputs) f.next_reg u.rewrite.made s.placed without (made_typed x phase f id u types c)) there)))
+
+        root : may_become_call x u.rewrite.root ≡ true → may_call x phase f (root_of f u c.fits.line) ≡ true
+        root may =
+            call_is x phase f (kind_in f) u.inputs u.results u.rewrite.root c.fits.line (length u.rewrite.inputs) c.keeps.computes (asked_taken (length u.rewrite.inputs) u.rewrite.root.slots c.keeps.slots) c.fits.many (results_typed x phase f id u types c) ∙ may

@@ -1,4 +1,4 @@
--- Tests of a rewrite's own list, by which functions stay valid, where x is the width of a machine register in bits. They look
+-- Tests of a rewrite's own list, by which functions stay valid in a phase, where x is the width of a machine register in bits. They look
 -- at no number, and are linear in the list.
 use Rattle.std.specs.Prelude.{ℕ, ◌+◌, Bool, true, false, not, ◌&&◌, ◌||◌, ◌==◌, nat_lt, nat_le, List, [], ◌∷◌, ◌++◌, Option, Some, None, is_none, length, map, slice_get}
 use Rattle.std.specs.List.{list_all}
@@ -12,7 +12,7 @@ use Rattle.gi_mir.specs.declared.operand.Operand.{Operand}
 use Rattle.gi_mir.specs.declared.operand.Operand.TheVariants as operand
 use Rattle.gi_soundness.specs.Rules.{computes, is_in}
 use Rattle.gi_valid.specs.Faults.{is_division, is_product}
-use Rattle.gi_valid.specs.Typing.{Phase, Untyped, unsuited}
+use Rattle.gi_valid.specs.Typing.{Phase, Untyped, joins_any, unsuited}
 use Rattle.gi_rule_values.specs.Data.{DefinitionData, OperationData, RewriteData}
 use Rattle.gi_rule_values.specs.declared.rewrite.Slot.{Slot}
 use Rattle.gi_rule_values.specs.declared.rewrite.Slot.TheVariants.{At, Stands}
@@ -85,9 +85,9 @@ begins_wide x (ty ∷ types) = nat_lt x (width_of x ty)
 abbrev pub may_become_call : (x : ℕ) → OperationData → Bool
 may_become_call x o = is_division o.op || (is_product o.op && begins_wide x o.types)
 
--- none of what is made may
-abbrev pub makes_no_call : (x : ℕ) → RewriteData → Bool
-makes_no_call x rewrite = list_all (λ o. not (may_become_call x o)) rewrite.made
+-- what is made may only where the root may
+abbrev pub makes_no_new_call : (x : ℕ) → RewriteData → Bool
+makes_no_new_call x rewrite = list_all (λ o. not (may_become_call x o)) rewrite.made || may_become_call x rewrite.root
 
 -- ══ Types ══
 
@@ -110,9 +110,9 @@ abbrev pub on_each : (test : (ℕ → Option Llt) → InstrData → Bool) → (t
 on_each test types [] = true
 on_each test types (o ∷ os) = test (slice_get (types ++ o.types)) (on_places (length types) o) && on_each test (types ++ o.types) os
 
--- the types of each operation meet its row
-abbrev pub are_met : (x : ℕ) → (types : List Llt) → List OperationData → Bool
-are_met x types os = on_each (λ type_of i. is_none (unsuited x type_of i)) types os
+-- the types of each operation meet its row, but of a copy while selection goes on
+abbrev pub are_met : (x : ℕ) → Phase → (types : List Llt) → List OperationData → Bool
+are_met x phase types os = on_each (λ type_of i. is_none (unsuited x type_of i) || joins_any phase i) types os
 
 -- the types of all places
 abbrev pub all_types : (types : List Llt) → List OperationData → List Llt
@@ -133,16 +133,16 @@ are_results types count _ _ = false
 
 -- ══ All ══
 
--- The root computes a result from its operands, from which the inputs come by the definitions; what is made computes from places before it, without calls, in
--- types that meet its rows, each result of the root once.
-abbrev pub keeps : (x : ℕ) → RewriteData → Bool
-keeps x rewrite =
+-- The root computes a result from its operands, from which the inputs come by the definitions; what is made computes from places before it, with calls
+-- only where the root may be one, in types that meet its rows, each result of the root once.
+abbrev pub keeps : (x : ℕ) → Phase → RewriteData → Bool
+keeps x phase rewrite =
     computes rewrite.root.op && nat_lt 0 (length rewrite.root.types)
     && list_all (is_asked (length rewrite.inputs)) rewrite.root.slots
     && are_origins (places_taken rewrite.root.slots) rewrite.definitions (length rewrite.inputs) (places_from 0 rewrite.inputs)
     && are_placed (length rewrite.inputs) rewrite.made
-    && makes_no_call x rewrite
-    && are_met x rewrite.inputs rewrite.made
+    && makes_no_new_call x rewrite
+    && are_met x phase rewrite.inputs rewrite.made
     && are_results (all_types rewrite.inputs rewrite.made) (length rewrite.inputs) rewrite.results rewrite.root.types
 
 -- ══ Phases ══

@@ -10,4 +10,6 @@ returns c = record {
   lower_uadde = λ x flags n more some few one. rw (same n, more, some, few, one) refl;
   select_icmp_ule_32 = λ flags. refl;
   select_icmp_ule_64 = λ flags. refl;
+  division = λ flags. refl;
+  copy = λ flags. refl;
 }
