@@ -23,12 +23,13 @@ use Rattle.gi_meaning.specs.Meaning.{meaning_of}
 use Rattle.gi_meaning.specs.Runs.{Setting, setting_of}
 use Rattle.gi_rules.specs.Fitting.{stands_on}
 use Rattle.gi_valid.specs.Available.{Extent}
-use Rattle.gi_valid.specs.Faults.{Site, double_definitions, fault_in, not_available, others_in, phi_entries, physical_across, sites, terminator, told, unknown_block, unknown_successors, with_fault}
+use Rattle.gi_valid.specs.Faults.{Site, double_definitions, fault_in, not_available, others_in, phi_entries, physical_across, sites, terminator, told, unknown_block, unknown_successors}
 use Rattle.gi_valid.specs.Typing.{Selecting, Typed, joins_any, type_in, unsuited}
 use Rattle.gi_valid.specs.Valid.{IsValid}
 use Rattle.gi_valid.specs.declared.invalid.Invalid.{Invalid}
 use Rattle.gi_valid.specs.declared.invalid.Invalid.TheVariants.{TypeMismatch}
-use Rattle.gi_valid.proofs.Sited.{nothing_in_either, nothing_in_front}
+use Rattle.gi_valid.proofs.Sited.{nothing_in_either}
+use Rattle.gi_soundness.proofs.Valid.{fewer}
 use Rattle.gi_refining.specs.Known.{are_formed}
 use Rattle.gi_refining.specs.KnownTypes.{has_type}
 use Rattle.gi_refining.specs.Numbered.{is_numbered}
@@ -175,11 +176,6 @@ less_told x f extents site =
     (left_out (joins_any Selecting site.instr) (unsuited x (type_in Typed f) site.instr)
     (option_or (unknown_block f site) (option_or (phi_entries f site) (option_or (physical_across x Typed f site) (terminator f site)))))
 
-none_told : (test other : Site → Option Invalid) → ((site : Site) → test site ≡ None → other site ≡ None) → (sites : List Site) → told test sites ≡ [] → told other sites ≡ []
-none_told test other less [] none = refl
-none_told test other less (site ∷ sites) none =
-    let each = nothing_in_front site.instr.line (test site) (told test sites) none in ap₂ (with_fault site.instr.line) (less site each.0) (none_told test other less sites each.1)
-
 valid_begun : (x : ℕ) (f : FunctionData) → IsValid x Typed f → IsValid x Selecting f
 valid_begun x f valid =
     let e : ℕ → Extent = valid.extents in
@@ -188,7 +184,7 @@ valid_begun x f valid =
     record {
       extents = valid.extents;
       contained = valid.contained;
-      faultless = ap₂ (λ a b. a ++ b) (ap₂ (λ a b. a ++ b) inner.0 (none_told (fault_in x Typed f e) (fault_in x Selecting f e) (less_told x f e) (sites f) inner.1)) outer.1;
+      faultless = ap₂ (λ a b. a ++ b) (ap₂ (λ a b. a ++ b) inner.0 (fewer (fault_in x Typed f e) (fault_in x Selecting f e) (less_told x f e) (sites f) inner.1)) outer.1;
     }
 
 stand_begun : (x : ℕ) (is : List (ℕ × InstrData)) → list_all (λ p. is_of_stage x at.Banked p.1) is ≡ true → list_all (λ p. is_of_stage x at.Selecting p.1) is ≡ true

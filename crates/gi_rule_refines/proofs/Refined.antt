@@ -132,7 +132,7 @@ old_kind x phase f id u c r below = kind_kept (rewriting_at f id u c.fits.line) 
     is = is_replaced_by f id (root_of f u c.fits.line) (made_of f id u) c.own c.live c.fits.root
 
     by : (b : Bool) → among r u.results ≡ b → kind_in_instrs r (rewriting_at f id u c.fits.line).made ≡ kind_in_operands r (root_of f u c.fits.line).operands
-    by true so = result_kinds x f id u c.fits.line r s c.keeps c.fits.many so
+    by true so = result_kinds x phase f id u c.fits.line r s c.keeps c.fits.many so
     by false so =
         other_alike (rewriting_at f id u c.fits.line) r (s.defined r ∙ so)
         (made_defines f id u c.fits.line r s ∙ false_from_ne_true (among r (new_registers f u)) (λ there. ⊎_elim (λ more. over f.next_reg r more below) (λ result. true≢false (sym result ∙ so)) (new_or_result f id u c.fits.line r s there)))
@@ -150,7 +150,7 @@ made_wide x phase f id u c =
     let is = is_replaced_by f id (root_of f u c.fits.line) (made_of f id u) c.own c.live c.fits.root in
     ap (map (width_in x (rewritten_at f id u))) (flat_registers (targets_of u) (length u.inputs) f.next_reg u.rewrite.made)
     ∙ all_wide x (rewritten_at f id u) f.banked (new_registers f u) (flat_types u.rewrite.made) (as_many (targets_of u) (length u.inputs) f.next_reg (flat_types u.rewrite.made))
-    (λ k r ty at has. ap (width_of_kind x) (new_kind x f id u c.fits.line r k ty s c.keeps c.fits.many c.had is at has) ∙ wide_kind x f.banked ty)
+    (λ k r ty at has. ap (width_of_kind x) (new_kind x phase f id u c.fits.line r k ty s c.keeps c.fits.many c.had is at has) ∙ wide_kind x f.banked ty)
 
 -- ══ What is hidden ══
 
@@ -165,7 +165,7 @@ result_kept : (x : ℕ) (phase : Phase) (f : FunctionData) (id : ℕ) (u : UseDa
     → is_kept (all_grown u.inputs (u.results ∷ [])) (all_grown u.inputs (made_registers f u)) (kept_from (length u.rewrite.inputs) u.rewrite.results) r ≡ true
 result_kept x phase f id u c r inside =
     let s = seen x phase f id u c in
-    let m = made_result x f id u c.fits.line r s c.keeps c.fits.many inside in
+    let m = made_result x phase f id u c.fits.line r s c.keeps c.fits.many inside in
     let there : slice_get (u.inputs ++ flat (made_registers f u)) m.place ≡ Some r =
     ap₂ (λ l n. slice_get (u.inputs ++ l) n) (flat_registers (targets_of u) (length u.inputs) f.next_reg u.rewrite.made) m.is ∙ get_behind u.inputs (new_registers f u) m.k ∙ m.at in
     subst (λ l. is_kept l (all_grown u.inputs (made_registers f u)) (kept_from (length u.rewrite.inputs) u.rewrite.results) r ≡ true) (sym (all_grown_is u.inputs (u.results ∷ []) ∙ ap (λ l. u.inputs ++ l) (append_nothing u.results)))
@@ -352,4 +352,4 @@ use_refines x phase names f id u a =
     result = first_result u.results (some_results x phase f id u a.use_is)
 
     m : IsMadeResult f u (first_result u.results (some_results x phase f id u a.use_is)).0
-    m = made_result x f id u a.use_is.fits.line result.0 s a.use_is.keeps a.use_is.fits.many result.1
+    m = made_result x phase f id u a.use_is.fits.line result.0 s a.use_is.keeps a.use_is.fits.many result.1

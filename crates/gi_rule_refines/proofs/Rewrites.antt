@@ -26,13 +26,13 @@ use Rattle.gi_rule_refines.specs.Good.{AreMade, IsGood, IsMade, after_all}
 use Rattle.gi_rule_refines.proofs.Good.{good_after}
 use Rattle.gi_rule_refines.proofs.Refined.{giving, use_refines}
 
-pub use_of : (x : ℕ) (phase : Phase) (names : List (List ℕ)) (f : FunctionData) (id : ℕ) (u : UseData) → IsGood x phase names f → IsMade x f id u → IsUse x phase f id u
-use_of x phase names f id u good made = record { valid = good.valid; own = good.own; had = good.had; live = made.live; fits = made.fits; keeps = keeping x u.rewrite made.rewrite.keeps }
+pub use_of : (x : ℕ) (phase : Phase) (names : List (List ℕ)) (f : FunctionData) (id : ℕ) (u : UseData) → IsGood x phase names f → IsMade x phase f id u → IsUse x phase f id u
+use_of x phase names f id u good made = record { valid = good.valid; own = good.own; had = good.had; live = made.live; fits = made.fits; keeps = keeping x phase u.rewrite made.rewrite.keeps }
 
-pub good_kept : (x : ℕ) (phase : Phase) (names : List (List ℕ)) (f : FunctionData) (id : ℕ) (u : UseData) → gives_types phase ≡ true → IsGood x phase names f → IsMade x f id u → IsGood x phase names (rewritten_at f id u)
+pub good_kept : (x : ℕ) (phase : Phase) (names : List (List ℕ)) (f : FunctionData) (id : ℕ) (u : UseData) → gives_types phase ≡ true → IsGood x phase names f → IsMade x phase f id u → IsGood x phase names (rewritten_at f id u)
 good_kept x phase names f id u types good made = good_after x phase names f id u types (use_of x phase names f id u good made) made.rewrite.fits good.fit
 
-pub good_refines : (x : ℕ) (phase : Phase) (names : List (List ℕ)) (f : FunctionData) (id : ℕ) (u : UseData) → (x ≡ 32) ⊎ (x ≡ 64) → IsGood x phase names f → IsMade x f id u → RefinesUnchecked x names f (rewritten_at f id u)
+pub good_refines : (x : ℕ) (phase : Phase) (names : List (List ℕ)) (f : FunctionData) (id : ℕ) (u : UseData) → (x ≡ 32) ⊎ (x ≡ 64) → IsGood x phase names f → IsMade x phase f id u → RefinesUnchecked x names f (rewritten_at f id u)
 good_refines x phase names f id u word good made =
     use_refines x phase names f id u (record {
       use_is = use_of x phase names f id u good made;
@@ -41,7 +41,7 @@ good_refines x phase names f id u word good made =
       fit = widths_kept x names f word good.fit;
     })
 
-pub all_follow : (x : ℕ) (phase : Phase) (names : List (List ℕ)) (f : FunctionData) (us : List (ℕ × UseData)) → (x ≡ 32) ⊎ (x ≡ 64) → gives_types phase ≡ true → IsGood x phase names f → AreMade x f us → IsGood x phase names (after_all f us) × RefinesUnchecked x names f (after_all f us)
+pub all_follow : (x : ℕ) (phase : Phase) (names : List (List ℕ)) (f : FunctionData) (us : List (ℕ × UseData)) → (x ≡ 32) ⊎ (x ≡ 64) → gives_types phase ≡ true → IsGood x phase names f → AreMade x phase f us → IsGood x phase names (after_all f us) × RefinesUnchecked x names f (after_all f us)
 all_follow x phase names f [] word types good made = (good, refines_itself x names f)
 all_follow x phase names f (p ∷ us) word types good made =
     let rest = all_follow x phase names (rewritten_at f p.0 p.1) us word types (good_kept x phase names f p.0 p.1 types good made.0) made.1 in

@@ -105,7 +105,7 @@ result_alike s o os =
     ap₂ (λ a b. a || b) (ap₂ (λ a b. a || b) (ap₂ (λ ns ms. always_fits o || fits_by_widths o ns ms) (written s os) (read s os)) (constant_alike s o os)) (address_alike s o os)
 
 words_alike : (s : Setting) (os : List Operand) → has_words (by_width s.x) (map (widthed s.width) os) ≡ has_words s os
-words_alike s os = ap₂ (λ ns ms. list_all (λ n. n == s.x) ns && list_all (λ m. nat_le m s.x) ms) (written s os) (read s os)
+words_alike s os = ap₂ (λ ns ms. list_all (λ n. nat_le n s.x) ns && list_all (λ m. nat_le m s.x) ms) (written s os) (read s os)
 
 pub by_widths : (s : Setting) (m : Meaning) (i : InstrData) → keeps_values (by_width s.x) m (record i { operands = map (widthed s.width) i.operands }) ≡ keeps_values s m i
 by_widths s Copying i = refl

@@ -46,9 +46,9 @@ all_fit x types (o ∷ os) = keeps_values (on_types x (types ++ o.types)) (meani
 abbrev pub makes_fit : (x : ℕ) → RewriteData → Bool
 makes_fit x rewrite = all_fit x rewrite.inputs rewrite.made
 
--- A sound rewrite that passes the tests of its own list.
-pub record IsGoodRewrite (x : ℕ) (rewrite : RewriteData) : Type 0 where
-  pub keeps : keeps x rewrite ≡ true
+-- A sound rewrite that passes the tests of its own list in a phase.
+pub record IsGoodRewrite (x : ℕ) (phase : Phase) (rewrite : RewriteData) : Type 0 where
+  pub keeps : keeps x phase rewrite ≡ true
   pub gives : gives_all rewrite ≡ true
   pub fits : makes_fit x rewrite ≡ true
   pub sound : IsSoundRewrite x rewrite
@@ -56,15 +56,15 @@ pub record IsGoodRewrite (x : ℕ) (rewrite : RewriteData) : Type 0 where
 -- ══ One after another ══
 
 -- a good rewrite that fits at a live instruction
-pub record IsMade (x : ℕ) (f : FunctionData) (id : ℕ) (u : UseData) : Type 0 where
-  pub rewrite : IsGoodRewrite x u.rewrite
+pub record IsMade (x : ℕ) (phase : Phase) (f : FunctionData) (id : ℕ) (u : UseData) : Type 0 where
+  pub rewrite : IsGoodRewrite x phase u.rewrite
   pub live : IsLive f id
   pub fits : FitsAt f id u
 
 -- each fits in what those before it made
-abbrev pub AreMade : (x : ℕ) → FunctionData → List (ℕ × UseData) → Type 0
-AreMade x f [] = Unit {0}
-AreMade x f (p ∷ us) = IsMade x f p.0 p.1 × AreMade x (rewritten_at f p.0 p.1) us
+abbrev pub AreMade : (x : ℕ) → Phase → FunctionData → List (ℕ × UseData) → Type 0
+AreMade x phase f [] = Unit {0}
+AreMade x phase f (p ∷ us) = IsMade x phase f p.0 p.1 × AreMade x phase (rewritten_at f p.0 p.1) us
 
 abbrev pub after_all : FunctionData → List (ℕ × UseData) → FunctionData
 after_all f [] = f

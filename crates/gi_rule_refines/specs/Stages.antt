@@ -14,7 +14,7 @@ use Rattle.gi_valid.specs.Typing.{Phase, Typed, Selecting, Untyped, type_in}
 use Rattle.gi_rule_values.specs.Data.{RewriteData}
 use Rattle.gi_rule_valid.specs.Keeping.{on_each}
 use Rattle.gi_rule_valid.specs.Using.{UseData, rewritten_at}
-use Rattle.gi_rule_refines.specs.Good.{IsGood, IsMade}
+use Rattle.gi_rule_refines.specs.Good.{IsGood, IsGoodRewrite, IsMade}
 use Rattle.gi_rule_refines.specs.declared.stages.RuleStage.{RuleStage}
 use Rattle.gi_rule_refines.specs.declared.stages.RuleStage.TheVariants as at
 
@@ -82,9 +82,14 @@ pub record IsGoodAt (x : ℕ) (stage : RuleStage) (names : List (List ℕ)) (f :
 abbrev pub may_be_made : (x : ℕ) → RuleStage → RewriteData → Bool
 may_be_made x stage rewrite = list_all (λ o. has_opcode x stage o.op) rewrite.made && on_each (is_accepted x) rewrite.inputs rewrite.made
 
--- a good rewrite that fits at a live instruction, and may be made
+-- a rewrite that is good in the stage's phase, and may be made
+pub record IsGoodRewriteAt (x : ℕ) (stage : RuleStage) (rewrite : RewriteData) : Type 0 where
+  pub good : IsGoodRewrite x (phase_at stage) rewrite
+  pub may : may_be_made x stage rewrite ≡ true
+
+-- one that fits at a live instruction
 pub record IsMadeAt (x : ℕ) (stage : RuleStage) (f : FunctionData) (id : ℕ) (u : UseData) : Type 0 where
-  pub made : IsMade x f id u
+  pub made : IsMade x (phase_at stage) f id u
   pub may : may_be_made x stage u.rewrite ≡ true
 
 -- each fits in what those before it made

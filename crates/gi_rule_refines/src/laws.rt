@@ -23,7 +23,7 @@ ghost use Rattle.gi_rule_refines.specs.Good.{AreMade, IsGood, IsMade, after_all}
 /// many results its root has, and whatever registers it makes.
 pub fn sound_rewrite_refines()
     ensures { (x : ℕ) (phase : Phase) (names : List (List ℕ)) (f : FunctionData) (id : ℕ) (u : UseData)
-        → gives_types phase ≡ true → keeps x u.rewrite ≡ true → gives_all u.rewrite ≡ true → IsSoundRewrite x u.rewrite
+        → gives_types phase ≡ true → keeps x phase u.rewrite ≡ true → gives_all u.rewrite ≡ true → IsSoundRewrite x u.rewrite
         → IsValid x phase f → AreOwnIds f.blocks f.next_id → HasHadAll f → FitsAnywhere x names f → IsLive f id → FitsAt f id u
         → IsValid x phase (rewritten_at f id u) × RefinesUnchecked x names f (rewritten_at f id u) }
 {}
@@ -38,13 +38,13 @@ pub fn valid_function_is_good()
 /// A good rewrite makes a good function that refines the one before.
 pub fn good_rewrite_refines()
     ensures { (x : ℕ) (phase : Phase) (names : List (List ℕ)) (f : FunctionData) (id : ℕ) (u : UseData) → (x ≡ 32) ⊎ (x ≡ 64)
-        → gives_types phase ≡ true → IsGood x phase names f → IsMade x f id u
+        → gives_types phase ≡ true → IsGood x phase names f → IsMade x phase f id u
         → IsGood x phase names (rewritten_at f id u) × RefinesUnchecked x names f (rewritten_at f id u) }
 {}
 
 /// So do any number of them, one after another.
 pub fn good_rewrites_refine()
     ensures { (x : ℕ) (phase : Phase) (names : List (List ℕ)) (f : FunctionData) (us : List (ℕ × UseData)) → (x ≡ 32) ⊎ (x ≡ 64)
-        → gives_types phase ≡ true → IsGood x phase names f → AreMade x f us
+        → gives_types phase ≡ true → IsGood x phase names f → AreMade x phase f us
         → IsGood x phase names (after_all f us) × RefinesUnchecked x names f (after_all f us) }
 {}

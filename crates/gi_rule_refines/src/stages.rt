@@ -9,11 +9,12 @@ ghost use Rattle.gi_valid.specs.Valid.{IsValid};
 ghost use Rattle.gi_refining.specs.Known.{are_formed};
 ghost use Rattle.gi_refining.specs.Numbered.{is_numbered};
 ghost use Rattle.gi_rule_values.specs.Combining.{mul_to_shl};
+ghost use Rattle.gi_rule_values.specs.Data.{RewriteData};
 ghost use Rattle.gi_rule_values.specs.Selecting.{select_two};
 ghost use Rattle.gi_rule_valid.specs.Keeping.{gives_types};
 ghost use Rattle.gi_rule_valid.specs.Using.{UseData, rewritten_at};
 ghost use Rattle.gi_rule_refines.specs.Good.{after_all};
-ghost use Rattle.gi_rule_refines.specs.Stages.{AreMadeAt, IsGoodAt, IsMadeAt, has_banks, may_be_made, phase_at, stand_at};
+ghost use Rattle.gi_rule_refines.specs.Stages.{AreMadeAt, IsGoodAt, IsGoodRewriteAt, IsMadeAt, has_banks, may_be_made, phase_at, stand_at};
 ghost use Rattle.gi_rule_refines.specs.declared.stages.RuleStage.TheVariants as at;
 ghost use Rattle.gi_rule_refines.specs.declared.stages.RuleStage.{RuleStage};
 
@@ -57,6 +58,11 @@ pub fn checked_function_is_good()
         → IsValid x Typed f → is_numbered f ≡ true → are_formed f ≡ true
         → f.banked ≡ has_banks stage → stand_at x stage f ≡ true
         → IsGoodAt x stage names f }
+{}
+
+/// A rewrite that is good before legalisation is good at each stage before selection.
+pub fn good_rewrite_stays_good()
+    ensures { (x : ℕ) (stage : RuleStage) (rewrite : RewriteData) → phase_at stage ≡ Typed → IsGoodRewriteAt x at.Before rewrite → IsGoodRewriteAt x stage rewrite }
 {}
 
 /// A function that is good with banks is good when selection begins.
