@@ -111,7 +111,7 @@ values_keep s f = list_all (λ p. keeps_values s (meaning_of p.1.flags p.1.op) p
 
 -- ══ What validity doesn't say ══
 
--- instructions of the machine have words, where validity says nothing of their types
+-- instructions of the machine have at most words, where validity says nothing of their types
 abbrev pub machine_has_words : Setting → Meaning → InstrData → Bool
 machine_has_words s (Machine gives) i = has_words s i.operands
 machine_has_words s (MachineLoading exists bytes extension) i = has_words s i.operands

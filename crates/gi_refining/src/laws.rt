@@ -112,7 +112,7 @@ pub fn widely_tested_values_fit()
 {}
 
 /// In a valid function of formed instructions whose registers have types, values fit wherever runs come, if its instructions of the
-/// machine have words, where validity says nothing of their types. So a function is ready for sound rules by tests alone.
+/// machine have at most words, where validity says nothing of their types. So a function is ready for sound rules by tests alone.
 pub fn valid_values_fit()
     ensures fit { (x : ℕ) (names : List (List ℕ)) (f : FunctionData) → (x ≡ 32) ⊎ (x ≡ 64)
         → IsValid x Typed f → are_formed f ≡ true → have_types f ≡ true → has_machine_words (setting_of x names f) f ≡ true
