@@ -28,6 +28,23 @@ pub struct Target {
     pub zbb: bool,
 }
 
+/// How a value is extended to the words in which it is passed.
+#[derive(Clone, Copy, Debug, PartialEq, Eq)]
+pub enum Ext {
+    /// The bits above it may be any.
+    Any,
+    Sign,
+    Zero,
+}
+
+/// An argument of a function: an integer of so many bits, or a pointer, whose bits aren't looked at.
+#[derive(Clone, Copy, Debug, PartialEq, Eq)]
+pub struct Arg {
+    pub bits: u16,
+    pub pointer: bool,
+    pub ext: Ext,
+}
+
 /// The bits of a type: a scalar's own, and a register's for a pointer.
 pub fn width(ty: Llt, target: Target) -> u16
     requires { (target.xlen ≡ 32) ⊎ (target.xlen ≡ 64) }
