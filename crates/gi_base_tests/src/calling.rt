@@ -8,18 +8,27 @@ const MACHINE: Target = Target {
     zbb: false,
 };
 
-const fn integer(bits: u16) -> Arg {
-    Arg {
-        bits,
-        pointer: false,
-        ext: Ext::Any,
-    }
-}
+const BYTE: Arg = Arg {
+    bits: 8,
+    pointer: false,
+    ext: Ext::Sign,
+};
+
+const LONG: Arg = Arg {
+    bits: 64,
+    pointer: false,
+    ext: Ext::Any,
+};
+
+const POINTER: Arg = Arg {
+    bits: 0,
+    pointer: true,
+    ext: Ext::Any,
+};
 
 #[test]
 fn assigns_registers(rt: HostRuntime) {
-    let args = [integer(32), integer(48), integer(8)];
-    match assign(&args, MACHINE) {
+    match assign(&[BYTE, LONG, POINTER], MACHINE) {
         Ok(plan) => {
             assert_eq!(rt; plan.count, 3);
             assert_eq!(rt; plan.first, [10, 11, 13, 0, 0, 0, 0, 0]);
@@ -27,14 +36,7 @@ fn assigns_registers(rt: HostRuntime) {
         }
         Err(CcError::StackArgument(words)) => panic!(rt; "{words} words"),
     }
-    let many = [
-        integer(64),
-        integer(64),
-        integer(64),
-        integer(64),
-        integer(32),
-    ];
-    match assign(&many, MACHINE) {
+    match assign(&[LONG, LONG, LONG, LONG, BYTE], MACHINE) {
         Ok(_) => panic!(rt; "nine words in eight registers"),
         Err(CcError::StackArgument(words)) => assert_eq!(rt; words, 9),
     }

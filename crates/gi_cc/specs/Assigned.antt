@@ -3,19 +3,15 @@
 --     Arguments are passed in a0 to a7, which are x10 to x17, in order. One of at most as many bits as a register has
 --     takes one register. One of up to twice as many takes the next two, its low word in the first.
 -- Where the registers don't suffice the psABI passes the rest on the stack, which isn't done here.
-use Rattle.std.specs.Prelude.{◌≡◌, ℕ, ◌+◌, ◌*◌, ◌-◌, ◌≤◌, true, ◌||◌, ◌⊎◌, List, [], ◌∷◌, ◌++◌, length, map, replicate, sum_by, Result, Ok, Err, nat_le, if◌then◌else◌}
+use Rattle.std.specs.Prelude.{Bool, ◌&&◌, ℕ, ◌+◌, ◌*◌, ◌-◌, ◌||◌, List, [], ◌∷◌, ◌++◌, length, map, replicate, sum_by, Result, Ok, Err, nat_le, if◌then◌else◌}
 use Rattle.gi_llt.specs.declared.Arg.{Arg}
 use Rattle.gi_cc.specs.declared.Plan.{Plan}
 use Rattle.gi_cc.specs.declared.CcError.{CcError}
 use Rattle.gi_cc.specs.declared.CcError.TheVariants.{StackArgument}
 
--- an argument that has registers: a pointer, or an integer of one bit up to those of two words
-pub record IsInteger (xlen : ℕ) (arg : Arg) : Type 0 where
-  pub some : 1 ≤ arg.bits
-  pub at_most : arg.bits ≤ 2 * xlen
-
-abbrev pub IsPassable : (xlen : ℕ) → Arg → Type 0
-IsPassable xlen arg = (arg.pointer ≡ true) ⊎ IsInteger xlen arg
+-- an argument that the convention passes so: a pointer, or an integer of one bit up to those of two words
+abbrev pub is_passable : (xlen : ℕ) → Arg → Bool
+is_passable xlen arg = arg.pointer || nat_le 1 arg.bits && nat_le arg.bits (2 * xlen)
 
 -- how many words an argument has
 abbrev pub words_of : (xlen : ℕ) → Arg → ℕ

@@ -1,8 +1,9 @@
 //! The integer calling convention: in which registers the arguments of a call are passed.
 #![tactic(auto)]
 
-ghost use Rattle.std.specs.Prelude.{◌≡◌, ◌⊎◌, ◌+◌, ◌^◌, ◌<◌, ◌≤◌, All, length, sum_by, take};
-ghost use Rattle.gi_cc.specs.Assigned.{IsPassable, assigned, plan_of, words_of};
+ghost use Rattle.std.specs.Prelude.{◌≡◌, ◌⊎◌, ◌+◌, ◌^◌, ◌<◌, ◌≤◌, IsTrue, length, sum_by, take};
+ghost use Rattle.std.specs.List.{list_all};
+ghost use Rattle.gi_cc.specs.Assigned.{assigned, is_passable, plan_of, words_of};
 
 pub mod laws;
 
@@ -79,7 +80,7 @@ fn plan_for(args: &[Arg], target: Target) -> Plan
 pub fn assign(args: &[Arg], target: Target) -> Result<Plan, CcError>
     requires machine { (target.xlen ≡ 32) ⊎ (target.xlen ≡ 64) }
     requires few { length args.now < 2 ^ 30 }
-    requires passable { All (IsPassable target.xlen) args.now }
+    requires passable { IsTrue (list_all (is_passable target.xlen) args.now) }
     ensures { result ≡ assigned target.xlen args.now }
 {
     let words = word_count(args, target);
