@@ -1,4 +1,5 @@
 pub mod ArenaLemmas
+pub mod Chunks
 pub mod DefinedKinds
 pub mod Edits
 pub mod FormedLemmas

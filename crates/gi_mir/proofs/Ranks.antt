@@ -14,7 +14,7 @@ use Rattle.gi_mir.proofs.Mentioned.{Each, Each-get_or, Each-mentioning, Each-wea
 
 -- ---- a list without an id
 
-absent-without : (id : InstrId) (ids : List InstrId) → ((at : ℕ) → has_at ids at id ≡ false) → ids ≡ without id ids
+pub absent-without : (id : InstrId) (ids : List InstrId) → ((at : ℕ) → has_at ids at id ≡ false) → ids ≡ without id ids
 absent-without id [] none = refl
 absent-without id (x ∷ xs) none = rw (none 0) (ap (λ ys. x ∷ ys) (absent-without id xs (λ at. none (suc at))))
 
@@ -22,7 +22,7 @@ test_cases : (b : Bool) → (b ≡ true) ⊎ (b ≡ false)
 test_cases true = inl refl
 test_cases false = inr refl
 
-tail-sorted : (p : InstrId → Bool) (x : InstrId) (xs : List InstrId) → IsPartitionedBy p (x ∷ xs) → IsPartitionedBy p xs
+pub tail-sorted : (p : InstrId → Bool) (x : InstrId) (xs : List InstrId) → IsPartitionedBy p (x ∷ xs) → IsPartitionedBy p xs
 tail-sorted p x xs sorted = λ i j d le lt passes. sorted (suc i) (suc j) d (omega arith) (omega arith) passes
 
 tail-point : (p : InstrId → Bool) (x : InstrId) (xs : List InstrId) (r : ℕ) → IsPartitionPoint (λ y. p y ≡ true) (λ y. p y ≡ false) (x ∷ xs) (suc r) → IsPartitionPoint (λ y. p y ≡ true) (λ y. p y ≡ false) xs r
@@ -31,14 +31,14 @@ tail-point p x xs r point = (
   (λ k d ge lt. point.1 (suc k) d (omega arith) (omega arith)),
 )
 
-tail-rank : (p : InstrId → Bool) (id x : InstrId) (xs : List InstrId) → IsInRank p id (x ∷ xs) → IsInRank p id xs
+pub tail-rank : (p : InstrId → Bool) (id x : InstrId) (xs : List InstrId) → IsInRank p id (x ∷ xs) → IsInRank p id xs
 tail-rank p id x xs in_rank = record {
   sorted = tail-sorted p x xs in_rank.sorted;
   ranked = λ at found. tail-point p x xs at (in_rank.ranked (suc at) found);
 }
 
 -- behind the rank there is none
-none-behind : (p : InstrId → Bool) (id x : InstrId) (xs : List InstrId) → IsInRank p id (x ∷ xs) → p x ≡ false → (at : ℕ) → has_at xs at id ≡ false
+pub none-behind : (p : InstrId → Bool) (id x : InstrId) (xs : List InstrId) → IsInRank p id (x ∷ xs) → p x ≡ false → (at : ℕ) → has_at xs at id ≡ false
 none-behind p id x xs in_rank late at = by (has_at xs at id) refl
   where
     by : (b : Bool) → has_at xs at id ≡ b → b ≡ false
@@ -46,7 +46,7 @@ none-behind p id x xs in_rank late at = by (has_at xs at id) refl
     by false found = refl
 
 -- and ahead of it neither
-none-ahead : (p : InstrId → Bool) (id x : InstrId) (xs : List InstrId) → IsInRank p id (x ∷ xs) → p x ≡ true → (x.0 == id.0) ≡ false
+pub none-ahead : (p : InstrId → Bool) (id x : InstrId) (xs : List InstrId) → IsInRank p id (x ∷ xs) → p x ≡ true → (x.0 == id.0) ≡ false
 none-ahead p id x xs in_rank early = by (x.0 == id.0) refl
   where
     by : (b : Bool) → (x.0 == id.0) ≡ b → b ≡ false
@@ -123,7 +123,7 @@ rank-parts p id b (x ∷ xs) ys own early late =
     rank-front p id x (xs ++ (one_if b id ++ ys)) early.0.0 early.0.1 (rank-parts p id b xs ys own early.1 late)
 
 -- a list that is in order, with the id at its rank or without it
-late-rest : (p : InstrId → Bool) (x : InstrId) (xs : List InstrId) → IsPartitionedBy p (x ∷ xs) → p x ≡ false → Each (λ y. p y ≡ false) xs
+pub late-rest : (p : InstrId → Bool) (x : InstrId) (xs : List InstrId) → IsPartitionedBy p (x ∷ xs) → p x ≡ false → Each (λ y. p y ≡ false) xs
 late-rest p x [] sorted late = tt
 late-rest p x (y ∷ ys) sorted late = (here (p y) refl, late-rest p x ys rest late)
   where

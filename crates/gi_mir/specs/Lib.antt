@@ -6,6 +6,7 @@ pub mod Entries
 pub mod Formed
 pub mod Groups
 pub mod Ids
+pub mod InstrLists
 pub mod Instrs
 pub mod Labels
 pub mod Mentions

@@ -1,13 +1,12 @@
 -- Lists by the place on a page.
-use Rattle.std.specs.Prelude.{◌≡◌, ◌≢◌, ℕ, List, [], Vec, slice_get}
+use Rattle.std.specs.Prelude.{◌≡◌, ◌≢◌, ℕ, List, [], slice_get}
 use Rattle.std.specs.Option.{option_map_or}
-use Rattle.std.specs.declared.alloc.Global.{Global}
 use Rattle.gi_mir.specs.declared.block.InstrId.{InstrId}
 use Rattle.gi_mir.specs.declared.page.Page.{Page}
 
 -- the list at a place, and one without instructions where there is none
-abbrev pub list_at : List (Vec InstrId Global) → ℕ → List InstrId
-list_at lists at = option_map_or (λ v. v.items) (slice_get lists at) []
+abbrev pub list_at : List (List InstrId) → ℕ → List InstrId
+list_at lists at = option_map_or (λ ids. ids) (slice_get lists at) []
 
 abbrev pub listed_at : Page → ℕ → List InstrId
 listed_at page at = list_at page.lists.items at

@@ -5,15 +5,17 @@ ghost use Rattle.std.specs.Prelude.{◌≡◌, ◌↔◌, IsTrue, ◌-◌, ◌^�
 ghost use Rattle.gi_mir.specs.Edit.{block_at, head_of, ids_of, empty_function, register_above, above_registers, with_block, with_stack, with_keys, spot_in, with_instr, home_of, place_in_block, IsLive, StandsBefore, instr_of, id_at, id_after, id_before, without_instr, with_new_reg, CanSetOperand, with_operand_of, IsDefAt, with_changed, with_kind, definition_of, users_of, uses, all_instrs};
 ghost use Rattle.gi_mir.specs.Formed.{is_formed};
 ghost use Rattle.gi_mir.specs.Ids.{AreOwnIds};
+ghost use Rattle.gi_mir.specs.InstrLists.{ids_left};
 ghost use Rattle.gi_mir.specs.Instrs.{left};
 ghost use Rattle.gi_mir.specs.Registers.{kind_in_operand, kind_in_operands, kind_of};
 ghost use Rattle.gi_mir.specs.Uses.{with_reg_replaced};
 
 use crate::block::{Block, InstrId};
 use crate::instr::Instr;
+use crate::instr_list::InstrIds;
 use crate::instrs::Instrs;
 use crate::layout::Layout;
-use crate::mentions::{definition_key, first, use_key};
+use crate::mentions::{definition_key, use_key};
 use crate::operand::{Kind, Operand, Reg, StackObject};
 use gi_llt::Memory;
 use std::alloc::Global;
@@ -333,22 +335,22 @@ impl Function {
     pub fn def_of(&self, reg: Reg) -> Option<InstrId>
         ensures { option_map (λ id. id.0) result ≡ definition_of self.now reg.0 }
     {
-        first(self.layout.mentions.of(definition_key(reg)))
+        self.layout.mentions.of(definition_key(reg)).first()
     }
 
     /// The kind of a register: the one at its first definition in layout order, and `Class` where it has none.
     pub fn kind_of(&self, reg: Reg) -> Kind
         ensures { result ≡ kind_of self.now reg.0 }
     {
-        match first(self.layout.mentions.of(definition_key(reg))) {
+        match self.layout.mentions.of(definition_key(reg)).first() {
             Some(id) => kind_among(self.instr(id).operands.as_slice(), reg).unwrap_or(Kind::Class),
             None => Kind::Class,
         }
     }
 
     /// The instructions that use this register, each once, in layout order.
-    pub fn uses_of(&self, reg: Reg) -> &[InstrId]
-        ensures { map (λ id. id.0) result.now ≡ users_of self.now reg.0 }
+    pub fn uses_of(&self, reg: Reg) -> InstrIds<'_>
+        ensures { map (λ id. id.0) (ids_left result) ≡ users_of self.now reg.0 }
     {
         self.layout.mentions.of(use_key(reg))
     }

@@ -7,6 +7,7 @@ pub mod entry;
 pub mod formed;
 pub mod function;
 pub mod instr;
+pub mod instr_list;
 pub mod instrs;
 mod labels;
 mod layout;

@@ -6,9 +6,11 @@ ghost use Rattle.std.specs.BTreeMap.{get};
 ghost use Rattle.std.specs.Ordering.{nat_cmp};
 ghost use Rattle.std.specs.List.Sorted.{IsPartitionedBy, IsPartitionPoint};
 ghost use Rattle.gi_mir.specs.declared.block.InstrId.{InstrId};
+ghost use Rattle.gi_mir.specs.InstrLists.{ids_left, last_precedes};
 ghost use Rattle.gi_mir.specs.Mentions.{definition_key, use_key, mention_of, is_mention, precedes, has_at, noted, without, listed, IsInRank, stands_before, merged, IsListed, HasSameLists, IsSorted, AreInRank, Lacks, IsNoted, IsForgotten, AreUsersMoved};
 
 use crate::block::InstrId;
+use crate::instr_list::{InstrIds, InstrList};
 use crate::operand::{Operand, Reg};
 use crate::page::{PAGE, Page};
 use crate::place::Place;
@@ -79,9 +81,9 @@ fn precedes(places: &[Place], id: InstrId, spot: Place) -> bool
 }
 
 /// Whether the last instruction of a list stands before a place. It does where instructions come in layout order.
-fn is_last_before(places: &[Place], ids: &[InstrId], spot: Place) -> bool
-    ensures some { result ≡ true → 0 < length ids.now }
-    ensures last { result ≡ true → (other : InstrId) → precedes places.now spot (slice_index_or ids.now (length ids.now - 1) other) ≡ true }
+#[tactic(auto, using(crate::proofs::Paged::last_precedes_none, crate::proofs::Paged::last_precedes_some))]
+pub(crate) fn is_last_before(places: &[Place], ids: &[InstrId], spot: Place) -> bool
+    ensures { result ≡ last_precedes (precedes places.now spot) ids.now }
 {
     let count = ids.len();
     0 < count && precedes(places, ids[count - 1], spot)
@@ -99,13 +101,6 @@ fn rank(places: &[Place], ids: &[InstrId], spot: Place) -> usize
     } else {
         ids.partition_point(|id| precedes(places, *id, spot))
     }
-}
-
-/// The first instruction of a list.
-pub(crate) fn first(ids: &[InstrId]) -> Option<InstrId>
-    ensures { result ≡ slice_get ids.now 0 }
-{
-    ids.first().copied()
 }
 
 /// Whether a list has an instruction at this index.
@@ -243,19 +238,19 @@ impl Mentions {
     }
 
     /// The instructions that are listed under a key.
-    pub(crate) fn of(&self, key: u64) -> &[InstrId]
-        ensures { result.now ≡ listed self.now key }
+    pub(crate) fn of(&self, key: u64) -> InstrIds<'_>
+        ensures { ids_left result ≡ listed self.now key }
     {
         match self.pages.get(&(key / PAGE)) {
             Some(page) => page.at((key % PAGE) as usize),
-            None => &[],
+            None => InstrIds::none(),
         }
     }
 
     /// Puts a page in on which there is one list, where there was no page.
-    fn put_page(&mut self, key: u64, ids: Vec<InstrId>) -> Result<(), Memory>
+    fn put_page(&mut self, key: u64, ids: InstrList) -> Result<(), Memory>
         requires { get nat_cmp self.old.pages (key / 128) ≡ None }
-        ensures ok { OnOk result (IsListed self.old self.new key ids.items) }
+        ensures ok { OnOk result (IsListed self.old self.new key ids) }
         ensures err { OnErr result (HasSameLists self.old self.new) }
     {
         let mut page = Page::new(self.alloc);
@@ -265,8 +260,8 @@ impl Mentions {
     }
 
     /// Puts a list under a key.
-    fn set(&mut self, key: u64, ids: Vec<InstrId>) -> Result<(), Memory>
-        ensures ok { OnOk result (IsListed self.old self.new key ids.items) }
+    fn set(&mut self, key: u64, ids: InstrList) -> Result<(), Memory>
+        ensures ok { OnOk result (IsListed self.old self.new key ids) }
         ensures err { OnErr result (HasSameLists self.old self.new) }
     {
         match self.pages.get_mut(&(key / PAGE)) {
@@ -275,14 +270,12 @@ impl Mentions {
         }
     }
 
-    /// Takes the list under a key.
-    fn take(&mut self, key: u64) -> Vec<InstrId>
-        ensures list { result.items ≡ listed self.old key }
-        ensures rest { IsListed self.old self.new key [] }
+    /// Takes all instructions out of the list under a key.
+    fn clear(&mut self, key: u64)
+        ensures { IsListed self.old self.new key [] }
     {
-        match self.pages.get_mut(&(key / PAGE)) {
-            Some(page) => page.take(self.alloc, (key % PAGE) as usize),
-            None => Vec::new(self.alloc),
+        if let Some(page) = self.pages.get_mut(&(key / PAGE)) {
+            page.clear(self.alloc, (key % PAGE) as usize);
         }
     }
 
@@ -292,8 +285,7 @@ impl Mentions {
         ensures ok { OnOk result (IsListed self.old self.new key (id ∷ [])) }
         ensures err { OnErr result (HasSameLists self.old self.new) }
     {
-        let mut ids = Vec::new(self.alloc);
-        ids.push(id).map_err(|_| Memory)?;
+        let ids = InstrList::one(self.alloc, id)?;
         self.put_page(key, ids)
     }
 
@@ -395,12 +387,13 @@ impl Mentions {
     {
         let from = use_key(old);
         let to = use_key(new);
-        let olds = self.of(from);
-        let news = self.of(to);
-        let ids = merge(self.alloc, places, olds, news)?;
-        self.set(to, ids)?;
-        let users = self.take(from);
-        Ok(users)
+        let olds = self.of(from).copied(self.alloc)?;
+        let news = self.of(to).copied(self.alloc)?;
+        let ids = merge(self.alloc, places, olds.as_slice(), news.as_slice())?;
+        let joined = InstrList::from_ids(self.alloc, ids)?;
+        self.set(to, joined)?;
+        self.clear(from);
+        Ok(olds)
     }
 
     /// Takes an instruction, which stands at this place, out of the lists under the keys that its operands mention.

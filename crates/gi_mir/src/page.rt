@@ -2,15 +2,15 @@
 
 ghost use Rattle.std.specs.Prelude.{◌≡◌, ℕ, ◌<◌, [], length, true, OnOk, OnErr};
 ghost use Rattle.std.specs.List.Sorted.{IsPartitionedBy};
+ghost use Rattle.gi_mir.specs.InstrLists.{ids_left};
 ghost use Rattle.gi_mir.specs.Mentions.{precedes, noted, without, IsInRank};
 ghost use Rattle.gi_mir.specs.Pages.{list_at, listed_at, AreAlike, IsPageWritten};
 
 use crate::block::InstrId;
-use crate::mentions::{put, take_out};
+use crate::instr_list::{InstrIds, InstrList};
 use crate::place::Place;
 use gi_llt::Memory;
 use std::alloc::Global;
-use std::mem;
 
 /// How many lists a page has at most.
 pub(crate) const PAGE: u64 = 128;
@@ -18,17 +18,17 @@ pub(crate) const PAGE: u64 = 128;
 /// The lists at the first places of a page. At the others none has an instruction.
 #[derive(Drop)]
 pub(crate) struct Page {
-    lists: Vec<Vec<InstrId>>,
+    lists: Vec<InstrList>,
 }
 
 /// Adds lists without instructions until there is one at this place.
 #[tactic(auto, using(crate::proofs::Paged::same_with_empty))]
-fn make_room(lists: &mut Vec<Vec<InstrId>>, alloc: Global, at: usize) -> Result<(), Memory>
+fn make_room(lists: &mut Vec<InstrList>, alloc: Global, at: usize) -> Result<(), Memory>
     ensures same { (k : ℕ) → list_at lists.new.items k ≡ list_at lists.old.items k }
     ensures there { OnOk result (at < length lists.new.items) }
 {
     while lists.len() <= at {
-        lists.push(Vec::new(alloc)).map_err(|_| Memory)?;
+        lists.push(InstrList::new(alloc)).map_err(|_| Memory)?;
     }
     Ok(())
 }
@@ -44,18 +44,18 @@ impl Page {
     }
 
     /// The list at a place.
-    pub(crate) fn at(&self, at: usize) -> &[InstrId]
-        ensures { result.now ≡ listed_at self.now at }
+    pub(crate) fn at(&self, at: usize) -> InstrIds<'_>
+        ensures { ids_left result ≡ listed_at self.now at }
     {
         match self.lists.get(at) {
-            Some(ids) => ids.as_slice(),
-            None => &[],
+            Some(list) => list.ids(),
+            None => InstrIds::none(),
         }
     }
 
     /// Puts a list at a place.
-    pub(crate) fn set(&mut self, alloc: Global, at: usize, ids: Vec<InstrId>) -> Result<(), Memory>
-        ensures ok { OnOk result (IsPageWritten self.old self.new at ids.items) }
+    pub(crate) fn set(&mut self, alloc: Global, at: usize, ids: InstrList) -> Result<(), Memory>
+        ensures ok { OnOk result (IsPageWritten self.old self.new at ids) }
         ensures err { OnErr result (AreAlike self.old self.new) }
     {
         make_room(&mut self.lists, alloc, at)?;
@@ -63,14 +63,12 @@ impl Page {
         Ok(())
     }
 
-    /// Takes the list at a place.
-    pub(crate) fn take(&mut self, alloc: Global, at: usize) -> Vec<InstrId>
-        ensures list { result.items ≡ listed_at self.old at }
-        ensures rest { IsPageWritten self.old self.new at [] }
+    /// Takes all instructions out of the list at a place.
+    pub(crate) fn clear(&mut self, alloc: Global, at: usize)
+        ensures { IsPageWritten self.old self.new at [] }
     {
-        match self.lists.get_mut(at) {
-            Some(ids) => mem::replace(ids, Vec::new(alloc)),
-            None => Vec::new(alloc),
+        if let Some(list) = self.lists.get_mut(at) {
+            *list = InstrList::new(alloc);
         }
     }
 
@@ -88,7 +86,7 @@ impl Page {
         ensures err { OnErr result (AreAlike self.old self.new) }
     {
         make_room(&mut self.lists, alloc, at)?;
-        put(&mut self.lists[at], places, id, spot)
+        self.lists[at].put(alloc, places, id, spot)
     }
 
     /// Takes an instruction, which stands at this place of the function, out of a list if it is there.
@@ -96,8 +94,8 @@ impl Page {
         requires { IsInRank (precedes places.now spot) id (listed_at self.old at) }
         ensures { IsPageWritten self.old self.new at (without id (listed_at self.old at)) }
     {
-        if let Some(ids) = self.lists.get_mut(at) {
-            take_out(ids, places, id, spot);
+        if let Some(list) = self.lists.get_mut(at) {
+            list.take_out(places, id, spot);
         }
     }
 }
