@@ -1,0 +1,5 @@
+pub mod Clear
+pub mod Firsts
+pub mod Going
+pub mod Lasts
+pub mod Standing

@@ -1,0 +1,4 @@
+pub mod Gaps
+pub mod Layout
+pub mod NormalForms
+pub mod Tables
