@@ -1,13 +1,18 @@
 -- One rewriting after another.
-use Rattle.std.proofs.Common.{◌≡◌, ℕ, zero, suc, ◌+◌, ◌-◌, ◌≤◌, Bool, true, false, cond, List, [], ◌++◌, Option, Some, None, refl, sym, ap, ◌∙◌, append-nil, append_assoc, arith, subst}
+use Rattle.std.proofs.Common.{◌≡◌, ℕ, zero, suc, ◌+◌, ◌-◌, ◌<◌, ◌≤◌, All, Bool, true, false, cond, List, [], ◌∷◌, ◌++◌, Option, Some, None, refl, sym, ap, ◌∙◌, append-nil, append_assoc, arith, subst}
 use Rattle.std.specs.Option.{option_and_then}
 use Rattle.gi_mir.specs.Data.{FunctionData}
 use Rattle.gi_mir.specs.Edit.{IsLive}
+use Rattle.std.proofs.lemmas.List.Elements.{All-append, All-nil}
+use Rattle.gi_observe.specs.Replay.{IsReplay, replayed, replayed_one}
 use Rattle.gi_observe.specs.declared.change.Change.{Change}
+use Rattle.gi_observe.specs.declared.change.ChangeKind.{ChangeKind}
+use Rattle.gi_observe.specs.declared.change.ChangeKind.TheVariants.{Changed, Created, Erased}
+use Rattle.gi_observe.specs.declared.pass.Pass.{Pass}
 use Rattle.gi_observe.proofs.Replaying.{IsReplay-joined}
 use Rattle.gi_normalise.specs.Layout.{IsStanding}
 use Rattle.gi_normalise.specs.NormalForms.{Choice, Comes, IsNormalForm, Row, first_fit, fits, next_by}
-use Rattle.gi_normalise.specs.Tables.{IsNormalised, IsSound, TellsAll}
+use Rattle.gi_normalise.specs.Tables.{IsChangeOf, IsNormalised, IsSound, TellsAll}
 
 -- ---- one normal form
 
@@ -120,45 +125,64 @@ there choose rows IsFit Refines weight f standing sound fit = by (weight f + f.n
 
 -- ---- on the way, with what was told and counted
 
-pub record IsGoing (choose : Choice) (rows : List Row) (IsFit : FunctionData → Type 0) (Refines : FunctionData → FunctionData → Type 0) (weight : FunctionData → ℕ) (f now : FunctionData) (tells : Bool) (before after : List Change) (start steps : ℕ) : Type 0 where
+pub record IsGoing (choose : Choice) (rows : List Row) (IsFit : FunctionData → Type 0) (Refines : FunctionData → FunctionData → Type 0) (weight : FunctionData → ℕ) (f now : FunctionData) (pass : Pass) (tells : Bool) (before after : List Change) (start steps : ℕ) : Type 0 where
   pub count : ℕ
   pub way : IsUnderway choose rows IsFit Refines weight f now count
   pub counted : start + count ≤ steps
-  pub told : TellsAll tells before after f now
+  pub told : TellsAll pass tells before after f now
 
-pub tells-none : (tells : Bool) (before : List Change) (f : FunctionData) → TellsAll tells before before f f
-tells-none tells before f = record { changes = []; replay = record { same = refl }; seen = λ is. sym (append-nil before) }
+name-one : (f : FunctionData) (kind : ChangeKind) → (replayed_one f kind).name ≡ f.name
+name-one f (Created id block before instr) = refl
+name-one f (Erased id instr) = refl
+name-one f (Changed id old new) = refl
 
-pub tells-both : (tells : Bool) (before middle after : List Change) (f g h : FunctionData) → TellsAll tells before middle f g → TellsAll tells middle after g h → TellsAll tells before after f h
-tells-both tells before middle after f g h one two = record {
+name-replayed : (f : FunctionData) (changes : List Change) → (replayed f changes).name ≡ f.name
+name-replayed f [] = refl
+name-replayed f (change ∷ changes) = name-replayed (replayed_one f change.kind) changes ∙ name-one f change.kind
+
+-- no change renames a function
+pub same-name : (changes : List Change) (f g : FunctionData) → IsReplay changes f g → g.name ≡ f.name
+same-name changes f g replay = ap (λ (k : FunctionData). k.name) replay.same ∙ name-replayed f changes
+
+pub tells-none : (pass : Pass) (tells : Bool) (before : List Change) (f : FunctionData) → TellsAll pass tells before before f f
+tells-none pass tells before f = record { changes = []; own = All-nil (IsChangeOf f.name pass); replay = record { same = refl }; seen = λ is. sym (append-nil before) }
+
+pub tells-both : (pass : Pass) (tells : Bool) (before middle after : List Change) (f g h : FunctionData) → TellsAll pass tells before middle f g → TellsAll pass tells middle after g h → TellsAll pass tells before after f h
+tells-both pass tells before middle after f g h one two = record {
   changes = one.changes ++ two.changes;
+  own = All-append (IsChangeOf f.name pass) one.changes two.changes one.own (subst (λ (n : ℕ). All (IsChangeOf n pass) two.changes) (same-name one.changes f g one.replay) two.own);
   replay = IsReplay-joined one.changes two.changes f g h one.replay two.replay;
   seen = λ is. two.seen is ∙ ap (λ (xs : List Change). xs ++ two.changes) (one.seen is) ∙ append_assoc before one.changes two.changes;
 }
 
-pub going-begins : (choose : Choice) (rows : List Row) (IsFit : FunctionData → Type 0) (Refines : FunctionData → FunctionData → Type 0) (weight : FunctionData → ℕ) (f : FunctionData) (tells : Bool) (before : List Change) (start : ℕ)
-    → IsSound rows IsFit Refines weight → IsFit f → IsGoing choose rows IsFit Refines weight f f tells before before start start
-going-begins choose rows IsFit Refines weight f tells before start sound fit = record {
+-- in the same pass, to who tells the same
+pub tells-same : (pass pass' : Pass) (tells tells' : Bool) (before after : List Change) (f g : FunctionData) → pass ≡ pass' → tells ≡ tells' → TellsAll pass tells before after f g → TellsAll pass' tells' before after f g
+tells-same pass pass' tells tells' before after f g one two told =
+    subst (λ (p : Pass). TellsAll p tells' before after f g) one (subst (λ (t : Bool). TellsAll pass t before after f g) two told)
+
+pub going-begins : (choose : Choice) (rows : List Row) (IsFit : FunctionData → Type 0) (Refines : FunctionData → FunctionData → Type 0) (weight : FunctionData → ℕ) (f : FunctionData) (pass : Pass) (tells : Bool) (before : List Change) (start : ℕ)
+    → IsSound rows IsFit Refines weight → IsFit f → IsGoing choose rows IsFit Refines weight f f pass tells before before start start
+going-begins choose rows IsFit Refines weight f pass tells before start sound fit = record {
   count = 0;
   way = begins choose rows IsFit Refines weight f sound fit;
   counted = omega arith;
-  told = tells-none tells before f;
+  told = tells-none pass tells before f;
 }
 
-pub going-on : (choose : Choice) (rows : List Row) (IsFit : FunctionData → Type 0) (Refines : FunctionData → FunctionData → Type 0) (weight : FunctionData → ℕ) (f now next : FunctionData) (tells : Bool) (before middle after : List Change) (start steps later id : ℕ)
-    → IsSound rows IsFit Refines weight → IsGoing choose rows IsFit Refines weight f now tells before middle start steps
-    → IsLive now id → choose (fits rows now) now ≡ Some id → first_fit rows now id ≡ Some next → TellsAll tells middle after now next → steps + 1 ≤ later
-    → IsGoing choose rows IsFit Refines weight f next tells before after start later
-going-on choose rows IsFit Refines weight f now next tells before middle after start steps later id sound going live chosen step told one = record {
+pub going-on : (choose : Choice) (rows : List Row) (IsFit : FunctionData → Type 0) (Refines : FunctionData → FunctionData → Type 0) (weight : FunctionData → ℕ) (f now next : FunctionData) (pass : Pass) (tells : Bool) (before middle after : List Change) (start steps later id : ℕ)
+    → IsSound rows IsFit Refines weight → IsGoing choose rows IsFit Refines weight f now pass tells before middle start steps
+    → IsLive now id → choose (fits rows now) now ≡ Some id → first_fit rows now id ≡ Some next → TellsAll pass tells middle after now next → steps + 1 ≤ later
+    → IsGoing choose rows IsFit Refines weight f next pass tells before after start later
+going-on choose rows IsFit Refines weight f now next pass tells before middle after start steps later id sound going live chosen step told one = record {
   count = suc going.count;
   way = goes-on choose rows IsFit Refines weight f now next going.count id sound going.way live chosen step;
   counted = omega (arith, going.counted, one);
-  told = tells-both tells before middle after f now next going.told told;
+  told = tells-both pass tells before middle after f now next going.told told;
 }
 
-pub going-ends : (choose : Choice) (rows : List Row) (IsFit : FunctionData → Type 0) (Refines : FunctionData → FunctionData → Type 0) (weight : FunctionData → ℕ) (f now : FunctionData) (tells : Bool) (before after : List Change) (start steps later : ℕ)
-    → IsGoing choose rows IsFit Refines weight f now tells before after start steps → steps ≤ later → next_by choose rows now ≡ None → IsNormalised choose rows IsFit Refines weight (later - start) f now
-going-ends choose rows IsFit Refines weight f now tells before after start steps later going more none =
+pub going-ends : (choose : Choice) (rows : List Row) (IsFit : FunctionData → Type 0) (Refines : FunctionData → FunctionData → Type 0) (weight : FunctionData → ℕ) (f now : FunctionData) (pass : Pass) (tells : Bool) (before after : List Change) (start steps later : ℕ)
+    → IsGoing choose rows IsFit Refines weight f now pass tells before after start steps → steps ≤ later → next_by choose rows now ≡ None → IsNormalised choose rows IsFit Refines weight (later - start) f now
+going-ends choose rows IsFit Refines weight f now pass tells before after start steps later going more none =
     ends choose rows IsFit Refines weight f now going.count (later - start) going.way (omega (arith, going.counted, more)) none
 
 -- ---- what a trial answered
@@ -170,3 +194,34 @@ fitted false o next h e = cc
 pub unfitted : (is : Bool) (o : Option FunctionData) (next : FunctionData) → o ≡ cond is (Some next) None → is ≡ false → o ≡ None
 unfitted true o next h e = cc
 unfitted false o next h e = h
+
+-- ---- the next rewriting
+
+-- where it was made
+pub record IsMadeAt (choose : Choice) (rows : List Row) (f next : FunctionData) : Type 0 where
+  pub id : ℕ
+  pub chosen : choose (fits rows f) f ≡ Some id
+  pub step : first_fit rows f id ≡ Some next
+
+pub made-at : (choose : Choice) (rows : List Row) (f next : FunctionData) → next_by choose rows f ≡ Some next → IsMadeAt choose rows f next
+made-at choose rows f next e = from (choose (fits rows f) f) refl e
+  where
+    from : (o : Option ℕ) → choose (fits rows f) f ≡ o → option_and_then (first_fit rows f) o ≡ Some next → IsMadeAt choose rows f next
+    from None chosen is = cc
+    from (Some id) chosen is = record { id = id; chosen = chosen; step = is }
+
+pub going-next : (choose : Choice) (rows : List Row) (IsFit : FunctionData → Type 0) (Refines : FunctionData → FunctionData → Type 0) (weight : FunctionData → ℕ) (f now next : FunctionData) (pass : Pass) (tells : Bool) (before middle after : List Change) (start steps later : ℕ)
+    → IsStanding choose → IsSound rows IsFit Refines weight → IsGoing choose rows IsFit Refines weight f now pass tells before middle start steps
+    → next_by choose rows now ≡ Some next → TellsAll pass tells middle after now next → steps + 1 ≤ later
+    → IsGoing choose rows IsFit Refines weight f next pass tells before after start later
+going-next choose rows IsFit Refines weight f now next pass tells before middle after start steps later standing sound going is told one =
+    let made = made-at choose rows now next is in
+    going-on choose rows IsFit Refines weight f now next pass tells before middle after start steps later made.id sound going (standing.live (fits rows now) now made.id made.chosen) made.chosen made.step told one
+
+-- the weight falls
+pub next-falls : (choose : Choice) (rows : List Row) (IsFit : FunctionData → Type 0) (Refines : FunctionData → FunctionData → Type 0) (weight : FunctionData → ℕ) (now next : FunctionData)
+    → IsStanding choose → IsSound rows IsFit Refines weight → IsFit now → next_by choose rows now ≡ Some next → weight next < weight now
+next-falls choose rows IsFit Refines weight now next standing sound fit is =
+    let made = made-at choose rows now next is in
+    let live = standing.live (fits rows now) now made.id made.chosen in
+    omega (arith, sound.falls now next made.id fit live made.step, sound.registers now next made.id fit live made.step)

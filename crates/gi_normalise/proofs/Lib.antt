@@ -1,5 +1,6 @@
 pub mod Clear
 pub mod Firsts
+pub mod Forward
 pub mod Going
 pub mod Lasts
 pub mod Standing

@@ -4,7 +4,7 @@ use Rattle.std.specs.Option.{option_or}
 use Rattle.gi_mir.specs.Data.{InstrData, FunctionData}
 use Rattle.gi_mir.specs.Edit.{IsLive, all_instrs}
 use Rattle.gi_mir.specs.Row.{is_generic_op}
-use Rattle.gi_normalise.specs.NormalForms.{Choice}
+use Rattle.gi_normalise.specs.NormalForms.{Choice, Row, first_fit}
 
 -- ══ The last generic instruction ══
 
@@ -28,6 +28,11 @@ last_generic fits f = last_generic_in (all_instrs f.blocks)
 -- the first instruction in layout at which a row fits
 abbrev pub first_place : Choice
 first_place fits f = find fits (map (λ p. p.0) (all_instrs f.blocks))
+
+-- what the first row that fits makes at the first of these instructions at which one fits
+abbrev pub first_in : List Row → FunctionData → List ℕ → Option FunctionData
+first_in rows f [] = None
+first_in rows f (id ∷ ids) = option_or (first_fit rows f id) (first_in rows f ids)
 
 -- ══ Both ══
 

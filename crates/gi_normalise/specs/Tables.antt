@@ -1,9 +1,10 @@
 -- What is asked of a table of rows, and what is left where it was applied as often as it fits.
-use Rattle.std.specs.Prelude.{◌≡◌, ℕ, ◌+◌, ◌<◌, ◌≤◌, Bool, IsTrue, List, ◌++◌, Some, take, drop, slice_set}
+use Rattle.std.specs.Prelude.{◌≡◌, ℕ, ◌+◌, ◌<◌, ◌≤◌, All, Bool, IsTrue, List, ◌++◌, Some, take, drop, slice_set}
 use Rattle.gi_mir.specs.Data.{InstrData, FunctionData}
 use Rattle.gi_mir.specs.Edit.{IsLive, home_block, home_of, place_in_block}
 use Rattle.gi_observe.specs.Replay.{IsReplay}
 use Rattle.gi_observe.specs.declared.change.Change.{Change}
+use Rattle.gi_observe.specs.declared.pass.Pass.{Pass}
 use Rattle.gi_normalise.specs.NormalForms.{Choice, Comes, Row, first_fit}
 
 -- ══ A table ══
@@ -41,8 +42,14 @@ pub record IsNormalised (choose : Choice) (rows : List Row) (IsFit : FunctionDat
 
 -- ══ What was told ══
 
--- who tells what it was told, was told changes that give g, replayed on f
-pub record TellsAll (tells : Bool) (before after : List Change) (f g : FunctionData) : Type 0 where
+-- a change of the function of this name, in this pass
+pub record IsChangeOf (name : ℕ) (pass : Pass) (change : Change) : Type 0 where
+  pub function : change.function ≡ name
+  pub in_pass : change.pass ≡ pass
+
+-- who tells what it was told, was told changes of f in this pass which give g, replayed on f
+pub record TellsAll (pass : Pass) (tells : Bool) (before after : List Change) (f g : FunctionData) : Type 0 where
   pub changes : List Change
+  pub own : All (IsChangeOf f.name pass) changes
   pub replay : IsReplay changes f g
   pub seen : IsTrue tells → after ≡ before ++ changes

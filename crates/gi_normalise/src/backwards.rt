@@ -106,9 +106,10 @@ fn rewrite_backwards<T: LocalTable, O: ChangeObserver, L: Ledger>(
     requires { T.is_fit table.now edit.old.function.now }
     ensures same_function { edit.new.function.ghost_name ≡ edit.old.function.ghost_name }
     ensures same_observer { edit.new.observer.ghost_name ≡ edit.old.observer.ghost_name }
+    ensures pass { edit.new.pass ≡ edit.old.pass }
     ensures tells_stays { O.tells edit.new.observer.now ≡ O.tells edit.old.observer.now }
     ensures normalised { OnOk result (IsNormalised last_generic (T.rows table.now) (T.is_fit table.now) (T.refines table.now) (T.weight table.now) (steps.new - steps.old) edit.old.function.now edit.new.function.now) }
-    ensures told { OnOk result (TellsAll (O.tells edit.old.observer.now) (O.seen edit.old.observer.now) (O.seen edit.new.observer.now) edit.old.function.now edit.new.function.now) }
+    ensures told { OnOk result (TellsAll edit.old.pass (O.tells edit.old.observer.now) (O.seen edit.old.observer.now) (O.seen edit.new.observer.now) edit.old.function.now edit.new.function.now) }
     ensures counted { steps.old ≤ steps.new }
 {
     let blocks = edit.function().block_count();
@@ -142,7 +143,7 @@ pub fn normalise_backwards<T: LocalTable, O: ChangeObserver, L: Ledger>(
     ensures refines { OnOk result (T.refines table.now function.old function.new) }
     ensures registers { OnOk result (function.new.next_reg + T.weight table.now function.new ≤ function.old.next_reg + T.weight table.now function.old) }
     ensures tells_stays { O.tells observer.new ≡ O.tells observer.old }
-    ensures told { OnOk result (TellsAll (O.tells observer.old) (O.seen observer.old) (O.seen observer.new) function.old function.new) }
+    ensures told { OnOk result (TellsAll pass (O.tells observer.old) (O.seen observer.old) (O.seen observer.new) function.old function.new) }
     ensures steps { steps.old ≤ steps.new }
 {
     let mut edit = Editor::new(function, pass, observer);

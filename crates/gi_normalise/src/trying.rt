@@ -27,7 +27,7 @@ pub(crate) fn try_at<T: RuleTable, O: ChangeObserver, L: Ledger>(
     ensures first { IfOk result (λ fits. first_fit (T.rows table.now) edit.old.function.now at.0 ≡ (if fits then Some edit.new.function.now else None)) }
     ensures unchanged { IfOk result (λ fits. fits ≡ false → edit.new.function.now ≡ edit.old.function.now) }
     ensures tells_stays { O.tells edit.new.observer.now ≡ O.tells edit.old.observer.now }
-    ensures told { IfOk result (λ fits. TellsAll (O.tells edit.old.observer.now) (O.seen edit.old.observer.now) (O.seen edit.new.observer.now) edit.old.function.now edit.new.function.now) }
+    ensures told { IfOk result (λ fits. TellsAll edit.old.pass (O.tells edit.old.observer.now) (O.seen edit.old.observer.now) (O.seen edit.new.observer.now) edit.old.function.now edit.new.function.now) }
     ensures counted { steps.new ≡ steps.old + 1 }
 {
     steps.tick();
