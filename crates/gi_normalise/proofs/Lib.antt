@@ -4,3 +4,4 @@ pub mod Forward
 pub mod Going
 pub mod Lasts
 pub mod Standing
+pub mod Weighed

@@ -1,10 +1,12 @@
 //! What is promised of normal forms.
 
-ghost use Rattle.std.specs.Prelude.{◌≡◌, ℕ, List};
-ghost use Rattle.gi_mir.specs.Data.{FunctionData};
+ghost use Rattle.std.specs.Prelude.{◌≡◌, ◌+◌, ℕ, List, Some};
+ghost use Rattle.gi_mir.specs.Data.{FunctionData, InstrData};
+ghost use Rattle.gi_mir.specs.Edit.{IsLive, instr_of};
 ghost use Rattle.gi_normalise.specs.Layout.{IsStanding, first_place, last_generic};
 ghost use Rattle.gi_normalise.specs.NormalForms.{Choice, IsNormalForm, Row};
-ghost use Rattle.gi_normalise.specs.Tables.{IsNormalised};
+ghost use Rattle.gi_normalise.specs.Tables.{IsInPlace, IsNormalised};
+ghost use Rattle.gi_normalise.specs.Weights.{list_weight, total_weight};
 
 use crate::table::RuleTable;
 
@@ -23,4 +25,10 @@ pub fn normal_form_is_there<T: RuleTable>()
 pub fn choices_stand()
     ensures last { IsStanding last_generic }
     ensures first { IsStanding first_place }
+{}
+
+/// A rewriting in place adds to a weight what the new instructions weigh, and takes from it what the old one did.
+pub fn rewriting_is_weighed()
+    ensures { (size : InstrData → ℕ) (f g : FunctionData) (id : ℕ) (i : InstrData) → IsLive f id → instr_of f id ≡ Some i → (local : IsInPlace f id g)
+        → total_weight size g + size i ≡ total_weight size f + list_weight size local.instrs }
 {}
