@@ -1,10 +1,10 @@
 -- One rewriting after another.
-use Rattle.std.proofs.Common.{◌≡◌, ℕ, zero, suc, ◌+◌, ◌-◌, ◌<◌, ◌≤◌, All, Bool, true, false, cond, List, [], ◌∷◌, ◌++◌, Option, Some, None, refl, sym, ap, ◌∙◌, append-nil, append_assoc, arith, subst}
+use Rattle.std.proofs.Common.{◌≡◌, ℕ, zero, suc, ◌+◌, ◌-◌, ◌<◌, ◌≤◌, All, Bool, true, false, cond, List, [], ◌∷◌, ◌++◌, Option, Some, None, IsTrue, refl, sym, ap, ◌∙◌, append-nil, append_assoc, arith, subst}
 use Rattle.std.specs.Option.{option_and_then}
 use Rattle.gi_mir.specs.Data.{FunctionData}
 use Rattle.gi_mir.specs.Edit.{IsLive}
-use Rattle.std.proofs.lemmas.List.Elements.{All-append, All-nil}
-use Rattle.gi_observe.specs.Replay.{IsReplay, replayed, replayed_one}
+use Rattle.std.proofs.lemmas.List.Elements.{All-append, All-cons, All-nil}
+use Rattle.gi_observe.specs.Replay.{IsReplay, change_of, replayed, replayed_one}
 use Rattle.gi_observe.specs.declared.change.Change.{Change}
 use Rattle.gi_observe.specs.declared.change.ChangeKind.{ChangeKind}
 use Rattle.gi_observe.specs.declared.change.ChangeKind.TheVariants.{Changed, Created, Erased}
@@ -153,6 +153,15 @@ tells-both pass tells before middle after f g h one two = record {
   own = All-append (IsChangeOf f.name pass) one.changes two.changes one.own (subst (λ (n : ℕ). All (IsChangeOf n pass) two.changes) (same-name one.changes f g one.replay) two.own);
   replay = IsReplay-joined one.changes two.changes f g h one.replay two.replay;
   seen = λ is. two.seen is ∙ ap (λ (xs : List Change). xs ++ two.changes) (one.seen is) ∙ append_assoc before one.changes two.changes;
+}
+
+-- one change was told
+pub tells-one : (pass : Pass) (tells : Bool) (before after : List Change) (f g : FunctionData) (kind : ChangeKind) → IsReplay (change_of f.name pass kind ∷ []) f g → (IsTrue tells → after ≡ before ++ change_of f.name pass kind ∷ []) → TellsAll pass tells before after f g
+tells-one pass tells before after f g kind replay seen = record {
+  changes = change_of f.name pass kind ∷ [];
+  own = All-cons (IsChangeOf f.name pass) (change_of f.name pass kind) [] (record { function = refl; in_pass = refl }) (All-nil (IsChangeOf f.name pass));
+  replay = replay;
+  seen = seen;
 }
 
 -- in the same pass, to who tells the same

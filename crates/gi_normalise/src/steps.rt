@@ -1,6 +1,6 @@
 //! Counting.
 
-ghost use Rattle.std.specs.Prelude.{◌≡◌, ◌+◌};
+ghost use Rattle.std.specs.Prelude.{◌≡◌, ◌+◌, ◌<◌};
 
 use std::marker::Model;
 use std::sync::ledger::{Blank, Book, Ledger, Share};
@@ -27,7 +27,7 @@ impl<L: Ledger> Steps<L> {
     pub fn new(blank: Blank) -> Steps<L>
         requires name { blank.name ≡ L.name }
         requires parts { blank.parts ≡ L.parts }
-        requires whole { L.parts ≡ 1 }
+        requires some { 0 < blank.parts }
         ensures { result ≡ 0 }
     {
         let (book, share) = blank.open();
