@@ -71,7 +71,7 @@ fn jumps_to(function: &Function, block: u32, targets: &[u32]) -> bool {
     let instrs = function.instrs(block);
     instrs.len() == targets.len()
         && instrs.zip(targets).all(|(n, target)| n.instr.op == Opcode::PseudoBranch
-            && n.instr.operands.as_slice() == &[Operand::Block(*target)])
+            && n.instr.operands.as_slice() == [Operand::Block(*target)].as_slice())
 }
 
 /// The ids of instructions that were erased, in order.
@@ -136,8 +136,8 @@ fn is_driven(alloc: Global, backwards: bool, order: &[usize]) -> Result<bool, Fa
 }
 
 #[test]
-fn branches_are_driven(rt: HostRuntime, alloc: Global) -> Result<(), Fail> {
-    assert!(rt; is_driven(alloc, true, &[2, 1, 0])?);
-    assert!(rt; is_driven(alloc, false, &[0, 1, 2])?);
+fn branches_are_driven(rt: HostRuntime) -> Result<(), Fail> {
+    assert!(rt; is_driven(rt.alloc(), true, &[2, 1, 0])?);
+    assert!(rt; is_driven(rt.alloc(), false, &[0, 1, 2])?);
     Ok(())
 }
