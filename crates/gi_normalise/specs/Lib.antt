@@ -1,0 +1,5 @@
+pub mod Gaps
+pub mod Layout
+pub mod NormalForms
+pub mod Tables
+pub mod Weights
