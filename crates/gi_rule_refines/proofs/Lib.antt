@@ -5,6 +5,11 @@ pub mod ErasedRuns
 pub mod ErasedExtents
 pub mod ErasedValid
 pub mod Fresh
+pub mod Leaving
+pub mod CopyLists
+pub mod Copied
+pub mod CopyReads
+pub mod CopiedRuns
 pub mod Known
 pub mod Refined
 pub mod Shown
@@ -18,7 +23,9 @@ pub mod Rewrites
 pub mod Passing
 pub mod Staged
 pub mod ErasedAt
+pub mod CopiedGood
 pub mod Begun
+pub mod CopyExample
 pub mod WasRead
 pub mod ConstantRow
 pub mod PartRows

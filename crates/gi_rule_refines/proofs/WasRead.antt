@@ -28,12 +28,12 @@ instrs_formed : (names : List (List ℕ)) (counts : Counts) (is : List (ℕ × I
 instrs_formed names counts [] each = refl
 instrs_formed names counts (p ∷ is) each = and_from (is_formed p.1) (list_all (λ p. is_formed p.1) is) each.0.formed (instrs_formed names counts is each.1)
 
-blocks_formed : (names : List (List ℕ)) (counts : Counts) (blocks : List BlockData) → AllByRecursion (IsPrintableBlock names counts) blocks → list_all (λ p. is_formed p.1) (all_instrs blocks) ≡ true
+pub blocks_formed : (names : List (List ℕ)) (counts : Counts) (blocks : List BlockData) → AllByRecursion (IsPrintableBlock names counts) blocks → list_all (λ p. is_formed p.1) (all_instrs blocks) ≡ true
 blocks_formed names counts [] each = refl
 blocks_formed names counts (block ∷ blocks) each =
     list_all-append (λ p. is_formed p.1) block.instrs (all_instrs blocks) ∙ and_from _ _ (instrs_formed names counts block.instrs each.0.instrs) (blocks_formed names counts blocks each.1)
 
-one_of : (names : List (List ℕ)) (fs : List FunctionData) (place : ℕ) (f : FunctionData) → AllByRecursion (IsPrintableFunction names) fs → slice_get fs place ≡ Some f → IsPrintableFunction names f
+pub one_of : (names : List (List ℕ)) (fs : List FunctionData) (place : ℕ) (f : FunctionData) → AllByRecursion (IsPrintableFunction names) fs → slice_get fs place ≡ Some f → IsPrintableFunction names f
 one_of names [] place f each there = cc
 one_of names (g ∷ fs) zero f each there = let same : g ≡ f = cc in subst (IsPrintableFunction names) same each.0
 one_of names (g ∷ fs) (suc place) f each there = one_of names fs place f each.1 there
@@ -61,7 +61,7 @@ instrs_fit x stage f (p ∷ is) phase none = by (fits_stage x (registers_of stag
     by true rest so none = and_from (is_of_stage x stage p.1) _ (fits_one x stage f p.1 phase so) (rest none)
     by false rest so none = cc
 
-blocks_fit : (x : ℕ) (stage : RuleStage) (f : FunctionData) (blocks : List BlockData) → phase_at stage ≡ Typed → illegal_in_blocks x (registers_of stage) f blocks ≡ [] → list_all (λ p. is_of_stage x stage p.1) (all_instrs blocks) ≡ true
+pub blocks_fit : (x : ℕ) (stage : RuleStage) (f : FunctionData) (blocks : List BlockData) → phase_at stage ≡ Typed → illegal_in_blocks x (registers_of stage) f blocks ≡ [] → list_all (λ p. is_of_stage x stage p.1) (all_instrs blocks) ≡ true
 blocks_fit x stage f [] phase none = refl
 blocks_fit x stage f (block ∷ blocks) phase none =
     let each = nothing_in_either (illegal_in_instrs x (registers_of stage) f block.instrs) (illegal_in_blocks x (registers_of stage) f blocks) none in

@@ -1,4 +1,5 @@
 pub mod Computing
+pub mod Copies
 pub mod Dead
 pub mod Good
 pub mod Stages
