@@ -118,8 +118,8 @@ pub fn apply<O: ChangeObserver>(
     replace_root(edit, at, &mut made)
 }
 
-/// Erases an instruction, and creates these in its place.
-fn replace_root<O: ChangeObserver>(
+/// Erases an instruction, and creates these in its place. Where memory runs out the function may be between two of these.
+pub fn replace_root<O: ChangeObserver>(
     edit: &mut Editor<'_, O>,
     at: InstrId,
     made: &mut VecDeque<Instr>,

@@ -10,7 +10,7 @@ pub mod laws;
 mod making;
 mod rule;
 
-pub use applying::apply;
+pub use applying::{apply, replace_root};
 pub use asking::can_apply;
 pub use binding::{Binding, BoundValue};
 pub use fitting::test;

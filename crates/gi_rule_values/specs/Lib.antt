@@ -2,6 +2,7 @@ pub mod Artifacts
 pub mod Combining
 pub mod Data
 pub mod Forms
+pub mod Lines
 pub mod Lowering
 pub mod OnValues
 pub mod Running

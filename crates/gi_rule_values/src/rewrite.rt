@@ -3,6 +3,8 @@
 use gi_llt::Llt;
 use gi_mir::opcode::Opcode;
 use gi_mir::operand::{Flags, Operand};
+use smallvec::SmallVec;
+use std::alloc::Global;
 use std::marker::Model;
 
 /// What an operation takes. Places number values: first the inputs, and then the results of what is made, in order.
@@ -14,13 +16,24 @@ pub enum Slot {
     Stands(Operand),
 }
 
+impl Default for Slot {
+    ghost use Rattle.std.specs.Prelude.{◌≡◌};
+    ghost use Rattle.gi_rule_values.specs.declared.rewrite.Slot.TheVariants.{At};
+
+    ghost is_default = { λ slot. slot ≡ At 0 };
+
+    fn default() -> Slot {
+        Slot::At(0)
+    }
+}
+
 /// An instruction without its registers: each result has a type.
 #[derive(Drop)]
 pub struct Operation {
     pub op: Opcode,
     pub flags: Flags,
-    pub slots: Vec<Slot>,
-    pub types: Vec<Llt>,
+    pub slots: SmallVec<Slot, 4, Global>,
+    pub types: SmallVec<Llt, 2, Global>,
 }
 
 impl Model for Operation {
