@@ -14,7 +14,7 @@ use Rattle.gi_valid.specs.Definitions.{IsComputedFrom, definition, uses_purely}
 use Rattle.gi_valid.specs.Faults.{may_call}
 use Rattle.gi_valid.specs.Typing.{Phase, joins_any, mismatch, type_in, unsuited}
 use Rattle.gi_valid.specs.Valid.{IsValid}
-use Rattle.gi_soundness.specs.Conditions.{AccountsForResults, ArePlain, DefinesAnew, KeepsTypes, MakesNoCall, ReadsOrigins, is_replaced}
+use Rattle.gi_soundness.specs.Conditions.{AccountsForResults, ArePlain, DefinesAnew, KeepsTypes, MakesNoNewCall, ReadsOrigins, is_replaced}
 use Rattle.gi_soundness.specs.Rewriting.{IsOneOf, IsRewritten, Rewriting, block_rewritten, rewritten}
 use Rattle.gi_soundness.proofs.Circles.{HasPlace, IsKnown, is_definition, is_here, none_in_circle, site_of_one, use_at}
 use Rattle.gi_soundness.proofs.Placed.{found_by_id}
@@ -197,5 +197,5 @@ copied_valid x phase f id d s c = stays_valid x phase w f g (copied x phase f id
             ap (λ (types : ℕ → Option Llt). cond (joins_any phase (root_of f id d s c.copy)) None (unsuited x types (root_of f id d s c.copy))) (types_same x phase f id d s c)
             ∙ instr_met x phase f c.valid (id, root_of f id d s c.copy) (copy_there f id d s c.copy)
 
-    calls : MakesNoCall x phase (copying id d s (root_of f id d s c.copy)) (with_reg_replaced d s f)
-    calls = record { made = λ p there. subst (λ (q : ℕ × InstrData). may_call x phase (with_reg_replaced d s f) q.1 ≡ false) (sym (⊎_elim (λ is. is) (λ none. absurd none) there)) refl }
+    calls : MakesNoNewCall x phase (copying id d s (root_of f id d s c.copy)) f (with_reg_replaced d s f)
+    calls = record { made = λ p there may. absurd (true≢false (sym may ∙ subst (λ (q : ℕ × InstrData). may_call x phase (with_reg_replaced d s f) q.1 ≡ false) (sym (⊎_elim (λ is. is) (λ none. absurd none) there)) refl)) }
