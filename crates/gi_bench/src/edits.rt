@@ -118,6 +118,6 @@ pub fn replaced(alloc: Global, count: u32) -> Result<String, AllocError> {
     if function.replace_reg(Reg(0), other).is_err() {
         return Err(AllocError);
     }
-    let users = function.uses_of(other).len();
+    let users = function.uses_of(other).count();
     format!(in alloc; "{users} of {count} replaced")
 }

@@ -216,7 +216,7 @@ fn keeps_uses(rt: HostRuntime) -> Result<(), Fail> {
         (2, &[]),
         (7, &[last]),
     ] {
-        assert!(rt; function.uses_of(Reg(reg)) == users);
+        assert!(rt; function.uses_of(Reg(reg)).eq(users.iter().copied()));
     }
     assert!(rt; function.next_reg() == 8);
     Ok(())

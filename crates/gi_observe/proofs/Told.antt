@@ -1,5 +1,5 @@
 -- The instructions that use a register, one after another.
-use Rattle.std.proofs.Common.{◌≡◌, ℕ, zero, suc, ◌+◌, ◌<◌, Bool, true, false, cond, List, [], ◌∷◌, ◌++◌, Some, ◌⊎◌, inl, inr, ⊎_elim, length, take, get_or, refl, sym, ap, ap₂, ◌∙◌, append_assoc, arith}
+use Rattle.std.proofs.Common.{◌≡◌, ℕ, zero, suc, ◌+◌, ◌<◌, Bool, true, false, cond, List, [], ◌∷◌, ◌++◌, Some, ◌⊎◌, inl, inr, ⊎_elim, length, drop, take, get_or, refl, sym, ap, ap₂, ◌∙◌, append_assoc, arith}
 use Rattle.std.specs.Prelude.{slice_get, option_map, map, filter}
 use Rattle.gi_mir.specs.declared.block.InstrId.{InstrId}
 use Rattle.gi_mir.specs.Data.{InstrData, BlockData, FunctionData}
@@ -66,14 +66,6 @@ entry-of (x ∷ xs) [] k d e h = cc
 entry-of (x ∷ xs) (p ∷ ps) zero d e h = (p, refl, cc)
 entry-of (x ∷ xs) (p ∷ ps) (suc k) d e h = entry-of xs ps k d (cc) (omega arith)
 
--- the k-th instruction that uses a register
-pub user-of : (f : FunctionData) (reg : ℕ) (ids : List InstrId) (k : ℕ) (d : InstrId) → AreOwnIds f.blocks f.next_id → map (λ (id : InstrId). id.0) ids ≡ users_of f reg → k < length ids
-    → (p : ℕ × InstrData) × (slice_get (filter (uses reg) (all_instrs f.blocks)) k ≡ Some p) × (p.0 ≡ (get_or ids k d).0) × IsFound f p
-user-of f reg ids k d own e h =
-    let (p, at, is) = entry-of ids (filter (uses reg) (all_instrs f.blocks)) k d e h in
-    let (m, stands, passes) = filter-from (uses reg) (all_instrs f.blocks) k p at in
-    (p, at, is, IsFound-at f m p own stands)
-
 -- one more of a list that is mapped
 pub take-more-mapped : {X Y : Type 0} (g : X → Y) (xs : List X) (k : ℕ) (x : X) → slice_get xs k ≡ Some x → take (k + 1) (map g xs) ≡ take k (map g xs) ++ g x ∷ []
 take-more-mapped g [] k x h = cc
@@ -86,3 +78,23 @@ take-more-mapped g (y ∷ ys) (suc k) x h =
 pub told-more : {X : Type 0} (start before after xs : List X) (k : ℕ) (x : X) → after ≡ before ++ x ∷ [] → before ≡ start ++ take k xs → take (k + 1) xs ≡ take k xs ++ x ∷ [] → after ≡ start ++ take (k + 1) xs
 told-more start before after xs k x one was more =
     one ∙ ap (λ ys. ys ++ x ∷ []) was ∙ append_assoc start (take k xs) (x ∷ []) ∙ ap (λ ys. start ++ ys) (sym more)
+
+-- the next of these ids, and those behind it
+pub next-of : (ps : List (ℕ × InstrData)) (k x : ℕ) (xs : List ℕ) → x ∷ xs ≡ drop k (map (λ (p : ℕ × InstrData). p.0) ps) → (p : ℕ × InstrData) × (slice_get ps k ≡ Some p) × (p.0 ≡ x) × (xs ≡ drop (suc k) (map (λ (q : ℕ × InstrData). q.0) ps))
+next-of [] zero x xs e = cc
+next-of [] (suc k) x xs e = cc
+next-of (p ∷ ps) zero x xs e = (p, refl, cc, cc)
+next-of (p ∷ ps) (suc k) x xs e = next-of ps k x xs e
+
+-- the next instruction that uses a register
+pub user-next : (f : FunctionData) (reg k x : ℕ) (xs : List ℕ) → AreOwnIds f.blocks f.next_id → x ∷ xs ≡ drop k (users_of f reg)
+    → (p : ℕ × InstrData) × (slice_get (filter (uses reg) (all_instrs f.blocks)) k ≡ Some p) × (p.0 ≡ x) × (xs ≡ drop (suc k) (users_of f reg)) × IsFound f p
+user-next f reg k x xs own e =
+    let (p, at, is, rest) = next-of (filter (uses reg) (all_instrs f.blocks)) k x xs e in
+    let (m, stands, passes) = filter-from (uses reg) (all_instrs f.blocks) k p at in
+    (p, at, is, rest, IsFound-at f m p own stands)
+
+-- nothing was told as yet
+pub starts : {X : Type 0} (xs : List X) → xs ≡ xs ++ []
+starts [] = refl
+starts (x ∷ xs) = ap (λ ys. x ∷ ys) (starts xs)

@@ -160,10 +160,27 @@ fn tell_replacements<O: ChangeObserver>(
 {
     function.own_ids();
     for id in function.uses_of(old) {
-        let change = replacement(function, pass, *id, old, new)?;
-        observer.told(&change)?;
+        tell_replacement(function, pass, observer, id, old, new)?;
     }
     Ok(())
+}
+
+/// Tells what becomes of an instruction that uses a register where it uses another.
+fn tell_replacement<O: ChangeObserver>(
+    function: &Function,
+    pass: Pass,
+    observer: &mut O,
+    id: InstrId,
+    old: Reg,
+    new: Reg,
+) -> Result<(), Memory>
+    requires { IsLive function.now id.0 }
+    ensures tells_stays { O.tells observer.new ≡ O.tells observer.old }
+    ensures told { OnOk result (IfSome (instr_of function.now id.0) (λ instr. IsTrue (O.tells observer.old) → O.seen observer.new ≡ O.seen observer.old ++ replacement function.now.name pass old.0 new.0 (id.0, instr) ∷ [])) }
+    ensures untold { OnErr result (IsTrue (O.tells observer.old) → O.seen observer.new ≡ O.seen observer.old) }
+{
+    let change = replacement(function, pass, id, old, new)?;
+    observer.told(&change)
 }
 
 /// What becomes of an instruction where it uses one register in another's place.

@@ -194,7 +194,7 @@ fn unmark_users(
     if let Operand::Def(r, _) = operand {
         if is_first(function, first, r.0) {
             for id in function.uses_of(r) {
-                unmark_user(function, guess, *id)?;
+                unmark_user(function, guess, id)?;
             }
         }
     }
