@@ -1,23 +1,18 @@
 -- A rewriting seen at once.
-use Rattle.std.proofs.Common.{◌≡◌, ℕ, zero, suc, ◌+◌, ◌<◌, Bool, true, false, not, ◌||◌, cond, List, [], ◌∷◌, ◌++◌, Option, Some, None, length, take, drop, get_or, set, map, refl, sym, subst, ap, ap₂, ◌∙◌, append_assoc, arith, eq-eqb}
+use Rattle.std.proofs.Common.{◌≡◌, ℕ, zero, suc, ◌+◌, ◌<◌, Bool, true, false, not, ◌||◌, cond, List, [], ◌∷◌, ◌++◌, Option, Some, None, length, take, drop, get_or, set, refl, sym, subst, ap, ◌∙◌, append_assoc, arith, eq-eqb}
 use Rattle.std.specs.Prelude.{insert, remove, option_map, slice_get, ◌==◌}
 use Rattle.std.specs.List.{list_any}
 use Rattle.std.proofs.lemmas.Bool.Decides.{nat_tests}
 use Rattle.std.proofs.lemmas.List.{get_or-set_same, length-set, set-get_or, set-set}
 use Rattle.std.proofs.lemmas.List.Folds.{list_any-append}
 use Rattle.gi_mir.specs.declared.block.InstrId.{InstrId}
-use Rattle.gi_mir.specs.declared.operand.Operand.{Operand}
-use Rattle.gi_mir.specs.declared.operand.Operand.TheVariants as operand
 use Rattle.gi_mir.specs.Data.{InstrData, BlockData, FunctionData}
 use Rattle.gi_mir.specs.Edit.{IsLive, block_at, block_with_instr, empty_block, home_of, instrs_with, place_in_block, place_of, with_instr, without_instr}
 use Rattle.gi_mir.specs.Ids.{AreOwnIds}
 use Rattle.gi_mir.specs.Places.{HasDistinctIds, nth_id}
-use Rattle.gi_mir.specs.Uses.{block_replaced, entry_replaced, operand_replaced, with_reg_replaced}
 use Rattle.gi_mir.proofs.Located.{HasDistinctIds-in, HasGivenIds-in, nth_id-place_of}
-use Rattle.gi_pattern.specs.Applying.{all_created, id_of, next_to, root_replaced, uses_replaced}
-use Rattle.gi_pattern.specs.InPlace.{block_renamed, block_with, blocks_with, entry_renamed, operand_renamed, renamed, with_ids}
-use Rattle.gi_pattern.specs.Making.{register_or}
-use Rattle.gi_pattern.specs.declared.binding.Binding.{Binding}
+use Rattle.gi_pattern.specs.Applying.{all_created, id_of, next_to, root_replaced}
+use Rattle.gi_pattern.specs.InPlace.{block_with, blocks_with, with_ids}
 use Rattle.gi_pattern.proofs.Standing.{home-within}
 
 -- ---- a named instruction in a list
@@ -156,38 +151,3 @@ blocks-replaced f id made own live =
     let within_then : home < length (without_instr f id).blocks = rw (length-set f.blocks home left) within in
     created made (next_to f id) (take k body.instrs) (drop (k + 1) body.instrs) home body (without_instr f id) within_then there (named-behind body.instrs k) (apart-behind body.instrs k f.next_id once given.given)
     ∙ set-set f.blocks home left last
-
--- ---- uses that are replaced, one pair after the other
-
-map-twice : {X Y Z : Type 0} (g : Y → Z) (h : X → Y) (k : X → Z) → ((x : X) → g (h x) ≡ k x) → (xs : List X) → map g (map h xs) ≡ map k xs
-map-twice g h k same [] = refl
-map-twice g h k same (x ∷ xs) = ap₂ (λ y ys. y ∷ ys) (same x) (map-twice g h k same xs)
-
-map-itself : {X : Type 0} (g : X → X) → ((x : X) → g x ≡ x) → (xs : List X) → map g xs ≡ xs
-map-itself g same [] = refl
-map-itself g same (x ∷ xs) = ap₂ (λ y ys. y ∷ ys) (same x) (map-itself g same xs)
-
-operand-itself : (x : Operand) → operand_renamed (λ reg. reg) x ≡ x
-operand-itself (operand.Use r) = refl
-operand-itself _ = refl
-
-operand-twice : (rename : ℕ → ℕ) (old new : ℕ) (x : Operand) → operand_renamed rename (operand_replaced old new x) ≡ operand_renamed (λ reg. rename (cond (reg == old) new reg)) x
-operand-twice rename old new (operand.Use r) = refl
-operand-twice rename old new _ = refl
-
-block-itself : (b : BlockData) → block_renamed (λ reg. reg) b ≡ b
-block-itself b = ap (λ (ps : List (ℕ × InstrData)). record b { instrs = ps })
-    (map-itself (entry_renamed (λ reg. reg)) (λ p. ap (λ (xs : List Operand). (p.0, record p.1 { operands = xs })) (map-itself (operand_renamed (λ reg. reg)) operand-itself p.1.operands)) b.instrs)
-
-block-twice : (rename : ℕ → ℕ) (old new : ℕ) (b : BlockData) → block_renamed rename (block_replaced old new b) ≡ block_renamed (λ reg. rename (cond (reg == old) new reg)) b
-block-twice rename old new b = ap (λ (ps : List (ℕ × InstrData)). record b { instrs = ps })
-    (map-twice (entry_renamed rename) (entry_replaced old new) (entry_renamed (λ reg. rename (cond (reg == old) new reg)))
-    (λ p. ap (λ (xs : List Operand). (p.0, record p.1 { operands = xs })) (map-twice (operand_renamed rename) (operand_replaced old new) (operand_renamed (λ reg. rename (cond (reg == old) new reg))) (operand-twice rename old new) p.1.operands)) b.instrs)
-
-pub blocks-renamed : (b : Binding) (pairs : List (ℕ × ℕ)) (f : FunctionData) → (uses_replaced b pairs f).blocks ≡ map (block_renamed (renamed b pairs)) f.blocks
-blocks-renamed b [] f = sym (map-itself (block_renamed (λ reg. reg)) block-itself f.blocks)
-blocks-renamed b (pair ∷ pairs) f =
-    let old = (register_or b pair.0).0 in
-    let new = (register_or b pair.1).0 in
-    blocks-renamed b pairs (with_reg_replaced old new f)
-    ∙ map-twice (block_renamed (renamed b pairs)) (block_replaced old new) (block_renamed (renamed b (pair ∷ pairs))) (block-twice (renamed b pairs) old new) f.blocks

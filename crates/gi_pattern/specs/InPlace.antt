@@ -1,11 +1,9 @@
 -- What a rewriting makes of the blocks of a function, seen at once.
-use Rattle.std.specs.Prelude.{ℕ, ◌+◌, List, [], ◌∷◌, ◌++◌, take, drop, map, slice_set, ◌==◌, if◌then◌else◌}
+use Rattle.std.specs.Prelude.{ℕ, ◌+◌, List, [], ◌∷◌, ◌++◌, take, drop, map, slice_set}
 use Rattle.gi_mir.specs.Data.{InstrData, BlockData, FunctionData}
 use Rattle.gi_mir.specs.Edit.{home_block, home_of, place_in_block}
 use Rattle.gi_mir.specs.declared.operand.Operand.{Operand}
 use Rattle.gi_mir.specs.declared.operand.Operand.TheVariants.{Use}
-use Rattle.gi_pattern.specs.Making.{register_or}
-use Rattle.gi_pattern.specs.declared.binding.Binding.{Binding}
 
 -- instructions with ids from this one on
 abbrev pub with_ids : ℕ → List InstrData → List (ℕ × InstrData)
@@ -21,12 +19,7 @@ abbrev pub blocks_with : FunctionData → (id : ℕ) → List InstrData → List
 blocks_with f id made =
     slice_set f.blocks (home_of f id) (block_with (home_block f id) (place_in_block f id) (with_ids f.next_id made))
 
--- the register that stands for another once all pairs are replaced, one after the other
-abbrev pub renamed : Binding → List (ℕ × ℕ) → ℕ → ℕ
-renamed b [] reg = reg
-renamed b (pair ∷ pairs) reg = renamed b pairs (if reg == (register_or b pair.0).0 then (register_or b pair.1).0 else reg)
-
--- the same in each use of an operand, an instruction, a block
+-- another register in each use of an operand, an instruction, a block
 abbrev pub operand_renamed : (ℕ → ℕ) → Operand → Operand
 operand_renamed rename (Use reg) = Use (record { 0 = rename reg.0 })
 operand_renamed rename x = x

@@ -1,12 +1,11 @@
 //! What is promised of rewritings and of normal forms.
 
-ghost use Rattle.std.specs.Prelude.{◌≡◌, ℕ, Bool, List, map, true};
+ghost use Rattle.std.specs.Prelude.{◌≡◌, ℕ, Bool, List, true};
 ghost use Rattle.gi_mir.specs.Data.{FunctionData, InstrData};
 ghost use Rattle.gi_mir.specs.Edit.{IsLive};
 ghost use Rattle.gi_mir.specs.Ids.{AreOwnIds};
-ghost use Rattle.gi_pattern.specs.Applying.{root_replaced, uses_replaced};
-ghost use Rattle.gi_pattern.specs.InPlace.{block_renamed, blocks_with, renamed};
-ghost use Rattle.gi_pattern.specs.declared.binding.Binding.{Binding};
+ghost use Rattle.gi_pattern.specs.Applying.{root_replaced};
+ghost use Rattle.gi_pattern.specs.InPlace.{blocks_with};
 ghost use Rattle.gi_pattern.specs.NormalForms.{Choice, Falls, IsNormalForm, Row};
 
 /// A function has one normal form at most, however the place is chosen.
@@ -18,11 +17,6 @@ pub fn normal_form_is_one()
 pub fn normal_form_is_there()
     ensures { (choose : Choice) (rows : List Row) (test : FunctionData → Bool) (weight : FunctionData → ℕ) (f : FunctionData) → Falls choose rows test weight → test f ≡ true
         → (g : FunctionData) × IsNormalForm choose rows (weight f) f g }
-{}
-
-/// Uses that are replaced one pair after the other are all renamed at once, and nothing else of the blocks is changed.
-pub fn replaced_uses_are_renamed()
-    ensures { (b : Binding) (pairs : List (ℕ × ℕ)) (f : FunctionData) → (uses_replaced b pairs f).blocks ≡ map (block_renamed (renamed b pairs)) f.blocks }
 {}
 
 /// The instructions that are created stand in the root's place, in order, and nothing else of the blocks is changed.

@@ -9,8 +9,8 @@ use Rattle.gi_mir.specs.declared.operand.Operand.{Operand}
 use Rattle.gi_mir.specs.declared.operand.Operand.TheVariants as operand
 use Rattle.gi_mir.proofs.Located.{id_in-live, id_in-within}
 use Rattle.gi_refine.specs.Replacing.{any_touches, touches}
-use Rattle.gi_lifting.specs.Uses.{back_of, front_of}
-use Rattle.gi_lifting.proofs.Used.{get-within}
+use Rattle.gi_refining.specs.InBlock.{back_of, front_of}
+use Rattle.gi_refining.proofs.InBlock.{get-within}
 use Rattle.gi_soundness.specs.Rewriting.{IsOneOf}
 use Rattle.gi_soundness.specs.Rules.{HasHadAll}
 use Rattle.gi_soundness.proofs.Computed.{any_one}

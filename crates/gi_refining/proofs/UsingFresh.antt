@@ -1,22 +1,9 @@
--- What a rule makes defines registers that its inputs aren't, each once.
-use Rattle.std.proofs.Common.{◌≡◌, ℕ, ◌+◌, ◌≤◌, Bool, true, false, cond, not, ◌&&◌, ◌||◌, ◌==◌, List, [], ◌∷◌, ◌++◌, ⊎_elim, refl, sym, ap, ap₂, ◌∙◌, subst, arith, append_assoc}
+-- New registers, apart from what was there.
+use Rattle.std.proofs.Common.{◌≡◌, ℕ, ◌+◌, ◌≤◌, Bool, true, false, cond, not, ◌&&◌, ◌||◌, ◌==◌, List, [], ◌∷◌, ◌++◌, ⊎_elim, refl, sym, ap, ◌∙◌, subst, arith}
 use Rattle.std.proofs.lemmas.Bool.{or_cases, or_left, or_right, and_from, eqb-true, eq-eqb, false_from_ne_true, or_from}
-use Rattle.std.specs.List.{list_any}
-use Rattle.gi_mir.specs.Data.{InstrData, FunctionData}
-use Rattle.gi_mir.specs.Edit.{is_def_of}
-use Rattle.gi_mir.specs.declared.operand.Operand.{Operand}
-use Rattle.gi_mir.specs.declared.operand.Operand.TheVariants as operand
 use Rattle.gi_meaning.specs.Runs.{is_among}
 use Rattle.gi_refine.specs.Lifting.{are_all_fresh, are_fresh, grown}
-use Rattle.gi_pattern.specs.Data.{MakeData}
-use Rattle.gi_pattern.specs.Making.{all_made, bound_after, constants_made, fresh_if, next_after, operands_made, plain, register_or}
-use Rattle.gi_pattern.specs.declared.binding.Binding.{Binding}
-use Rattle.gi_pattern.specs.declared.rule.MakeSlot.{MakeSlot}
-use Rattle.gi_pattern.specs.declared.rule.MakeSlot.TheVariants as make
-use Rattle.gi_lifting.specs.Placed.{constant_registers, defined_registers, registers_made}
-use Rattle.gi_meaning.specs.InRow.{results_in}
 use Rattle.gi_valid.proofs.Single.{often}
-use Rattle.gi_soundness.proofs.Made.{count, has_def}
 
 -- ══ Lists of lists ══
 
@@ -76,50 +63,3 @@ fresh_from regs (q ∷ rs) apart once =
 
     apart_then : (r : ℕ) → is_among r rs ≡ true → is_among r (regs ++ q ∷ []) ≡ false
     apart_then r there = among_append r regs (q ∷ []) ∙ or_from (is_among r regs) ((r == q) || false) (apart r (or_right (r == q) (is_among r rs) there)) (or_from (r == q) false (other r there) refl)
-
--- ══ The registers of what is made ══
-
-abbrev pub all_results : List InstrData → List ℕ
-all_results [] = []
-all_results (i ∷ is) = results_in i.operands ++ all_results is
-
-constants_flat : (x : ℕ) (f : FunctionData) (b : Binding) (line : ℕ) (slots : List MakeSlot) (next : ℕ) (rss : List (List ℕ)) (is : List InstrData) → flat rss ≡ all_results is
-    → flat (constant_registers slots next ++ rss) ≡ all_results (constants_made x f b line slots next ++ is)
-constants_flat x f b line [] next rss is same = same
-constants_flat x f b line (make.Fresh value ty ∷ slots) next rss is same = ap (λ rs. next ∷ rs) (constants_flat x f b line slots (next + 1) rss is same)
-constants_flat x f b line (_ ∷ slots) next rss is same = constants_flat x f b line slots next rss is same
-
-pub defined_are : (x : ℕ) (f : FunctionData) (b now after : Binding) (fresh : ℕ) (slots : List MakeSlot) → defined_registers after slots ≡ results_in (operands_made x f b now after fresh slots)
-defined_are x f b now after fresh [] = refl
-defined_are x f b now after fresh (make.Def p ty ∷ slots) = ap (λ rs. (register_or after p).0 ∷ rs) (defined_are x f b now after (fresh + 0) slots)
-defined_are x f b now after fresh (s ∷ slots) = defined_are x f b now after (fresh + fresh_if s) slots
-
-pub made_flat : (x : ℕ) (f : FunctionData) (b : Binding) (line : ℕ) (ms : List MakeData) (next : ℕ) (now : Binding) → flat (registers_made b ms next now) ≡ all_results (all_made x f b line ms next now)
-made_flat x f b line [] next now = refl
-made_flat x f b line (m ∷ ms) next now =
-    let after : Binding = bound_after b m next now in
-    let instr : InstrData = plain m.op (operands_made x f b now (bound_after b m next now) next m.slots) line in
-    let more : List InstrData = all_made x f b line ms (next_after b m next) (bound_after b m next now) in
-    constants_flat x f b line m.slots next (defined_registers after m.slots ∷ registers_made b ms (next_after b m next) after) (instr ∷ more)
-    (ap₂ (λ (xs ys : List ℕ). xs ++ ys) (defined_are x f b now after next m.slots) (made_flat x f b line ms (next_after b m next) after))
-    ∙ ap all_results (sym (append_assoc (constants_made x f b line m.slots next) (instr ∷ []) more))
-
-often_append : (r : ℕ) (xs ys : List ℕ) → often r (xs ++ ys) ≡ often r xs + often r ys
-often_append r [] ys = omega arith
-often_append r (x ∷ xs) ys = let h : often r (xs ++ ys) ≡ often r xs + often r ys = often_append r xs ys in omega (arith, h)
-
-pub often_counted : (r : ℕ) (is : List InstrData) → often r (all_results is) ≡ count r is
-often_counted r [] = refl
-often_counted r (i ∷ is) = often_append r (results_in i.operands) (all_results is) ∙ ap (λ n. often r (results_in i.operands) + n) (often_counted r is)
-
-pub result_among : (r : ℕ) (os : List Operand) → is_among r (results_in os) ≡ true → list_any (is_def_of r) os ≡ true
-result_among r [] h = cc
-result_among r (operand.Def q kind ∷ os) h =
-    ⊎_elim (λ now. or_left (q.0 == r) (list_any (is_def_of r) os) (eq-eqb q.0 r (sym (eqb-true r q.0 now)))) (λ later. or_right (q.0 == r) (list_any (is_def_of r) os) (result_among r os later)) (or_cases (r == q.0) (is_among r (results_in os)) h)
-result_among r (o ∷ os) h = result_among r os h
-
-pub among_made : (r : ℕ) (is : List InstrData) → is_among r (all_results is) ≡ true → list_any (has_def r) is ≡ true
-among_made r [] h = cc
-among_made r (i ∷ is) h =
-    ⊎_elim (λ here. or_left (has_def r i) (list_any (has_def r) is) (result_among r i.operands here)) (λ later. or_right (has_def r i) (list_any (has_def r) is) (among_made r is later))
-    (or_cases (is_among r (results_in i.operands)) (is_among r (all_results is)) (sym (among_append r (results_in i.operands) (all_results is)) ∙ h))

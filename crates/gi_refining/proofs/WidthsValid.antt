@@ -51,8 +51,6 @@ use Rattle.gi_soundness.proofs.Rule.{one_passes}
 use Rattle.gi_soundness.proofs.Valid.{instr_met}
 use Rattle.gi_refining.specs.Known.{FitsAnywhere, are_formed, is_sized}
 use Rattle.gi_refining.specs.KnownTypes.{has_type, have_types}
-use Rattle.gi_refining.specs.Numbered.{is_numbered}
-use Rattle.gi_refining.specs.Whole.{IsReadyFunction}
 use Rattle.gi_refining.specs.Widths.{fits_by_widths, has_machine_words, have_bits, holds_all, is_fitting_address, is_fitting_load, is_fitting_result, keeps_values, machine_has_words, none_wider, total, widths_read, widths_written}
 use Rattle.gi_refining.proofs.KnownTypes.{all_known, known_of_letter, of_letter, length_mapped, met_registers, some_is}
 use Rattle.gi_refining.proofs.Sized.{HasRow, constants_fit, has_row, holds}
@@ -687,8 +685,3 @@ keeps_valid x names f word valid formed owned accepted p there =
 
 pub widths_valid : (x : ℕ) (names : List (List ℕ)) (f : FunctionData) → (x ≡ 32) ⊎ (x ≡ 64) → IsValid x Typed f → are_formed f ≡ true → have_types f ≡ true → has_machine_words (setting_of x names f) f ≡ true → FitsAnywhere x names f
 widths_valid x names f word valid formed owned accepted = all_kept x names f word (keeps_valid x names f word valid formed owned accepted)
-
--- so nothing is left to be asked of states
-pub ready_tested : (x : ℕ) (names : List (List ℕ)) (f : FunctionData) → (x ≡ 32) ⊎ (x ≡ 64) → IsValid x Typed f → is_numbered f ≡ true → are_formed f ≡ true → have_types f ≡ true → has_machine_words (setting_of x names f) f ≡ true
-    → IsReadyFunction x names f
-ready_tested x names f word valid numbered formed owned accepted = record { valid = valid; numbered = numbered; formed = formed; typed = owned; fit = widths_valid x names f word valid formed owned accepted }

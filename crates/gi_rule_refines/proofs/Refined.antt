@@ -30,8 +30,8 @@ use Rattle.gi_refine.proofs.Staying.{replacement_refines}
 use Rattle.gi_pattern.specs.Applying.{line_of}
 use Rattle.gi_pattern.specs.InPlace.{with_ids}
 use Rattle.gi_pattern.proofs.InPlace.{blocks-replaced}
-use Rattle.gi_lifting.specs.Uses.{back_of, front_of}
-use Rattle.gi_lifting.proofs.Used.{entry-of, get-within, split-at}
+use Rattle.gi_refining.specs.InBlock.{back_of, front_of}
+use Rattle.gi_refining.proofs.InBlock.{entry-of, get-within, split-at}
 use Rattle.gi_valid.specs.Typing.{Phase}
 use Rattle.gi_valid.proofs.Single.{often}
 use Rattle.gi_soundness.specs.Conditions.{is_plain, is_plain_operand}

@@ -11,13 +11,10 @@ pub mod KeptKinds
 pub mod Listed
 pub mod Made
 pub mod Matching
-pub mod Meeting
 pub mod Origins
 pub mod Placed
-pub mod Powers
 pub mod Reading
 pub mod Rule
-pub mod Sames
 pub mod Scaled
 pub mod Single
 pub mod Sites

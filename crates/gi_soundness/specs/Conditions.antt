@@ -81,11 +81,6 @@ pub record KeepsTypes (x : ℕ) (phase : Phase) (w : Rewriting) (f g : FunctionD
   pub replaced : (r : ℕ) → is_replaced w r ≡ true → type_in phase f (w.rename r) ≡ type_in phase f r
   pub made : (p : ℕ × InstrData) → IsOneOf p w.made → mismatch x phase g p.1 ≡ None
 
--- the same of the types that a rule's own list doesn't settle
-pub record MeetsRows (x : ℕ) (phase : Phase) (w : Rewriting) (f g : FunctionData) : Type 0 where
-  pub replaced : (r : ℕ) → is_replaced w r ≡ true → type_in phase f (w.rename r) ≡ type_in phase f r
-  pub made : (p : ℕ × InstrData) → IsOneOf p w.made → mismatch x phase g p.1 ≡ None
-
 -- what is made may come to be a call only where the root may
 pub record MakesNoNewCall (x : ℕ) (phase : Phase) (w : Rewriting) (f g : FunctionData) : Type 0 where
   pub made : (p : ℕ × InstrData) → IsOneOf p w.made → may_call x phase g p.1 ≡ true → may_call x phase f w.root.1 ≡ true

@@ -1,4 +1,3 @@
-pub mod Applying
 pub mod Conditions
 pub mod Rewriting
 pub mod Rules

@@ -1,10 +1,9 @@
-//! Soundness of rules: a rule that meets a condition on its own list keeps a valid function valid.
+//! A rewriting keeps a valid function valid: what it owes, and what follows fault by fault.
 #![tactic(auto)]
 
 mod laws;
 
 pub use laws::{
-    applied_rule_rewrites, blocks_stay_there, definitions_stay_single, example_rules_keep_valid,
-    phis_stay_first, physical_registers_stay, rule_keeps_valid, rules_keep_functions_valid,
+    blocks_stay_there, definitions_stay_single, phis_stay_first, physical_registers_stay,
     terminators_stay_last, types_stay_met, valid_function_stays_valid,
 };

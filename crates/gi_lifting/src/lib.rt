@@ -1,4 +1,0 @@
-//! Rules as data, sound on values.
-#![tactic(auto)]
-
-pub mod laws;
