@@ -19,13 +19,10 @@ abbrev pub blocks_with : FunctionData → (id : ℕ) → List InstrData → List
 blocks_with f id made =
     slice_set f.blocks (home_of f id) (block_with (home_block f id) (place_in_block f id) (with_ids f.next_id made))
 
--- another register in each use of an operand, an instruction, a block
+-- another register in each use of an operand, and of an instruction
 abbrev pub operand_renamed : (ℕ → ℕ) → Operand → Operand
 operand_renamed rename (Use reg) = Use (record { 0 = rename reg.0 })
 operand_renamed rename x = x
 
 abbrev pub entry_renamed : (ℕ → ℕ) → ℕ × InstrData → ℕ × InstrData
 entry_renamed rename p = (p.0, record p.1 { operands = map (operand_renamed rename) p.1.operands })
-
-abbrev pub block_renamed : (ℕ → ℕ) → BlockData → BlockData
-block_renamed rename b = record b { instrs = map (entry_renamed rename) b.instrs }

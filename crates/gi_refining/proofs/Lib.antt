@@ -2,11 +2,6 @@ pub mod InBlock
 pub mod KnownRule
 pub mod KnownTypes
 pub mod Numbered
-pub mod RenamedBlocks
-pub mod ReplacedPlaced
-pub mod ReplacedSteps
-pub mod ReplacedUses
-pub mod ReplacedValues
 pub mod Sized
 pub mod Trials
 pub mod Using

@@ -1,11 +1,10 @@
 -- Instructions by their ids.
-use Rattle.std.proofs.Common.{◌≡◌, ℕ, zero, suc, ◌+◌, ◌≤◌, true, cond, ◌==◌, List, [], ◌∷◌, ◌++◌, Option, Some, None, option_map, map, get_or, slice_get, inl, inr, ⊎_elim, refl, sym, ap, ap₂, ◌∙◌, subst, arith}
+use Rattle.std.proofs.Common.{◌≡◌, ℕ, zero, suc, ◌+◌, ◌≤◌, true, cond, ◌==◌, List, [], ◌∷◌, ◌++◌, Option, Some, None, option_map, get_or, slice_get, inl, inr, ⊎_elim, refl, sym, ap, ap₂, ◌∙◌, subst, arith}
 use Rattle.std.proofs.lemmas.List.Sums.{sum_by-append}
 use Rattle.gi_mir.specs.Data.{InstrData, BlockData, FunctionData}
 use Rattle.gi_mir.specs.Edit.{IsLive, all_instrs, empty_block, home_block, home_of, instr_of, place_in_block}
 use Rattle.gi_mir.specs.Ids.{uses_among, uses_in, uses_of}
 use Rattle.gi_mir.proofs.Located.{id_in-live}
-use Rattle.gi_pattern.specs.InPlace.{block_renamed, entry_renamed}
 use Rattle.gi_soundness.specs.Rewriting.{IsOneOf}
 
 -- ══ Counting ids ══
@@ -33,14 +32,6 @@ uses_in_all id (k ∷ blocks) =
   where
     alone : (n : ℕ) → 0 + n ≡ n
     alone n = omega arith
-
-pub all_renamed : (rename : ℕ → ℕ) (blocks : List BlockData) → all_instrs (map (block_renamed rename) blocks) ≡ map (entry_renamed rename) (all_instrs blocks)
-all_renamed rename [] = refl
-all_renamed rename (k ∷ blocks) = ap (λ l. map (entry_renamed rename) k.instrs ++ l) (all_renamed rename blocks) ∙ both k.instrs
-  where
-    both : (xs : List (ℕ × InstrData)) → map (entry_renamed rename) xs ++ map (entry_renamed rename) (all_instrs blocks) ≡ map (entry_renamed rename) (xs ++ all_instrs blocks)
-    both [] = refl
-    both (x ∷ xs) = ap (λ l. entry_renamed rename x ∷ l) (both xs)
 
 -- ids are counted where they stand
 pub counted : (id : ℕ) (p : ℕ × InstrData) (is : List (ℕ × InstrData)) → IsOneOf p is → (p.0 == id) ≡ true → 1 ≤ uses_among id is
