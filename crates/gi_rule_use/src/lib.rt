@@ -2,7 +2,9 @@
 #![tactic(auto)]
 
 mod making;
+mod staging;
 mod using;
 
 pub use making::rewrite_at;
+pub use staging::may_be_made;
 pub use using::Use;
