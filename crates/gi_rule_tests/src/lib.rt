@@ -1,4 +1,4 @@
-//! Tests of `gi_observe` and `gi_pattern`: edits and what is told of them, and rules where they fit.
+//! Tests of `gi_observe`, `gi_pattern` and `gi_rule_use`: edits and what is told of them, rules where they fit, and rewrites.
 #![tactic(auto)]
 
 #[cfg(test)]
@@ -7,3 +7,5 @@ mod built;
 mod edits;
 #[cfg(test)]
 mod rules;
+#[cfg(test)]
+mod uses;

@@ -4,8 +4,8 @@ ghost use Rattle.std.specs.Prelude.{◌≡◌, ◌≤◌, [], IfOk};
 ghost use Rattle.gi_rule_values.specs.Artifacts.{anyext_of_trunc, cast_of_trunc, freeze_to_copy, sext_of_trunc, sext_of_trunc_same, trunc_of_trunc, zext_of_trunc, zext_of_trunc_same};
 
 use crate::building::s;
-use crate::words::ones;
 use crate::rewrite::{Operation, Rewrite, Slot};
+use crate::words::ones;
 use gi_llt::{Llt, Memory};
 use gi_mir::opcode::Opcode;
 use gi_mir::operand::Flags;

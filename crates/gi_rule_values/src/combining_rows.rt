@@ -4,8 +4,8 @@ ghost use Rattle.std.specs.Prelude.{◌≡◌, ◌<◌, ◌≤◌, ◌^◌, IfOk
 ghost use Rattle.gi_rule_values.specs.Combining.{by_another, mul_to_shl, right_identity, same_to_zero, sub_to_add, udiv_to_lshr, urem_to_mask};
 
 use crate::building::s;
-use crate::words::{negated, ones, power};
 use crate::rewrite::{Operation, Rewrite, Slot};
+use crate::words::{negated, ones, power};
 use gi_llt::Memory;
 use gi_mir::opcode::Opcode;
 use gi_mir::operand::Flags;

@@ -4,8 +4,8 @@ ghost use Rattle.std.specs.Prelude.{◌≡◌, ◌<◌, ◌≤◌, ◌+◌, ◌^
 ghost use Rattle.gi_rule_values.specs.Selecting.{chain, chain_place, materialize_constant, select_above, select_below, select_icmp_eq, select_icmp_ne, select_icmp_ule, select_not_above, select_not_below, select_number, select_select, select_two, select_zext, step_on};
 
 use crate::building::{plain, s};
-use crate::words::unsigned;
 use crate::rewrite::{Operation, Rewrite, Slot};
+use crate::words::unsigned;
 use gi_llt::{Llt, Memory, Target};
 use gi_mir::opcode::Opcode;
 use gi_mir::operand::{Flags, Operand, Pred};
