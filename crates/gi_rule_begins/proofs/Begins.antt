@@ -10,7 +10,7 @@ use Rattle.gi_spelling.specs.There.{NamesBlocksThatAreThere, names_blocks_there}
 use Rattle.gi_spelling.proofs.ReadSpells.{read_spelled}
 use Rattle.gi_spelling.proofs.SpelledPrintable.{spelled_printable}
 use Rattle.gi_valid.specs.Typing.{Typed}
-use Rattle.gi_refining.specs.Known.{are_formed}
+use Rattle.gi_change_refines.specs.Sized.{are_formed}
 use Rattle.gi_rule_refines.specs.Stages.{IsGoodAt, is_of_stage, phase_at}
 use Rattle.gi_rule_refines.specs.declared.stages.RuleStage.{RuleStage}
 use Rattle.gi_rule_refines.proofs.WasRead.{blocks_fit, blocks_formed, one_of, read_good}

@@ -11,7 +11,7 @@ use Rattle.gi_valid.specs.Valid.{IsValid}
 use Rattle.gi_valid.proofs.Existing.{greatest_sets}
 use Rattle.gi_valid.proofs.Greatest.{faultless_in_greatest}
 use Rattle.gi_valid.proofs.Sited.{nothing_in_either, nothing_in_front, site_of, told_append}
-use Rattle.gi_soundness.proofs.Valid.{AreQuietAll, great_of, quiet_of}
+use Rattle.gi_change_valid.proofs.Valid.{AreQuietAll, great_of, quiet_of}
 use Rattle.gi_rule_begins.proofs.Defined.{blocks_there}
 
 operands_there : (n : ℕ) (os : List Operand) → list_all (λ b. nat_lt b n) (blocks_in os) ≡ true → list_all (is_there_in n) os ≡ true

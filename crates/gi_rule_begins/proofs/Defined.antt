@@ -25,11 +25,11 @@ use Rattle.gi_valid.proofs.Existing.{greatest_sets}
 use Rattle.gi_valid.proofs.Greatest.{faultless_in_greatest}
 use Rattle.gi_valid.proofs.Sited.{at_site, neither, phis_and_others, site_of}
 use Rattle.gi_valid.proofs.Walking.{body_is}
-use Rattle.gi_soundness.specs.Rewriting.{IsOneOf}
-use Rattle.gi_soundness.proofs.Circles.{HasPlace, HasSite, IsKnown, is_here, site_in_body, site_of_one, use_at}
-use Rattle.gi_soundness.proofs.Computed.{any_one}
-use Rattle.gi_soundness.proofs.Sites.{IsSite, site_inside}
-use Rattle.gi_soundness.proofs.Valid.{AreQuietAll, great_of, known_of, quiet_of}
+use Rattle.gi_change_valid.specs.Rewriting.{IsOneOf}
+use Rattle.gi_change_valid.proofs.Circles.{HasPlace, HasSite, IsKnown, is_here, site_in_body, site_of_one, use_at}
+use Rattle.gi_change_valid.proofs.Computed.{any_one}
+use Rattle.gi_change_valid.proofs.Sites.{IsSite, site_inside}
+use Rattle.gi_change_valid.proofs.Valid.{AreQuietAll, great_of, known_of, quiet_of}
 
 -- ══ Nothing makes it available ══
 

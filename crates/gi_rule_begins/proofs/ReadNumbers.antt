@@ -15,7 +15,7 @@ use Rattle.gi_spelling.specs.Documents.{Document, bodies_of, entries_of, functio
 use Rattle.gi_spelling.specs.Lines.{Section, parts_of_text}
 use Rattle.gi_spelling.specs.Named.{IsNamedBlock, IsNamedEntry, IsNamedFunction, IsNamedOperand}
 use Rattle.gi_spelling.specs.Read.{IsReadFunction, IsReadModule}
-use Rattle.gi_refining.specs.Numbered.{are_had, is_had, is_numbered, stand_once}
+use Rattle.gi_change_refines.specs.Numbered.{are_had, is_had, is_numbered, stand_once}
 
 -- ══ One more instruction ══
 

@@ -16,13 +16,13 @@ use Rattle.gi_mir.specs.declared.operand.Operand.{Operand}
 use Rattle.gi_mir.specs.declared.operand.Operand.TheVariants as operand
 use Rattle.gi_meaning.specs.InRow.{results_in, sources_in}
 use Rattle.gi_rules.specs.Fitting.{is_defined_in}
-use Rattle.gi_soundness.specs.Rewriting.{IsOneOf}
-use Rattle.gi_soundness.proofs.Computed.{any_one}
-use Rattle.gi_soundness.proofs.Typed.{kind_in_all}
-use Rattle.gi_soundness.proofs.Valid.{instr_met}
+use Rattle.gi_change_valid.specs.Rewriting.{IsOneOf}
+use Rattle.gi_change_valid.proofs.Computed.{any_one}
+use Rattle.gi_change_valid.proofs.Typed.{kind_in_all}
+use Rattle.gi_change_valid.proofs.Valid.{instr_met}
 use Rattle.gi_valid.specs.Typing.{Typed, type_in}
 use Rattle.gi_valid.specs.Valid.{IsValid}
-use Rattle.gi_refining.specs.Known.{are_formed}
+use Rattle.gi_change_refines.specs.Sized.{are_formed}
 use Rattle.gi_rule_refines.specs.Stages.{are_accepted, has_opcode, is_accepted, is_of_stage, phase_at, registers_of}
 use Rattle.gi_rule_refines.specs.declared.stages.RuleStage.{RuleStage}
 use Rattle.gi_rule_refines.specs.declared.stages.RuleStage.TheVariants as at

@@ -29,11 +29,11 @@ use Rattle.gi_valid.specs.Valid.{IsValid}
 use Rattle.gi_valid.specs.declared.invalid.Invalid.{Invalid}
 use Rattle.gi_valid.specs.declared.invalid.Invalid.TheVariants.{TypeMismatch}
 use Rattle.gi_valid.proofs.Sited.{nothing_in_either}
-use Rattle.gi_soundness.proofs.Valid.{fewer}
-use Rattle.gi_refining.specs.Known.{are_formed}
-use Rattle.gi_refining.specs.KnownTypes.{has_type}
-use Rattle.gi_refining.specs.Numbered.{is_numbered}
-use Rattle.gi_refining.specs.Widths.{machine_has_words}
+use Rattle.gi_change_valid.proofs.Valid.{fewer}
+use Rattle.gi_change_refines.specs.Sized.{are_formed}
+use Rattle.gi_change_refines.specs.Typed.{has_type}
+use Rattle.gi_change_refines.specs.Numbered.{is_numbered}
+use Rattle.gi_change_refines.specs.Widths.{machine_has_words}
 use Rattle.gi_rule_refines.specs.Good.{IsGood}
 use Rattle.gi_rule_refines.specs.Stages.{IsGoodAt, each_passes, has_banks, has_opcode, is_accepted, is_of_stage, phase_at, registers_of, stand_at}
 use Rattle.gi_rule_refines.specs.declared.stages.RuleStage.{RuleStage}

@@ -14,16 +14,15 @@ use Rattle.gi_mir.specs.declared.operand.Pred.{Pred}
 use Rattle.gi_rule_values.specs.Data.{RewriteData}
 use Rattle.gi_rule_refines.specs.Stages.{IsGoodRewriteAt}
 use Rattle.gi_rule_refines.specs.declared.stages.RuleStage.TheVariants as at
-use Rattle.gi_soundness.specs.Rules.{computes}
+use Rattle.gi_change_valid.specs.Numbers.{computes}
 use Rattle.gi_rule_values.specs.Combining.{binop_same, binop_to_zero, constant_fold, constant_fold_cast, cut_extension, icmp_and_one, mul_to_shl, pointer_identity, right_identity, same_to_zero, select_constant, select_same, sub_to_add, udiv_to_lshr, urem_to_mask}
-use Rattle.gi_rule_values.specs.Forms.{s}
+use Rattle.gi_rule_values.specs.Forms.{s, constant, flagged, holds, on_one, rewrite}
 use Rattle.gi_rule_values.proofs.Combining.{add_zero_sound, ashr_zero_sound, cut_anyext_sound, cut_sext_sound, cut_zext_sound, lshr_zero_sound, mul_one_sound, mul_to_shl_sound, or_zero_sound, pointer_identity_sound, sdiv_one_sound, shl_zero_sound, sub_same_sound, sub_to_add_sound, sub_zero_sound, udiv_one_sound, udiv_to_lshr_sound, urem_to_mask_sound, xor_same_sound, xor_zero_sound}
 use Rattle.gi_rule_values.proofs.CombiningMore.{and_same_sound, and_zero_sound, constant_fold_sound, fold_anyext_sound, fold_sext_sound, fold_trunc_sound, fold_zext_sound, icmp_and_one_sound, mul_zero_sound, or_same_sound, select_constant_sound, select_same_sound}
 use Rattle.gi_rule_values.proofs.Numbers.{below_power, below_wider, same}
 use Rattle.gi_rule_refines.proofs.Passing.{good_by, mask_below, negated_below, passes, same_type_itself}
 use Rattle.std.proofs.lemmas.Nat.{mod_below, pow_pos}
 use Rattle.gi_meaning.proofs.Numbers.{unsigned_below}
-use Rattle.gi_rule_values.specs.Forms.{constant, flagged, holds, on_one, rewrite}
 use Rattle.gi_rule_values.specs.declared.rewrite.Slot.TheVariants.{At}
 
 -- ══ A choice ══

@@ -14,13 +14,13 @@ use Rattle.gi_valid.specs.Definitions.{IsComputedFrom, definition, uses_purely}
 use Rattle.gi_valid.specs.Faults.{may_call}
 use Rattle.gi_valid.specs.Typing.{Phase, joins_any, mismatch, type_in, unsuited}
 use Rattle.gi_valid.specs.Valid.{IsValid}
-use Rattle.gi_soundness.specs.Conditions.{AccountsForResults, ArePlain, DefinesAnew, KeepsTypes, MakesNoNewCall, ReadsOrigins, is_replaced}
-use Rattle.gi_soundness.specs.Rewriting.{IsOneOf, IsRewritten, Rewriting, block_rewritten, rewritten}
-use Rattle.gi_soundness.proofs.Circles.{HasPlace, IsKnown, is_definition, is_here, none_in_circle, site_of_one, use_at}
-use Rattle.gi_soundness.proofs.Placed.{found_by_id}
-use Rattle.gi_soundness.proofs.Typed.{kind_kept, one_of_made, type_alike}
-use Rattle.gi_soundness.proofs.Valid.{great_of, instr_met, known_of, stays_valid}
-use Rattle.gi_refining.proofs.UsingElsewhere.{in_left, in_right}
+use Rattle.gi_change_valid.specs.Conditions.{AccountsForResults, ArePlain, DefinesAnew, KeepsTypes, MakesNoNewCall, ReadsOrigins, is_replaced}
+use Rattle.gi_change_valid.specs.Rewriting.{IsOneOf, IsRewritten, Rewriting, block_rewritten, rewritten}
+use Rattle.gi_change_valid.proofs.Circles.{HasPlace, IsKnown, is_definition, is_here, none_in_circle, site_of_one, use_at}
+use Rattle.gi_change_valid.proofs.Placed.{found_by_id}
+use Rattle.gi_change_valid.proofs.Typed.{kind_kept, one_of_made, type_alike}
+use Rattle.gi_change_valid.proofs.Valid.{great_of, instr_met, known_of, stays_valid}
+use Rattle.gi_change_refines.proofs.Elsewhere.{in_left, in_right}
 use Rattle.gi_rule_valid.proofs.InPlace.{is_replaced_by}
 use Rattle.gi_rule_refines.specs.Copies.{IsCopy, copy_between}
 use Rattle.gi_rule_refines.proofs.CopyLists.{entry_is_renamed, stand_in}

@@ -21,10 +21,10 @@ use Rattle.gi_refine.specs.Refinement.{RefinesUnchecked}
 use Rattle.gi_refine.specs.RuleUse.{width_in}
 use Rattle.gi_refine.proofs.Refining.{refines_itself, refines_through}
 use Rattle.gi_rules.specs.Fitting.{is_defined_in}
-use Rattle.gi_soundness.specs.Rules.{HasHadAll}
-use Rattle.gi_soundness.proofs.Computed.{any_one}
+use Rattle.gi_change_valid.specs.Numbers.{HasHadAll}
+use Rattle.gi_change_valid.proofs.Computed.{any_one}
 use Rattle.gi_valid.specs.Typing.{Phase, type_in}
-use Rattle.gi_refining.specs.Widths.{keeps_values, values_keep}
+use Rattle.gi_change_refines.specs.Widths.{keeps_values, values_keep}
 use Rattle.gi_rule_refines.specs.Copies.{AreCopies, CopyData, IsCopy, all_propagated, propagated}
 use Rattle.gi_rule_refines.specs.Dead.{can_go, is_dead, is_unused}
 use Rattle.gi_rule_refines.specs.Good.{IsGood}

@@ -9,7 +9,7 @@ use Rattle.gi_valid.specs.Examples.{extents_of}
 use Rattle.gi_valid.specs.Typing.{Typed}
 use Rattle.gi_valid.specs.Valid.{IsValid}
 use Rattle.gi_valid.proofs.Trials.{loop_contained}
-use Rattle.gi_refining.specs.Known.{are_formed}
+use Rattle.gi_change_refines.specs.Sized.{are_formed}
 use Rattle.gi_rule_refines.specs.Copies.{IsCopy, copies_in_loop, reads_the_sum}
 use Rattle.gi_rule_refines.specs.Stages.{IsGoodAt}
 use Rattle.gi_rule_refines.specs.declared.stages.RuleStage.TheVariants.{Before}

@@ -24,10 +24,10 @@ use Rattle.gi_valid.proofs.Holding.{definition_holds}
 use Rattle.gi_valid.proofs.Single.{IsIn}
 use Rattle.gi_valid.proofs.Sited.{at_site, phis_and_others, site_of, splits_whole}
 use Rattle.gi_valid.proofs.Valid.{orderly}
-use Rattle.gi_soundness.proofs.Circles.{IsKnown, is_here, use_at}
-use Rattle.gi_soundness.proofs.Sites.{IsSite}
-use Rattle.gi_soundness.proofs.Typed.{in_list}
-use Rattle.gi_soundness.proofs.Valid.{great_of, known_of}
+use Rattle.gi_change_valid.proofs.Circles.{IsKnown, is_here, use_at}
+use Rattle.gi_change_valid.proofs.Sites.{IsSite}
+use Rattle.gi_change_valid.proofs.Typed.{in_list}
+use Rattle.gi_change_valid.proofs.Valid.{great_of, known_of}
 use Rattle.gi_rule_refines.specs.Copies.{IsCopy}
 use Rattle.gi_rule_refines.proofs.Copied.{IsCopied, copy_defines, copy_there, root_of}
 use Rattle.gi_rule_refines.proofs.CopyLists.{stand_in}

@@ -7,7 +7,7 @@ use Rattle.gi_valid.specs.Examples.{extents_of}
 use Rattle.gi_valid.specs.Typing.{Typed}
 use Rattle.gi_valid.specs.Valid.{IsValid}
 use Rattle.gi_valid.proofs.Trials.{loop_contained}
-use Rattle.gi_refining.specs.Known.{are_formed}
+use Rattle.gi_change_refines.specs.Sized.{are_formed}
 use Rattle.gi_rule_refines.specs.Dead.{AreDead, wastes, wastes_less}
 use Rattle.gi_rule_refines.specs.Good.{IsGood}
 use Rattle.gi_rule_refines.proofs.ErasedGood.{all_erased_refine}

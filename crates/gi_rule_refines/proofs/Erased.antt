@@ -18,11 +18,11 @@ use Rattle.gi_valid.specs.Definitions.{defines_any_physical, defines_physical, i
 use Rattle.gi_valid.specs.Typing.{Phase}
 use Rattle.gi_valid.specs.Valid.{IsValid}
 use Rattle.gi_valid.proofs.Single.{one_definition}
-use Rattle.gi_soundness.specs.Rewriting.{IsOneOf, IsRewritten, Rewriting}
-use Rattle.gi_soundness.proofs.Circles.{IsKnown}
-use Rattle.gi_soundness.proofs.Computed.{any_one}
-use Rattle.gi_soundness.proofs.Typed.{in_list, kind_kept, other_alike}
-use Rattle.gi_soundness.proofs.Valid.{great_of, known_of}
+use Rattle.gi_change_valid.specs.Rewriting.{IsOneOf, IsRewritten, Rewriting}
+use Rattle.gi_change_valid.proofs.Circles.{IsKnown}
+use Rattle.gi_change_valid.proofs.Computed.{any_one}
+use Rattle.gi_change_valid.proofs.Typed.{in_list, kind_kept, other_alike}
+use Rattle.gi_change_valid.proofs.Valid.{great_of, known_of}
 use Rattle.gi_rule_valid.proofs.InPlace.{is_replaced_by, replacing}
 use Rattle.gi_rule_refines.specs.Dead.{can_go, is_dead, is_unused, only_gives}
 use Rattle.gi_rule_refines.specs.Good.{IsGood}

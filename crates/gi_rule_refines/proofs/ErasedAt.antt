@@ -6,9 +6,9 @@ use Rattle.gi_mir.specs.Accepted.{is_result_type, is_source_type}
 use Rattle.gi_mir.specs.Data.{InstrData, FunctionData}
 use Rattle.gi_mir.specs.Edit.{all_instrs, without_instr}
 use Rattle.gi_mir.specs.Registers.{type_of_kind}
-use Rattle.gi_soundness.specs.Rewriting.{IsOneOf}
-use Rattle.gi_soundness.proofs.Listed.{instrs_after}
-use Rattle.gi_soundness.proofs.Typed.{type_alike}
+use Rattle.gi_change_valid.specs.Rewriting.{IsOneOf}
+use Rattle.gi_change_valid.proofs.Listed.{instrs_after}
+use Rattle.gi_change_valid.proofs.Typed.{type_alike}
 use Rattle.gi_valid.specs.Typing.{type_in}
 use Rattle.gi_rule_refines.specs.Dead.{AreDead, without_all}
 use Rattle.gi_rule_refines.specs.Stages.{IsGoodAt, each_passes, is_accepted, is_of_stage, phase_at, stand_at}

@@ -16,17 +16,17 @@ use Rattle.gi_valid.specs.Typing.{Phase}
 use Rattle.gi_valid.specs.declared.invalid.Invalid.{Invalid}
 use Rattle.gi_valid.specs.declared.invalid.Invalid.TheVariants.{NotAvailable}
 use Rattle.gi_valid.proofs.Sited.{neither, site_of}
-use Rattle.gi_soundness.specs.Rewriting.{IsOneOf, IsRewritten, Rewriting}
-use Rattle.gi_soundness.proofs.Across.{same_start}
-use Rattle.gi_soundness.proofs.Available.{reached_after, reached_before}
-use Rattle.gi_soundness.proofs.Circles.{IsKnown, all_there, phis_before, walk, walk_body}
-use Rattle.gi_soundness.proofs.Frames.{as_many_blocks, body_after, same_successors}
-use Rattle.gi_soundness.proofs.Listed.{instrs_after, rewritten_append}
-use Rattle.gi_soundness.proofs.Reading.{entry_used, none_told}
-use Rattle.gi_soundness.proofs.Sites.{AreQuiet, IsSite, nothing_new, site_inside, site_own}
-use Rattle.gi_soundness.proofs.Stepwise.{ByDefinition, ByPhi, ByStaying, CameBy, are_phis, came_by, defined_behind, phis_behind, stays_behind}
-use Rattle.gi_soundness.proofs.Typed.{origin_used}
-use Rattle.gi_soundness.proofs.Valid.{great_of, known_of}
+use Rattle.gi_change_valid.specs.Rewriting.{IsOneOf, IsRewritten, Rewriting}
+use Rattle.gi_change_valid.proofs.Across.{same_start}
+use Rattle.gi_change_valid.proofs.Available.{reached_after, reached_before}
+use Rattle.gi_change_valid.proofs.Circles.{IsKnown, all_there, phis_before, walk, walk_body}
+use Rattle.gi_change_valid.proofs.Frames.{as_many_blocks, body_after, same_successors}
+use Rattle.gi_change_valid.proofs.Listed.{instrs_after, rewritten_append}
+use Rattle.gi_change_valid.proofs.Reading.{entry_used, none_told}
+use Rattle.gi_change_valid.proofs.Sites.{AreQuiet, IsSite, nothing_new, site_inside, site_own}
+use Rattle.gi_change_valid.proofs.Stepwise.{ByDefinition, ByPhi, ByStaying, CameBy, are_phis, came_by, defined_behind, phis_behind, stays_behind}
+use Rattle.gi_change_valid.proofs.Typed.{origin_used}
+use Rattle.gi_change_valid.proofs.Valid.{great_of, known_of}
 use Rattle.gi_rule_valid.proofs.InPlace.{entry_stays}
 use Rattle.gi_rule_refines.proofs.Erased.{IsErased, erased, erasing, gone_defines_none, gone_unused, is_gone, used_stays}
 use Rattle.gi_rule_refines.proofs.ErasedLists.{IsAlone, all_left, any_left, find_left, left, left_next}

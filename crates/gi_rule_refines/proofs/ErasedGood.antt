@@ -8,11 +8,11 @@ use Rattle.gi_meaning.specs.Runs.{setting_of, width_of_kind}
 use Rattle.gi_refine.specs.Refinement.{RefinesUnchecked}
 use Rattle.gi_refine.specs.RuleUse.{width_in}
 use Rattle.gi_refine.proofs.Refining.{refines_itself, refines_through}
-use Rattle.gi_soundness.specs.Rewriting.{IsOneOf}
-use Rattle.gi_soundness.specs.Rules.{HasHadAll}
-use Rattle.gi_soundness.proofs.Listed.{instrs_after}
+use Rattle.gi_change_valid.specs.Rewriting.{IsOneOf}
+use Rattle.gi_change_valid.specs.Numbers.{HasHadAll}
+use Rattle.gi_change_valid.proofs.Listed.{instrs_after}
 use Rattle.gi_valid.specs.Typing.{Phase}
-use Rattle.gi_refining.specs.Widths.{keeps_values, values_keep}
+use Rattle.gi_change_refines.specs.Widths.{keeps_values, values_keep}
 use Rattle.gi_rule_refines.specs.Dead.{AreDead, is_dead, without_all}
 use Rattle.gi_rule_refines.specs.Good.{IsGood}
 use Rattle.gi_rule_refines.proofs.Erased.{IsErased, defined_stays, erased, erased_of, erasing, kind_stays, used_stays}

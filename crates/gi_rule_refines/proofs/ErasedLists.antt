@@ -3,7 +3,7 @@ use Rattle.std.proofs.Common.{◌≡◌, ℕ, Bool, true, false, cond, ◌==◌,
 use Rattle.std.proofs.lemmas.Bool.{and_from, and_parts, or_cases, or_left, or_right, false_from_ne_true}
 use Rattle.std.specs.List.{list_all, list_any}
 use Rattle.gi_mir.specs.Data.{InstrData, FunctionData}
-use Rattle.gi_soundness.specs.Rewriting.{IsOneOf, rewritten}
+use Rattle.gi_change_valid.specs.Rewriting.{IsOneOf, rewritten}
 use Rattle.gi_rule_valid.proofs.InPlace.{entry_stays}
 use Rattle.gi_rule_refines.proofs.Erased.{erasing}
 

@@ -20,12 +20,12 @@ use Rattle.gi_refine.proofs.Reaching.{followed_within, nothing_followed}
 use Rattle.gi_refine.proofs.Simulating.{followed_on, refined_by_following}
 use Rattle.gi_refine.proofs.Staying.{KeepsWidths, entries_hold_alone, kept_alone, no_phis_after, seen_untouched, uses_hold_alone}
 use Rattle.gi_valid.specs.Typing.{Phase}
-use Rattle.gi_soundness.specs.Rewriting.{IsOneOf, Rewriting, block_rewritten}
-use Rattle.gi_soundness.proofs.Circles.{phis_before}
-use Rattle.gi_soundness.proofs.Sites.{IsSite}
-use Rattle.gi_soundness.proofs.Stepwise.{are_phis}
-use Rattle.gi_soundness.proofs.Valid.{known_of}
-use Rattle.gi_refining.proofs.UsingElsewhere.{other_inside}
+use Rattle.gi_change_valid.specs.Rewriting.{IsOneOf, Rewriting, block_rewritten}
+use Rattle.gi_change_valid.proofs.Circles.{phis_before}
+use Rattle.gi_change_valid.proofs.Sites.{IsSite}
+use Rattle.gi_change_valid.proofs.Stepwise.{are_phis}
+use Rattle.gi_change_valid.proofs.Valid.{known_of}
+use Rattle.gi_change_refines.proofs.Elsewhere.{other_inside}
 use Rattle.gi_rule_refines.proofs.Erased.{IsErased, defined_stays, defines_none, erased, erasing, is_gone, kind_stays, untouched, used_stays}
 use Rattle.gi_rule_refines.proofs.ErasedLists.{all_left, left, left_next}
 use Rattle.gi_rule_refines.proofs.Giving.{AllHidden, goes_on, places_hidden, put_hidden}

@@ -19,15 +19,15 @@ use Rattle.gi_valid.proofs.Existing.{greatest_sets}
 use Rattle.gi_valid.proofs.Greatest.{faultless_in_greatest}
 use Rattle.gi_valid.proofs.Sited.{site_of}
 use Rattle.gi_valid.proofs.Valid.{nothing_mapped}
-use Rattle.gi_soundness.specs.Conditions.{DefinesAnew}
-use Rattle.gi_soundness.specs.Rewriting.{IsOneOf, IsRewritten, Rewriting}
-use Rattle.gi_soundness.proofs.Across.{same_start, wider_alike}
-use Rattle.gi_soundness.proofs.Faultless.{none_told, ordered, same_unknown, successors_still_there}
-use Rattle.gi_soundness.proofs.Frames.{same_predecessors, same_successors}
-use Rattle.gi_soundness.proofs.Single.{none_defined_twice}
-use Rattle.gi_soundness.proofs.Sites.{IsSite, nothing_new, site_inside, site_own}
-use Rattle.gi_soundness.proofs.Typed.{mismatch_left, results_alike, type_alike}
-use Rattle.gi_soundness.proofs.Valid.{AreQuietAll, faultless_of, great_of, quiet_of}
+use Rattle.gi_change_valid.specs.Conditions.{DefinesAnew}
+use Rattle.gi_change_valid.specs.Rewriting.{IsOneOf, IsRewritten, Rewriting}
+use Rattle.gi_change_valid.proofs.Across.{same_start, wider_alike}
+use Rattle.gi_change_valid.proofs.Faultless.{none_told, ordered, same_unknown, successors_still_there}
+use Rattle.gi_change_valid.proofs.Frames.{same_predecessors, same_successors}
+use Rattle.gi_change_valid.proofs.Single.{none_defined_twice}
+use Rattle.gi_change_valid.proofs.Sites.{IsSite, nothing_new, site_inside, site_own}
+use Rattle.gi_change_valid.proofs.Typed.{mismatch_left, results_alike, type_alike}
+use Rattle.gi_change_valid.proofs.Valid.{AreQuietAll, faultless_of, great_of, quiet_of}
 use Rattle.gi_rule_valid.proofs.InPlace.{entry_stays}
 use Rattle.gi_rule_refines.proofs.Erased.{IsErased, defined_stays, erased, erasing, gone_defines_none, kind_stays, used_stays}
 use Rattle.gi_rule_refines.proofs.ErasedExtents.{all_available, extent_holds, extent_left, quiet_kept}

@@ -5,7 +5,7 @@ use Rattle.std.proofs.lemmas.Bool.{and_from, or_cases, or_left, or_right, eqb-tr
 use Rattle.gi_meaning.specs.Runs.{is_among}
 use Rattle.gi_refine.specs.Lifting.{all_grown, are_all_fresh, are_fresh, grown, is_kept, is_register}
 use Rattle.gi_valid.proofs.Single.{often}
-use Rattle.gi_refining.proofs.UsingFresh.{all_fresh_flat, flat as flattened, fresh_from}
+use Rattle.gi_change_refines.proofs.Fresh.{all_fresh_flat, flat as flattened, fresh_from}
 use Rattle.gi_rule_values.specs.OnValues.{kept_from}
 use Rattle.gi_rule_valid.specs.Using.{register_at, target_at}
 use Rattle.gi_rule_valid.proofs.Lists.{among, flat}

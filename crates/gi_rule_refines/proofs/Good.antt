@@ -11,13 +11,13 @@ use Rattle.gi_meaning.specs.Meaning.{meaning_of}
 use Rattle.gi_meaning.specs.Runs.{Setting, setting_of, width_of_kind}
 use Rattle.gi_refine.specs.RuleUse.{width_in}
 use Rattle.gi_pattern.specs.InPlace.{entry_renamed, with_ids}
-use Rattle.gi_soundness.specs.Rewriting.{IsOneOf, IsRewritten, Rewriting, rewritten}
-use Rattle.gi_soundness.specs.Rules.{HasHadAll}
-use Rattle.gi_soundness.proofs.Computed.{any_one}
-use Rattle.gi_soundness.proofs.Listed.{instrs_after}
-use Rattle.gi_soundness.proofs.Made.{all_of_ids}
+use Rattle.gi_change_valid.specs.Rewriting.{IsOneOf, IsRewritten, Rewriting, rewritten}
+use Rattle.gi_change_valid.specs.Numbers.{HasHadAll}
+use Rattle.gi_change_valid.proofs.Computed.{any_one}
+use Rattle.gi_change_valid.proofs.Listed.{instrs_after}
+use Rattle.gi_change_valid.proofs.Made.{all_of_ids}
 use Rattle.gi_valid.specs.Typing.{Phase}
-use Rattle.gi_refining.specs.Widths.{keeps_values, values_keep}
+use Rattle.gi_change_refines.specs.Widths.{keeps_values, values_keep}
 use Rattle.gi_rule_valid.specs.Keeping.{gives_types}
 use Rattle.gi_pattern.specs.Applying.{line_of}
 use Rattle.gi_rule_valid.specs.Using.{UseData, kind_in, made_of, rewritten_at, targets_of}

@@ -30,14 +30,14 @@ use Rattle.gi_valid.proofs.Holding.{definition_holds}
 use Rattle.gi_valid.proofs.Single.{often, results_once}
 use Rattle.gi_valid.proofs.Sited.{phis_and_others}
 use Rattle.gi_valid.proofs.Valid.{orderly}
-use Rattle.gi_soundness.specs.Rewriting.{IsOneOf}
-use Rattle.gi_soundness.specs.Rules.{computes, is_in}
-use Rattle.gi_soundness.proofs.Binding.{in_first_or_rest}
-use Rattle.gi_soundness.proofs.Circles.{is_here}
-use Rattle.gi_soundness.proofs.KeptKinds.{root_kind}
-use Rattle.gi_soundness.proofs.Staying.{origin_here}
-use Rattle.gi_soundness.proofs.Typed.{found_there, in_list}
-use Rattle.gi_soundness.proofs.Valid.{great_of, known_of}
+use Rattle.gi_change_valid.specs.Rewriting.{IsOneOf}
+use Rattle.gi_change_valid.specs.Numbers.{computes, is_in}
+use Rattle.gi_change_valid.proofs.Numbers.{in_first_or_rest}
+use Rattle.gi_change_valid.proofs.Circles.{is_here}
+use Rattle.gi_change_valid.proofs.KeptKinds.{root_kind}
+use Rattle.gi_change_valid.proofs.Staying.{origin_here}
+use Rattle.gi_change_valid.proofs.Typed.{found_there, in_list}
+use Rattle.gi_change_valid.proofs.Valid.{great_of, known_of}
 use Rattle.gi_rule_values.specs.Data.{DefinitionData, OperationData}
 use Rattle.gi_rule_values.specs.OnValues.{fact_of, operation_on_values}
 use Rattle.gi_rule_values.specs.declared.rewrite.Slot.{Slot}

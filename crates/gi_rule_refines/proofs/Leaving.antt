@@ -20,10 +20,10 @@ use Rattle.gi_valid.proofs.Defining.{IsOrderly}
 use Rattle.gi_valid.proofs.Sited.{ends_behind, neither, splits_whole}
 use Rattle.gi_valid.proofs.Stepping.{Went, went}
 use Rattle.gi_valid.proofs.Walking.{HasPhis, body_is, phis_of_front}
-use Rattle.gi_soundness.proofs.Circles.{IsKnown, is_here, phis_before}
-use Rattle.gi_soundness.proofs.Sites.{IsSite}
-use Rattle.gi_soundness.proofs.Stepwise.{are_phis, defined_or_there, one_by_one_append}
-use Rattle.gi_soundness.proofs.Valid.{great_of}
+use Rattle.gi_change_valid.proofs.Circles.{IsKnown, is_here, phis_before}
+use Rattle.gi_change_valid.proofs.Sites.{IsSite}
+use Rattle.gi_change_valid.proofs.Stepwise.{are_phis, defined_or_there, one_by_one_append}
+use Rattle.gi_change_valid.proofs.Valid.{great_of}
 
 -- ══ Where a run leaves a block ══
 

@@ -30,25 +30,22 @@ use Rattle.gi_refine.proofs.Staying.{replacement_refines}
 use Rattle.gi_pattern.specs.Applying.{line_of}
 use Rattle.gi_pattern.specs.InPlace.{with_ids}
 use Rattle.gi_pattern.proofs.InPlace.{blocks-replaced}
-use Rattle.gi_refining.specs.InBlock.{back_of, front_of}
-use Rattle.gi_refining.proofs.InBlock.{entry-of, get-within, split-at}
+use Rattle.gi_change_refines.specs.InBlock.{back_of, front_of}
+use Rattle.gi_change_refines.proofs.InBlock.{entry-of, get-within, split-at, root_splits, root_there}
 use Rattle.gi_valid.specs.Typing.{Phase}
 use Rattle.gi_valid.proofs.Single.{often}
-use Rattle.gi_soundness.specs.Conditions.{is_plain, is_plain_operand}
-use Rattle.gi_soundness.specs.Rewriting.{IsRewritten}
-use Rattle.gi_soundness.specs.Rules.{is_in}
-use Rattle.gi_soundness.proofs.Circles.{pure_is_no_phi, use_at}
-use Rattle.gi_soundness.proofs.Made.{all_of_ids}
-use Rattle.gi_soundness.proofs.Sites.{IsSite}
-use Rattle.gi_soundness.proofs.Typed.{kind_kept, other_alike}
-use Rattle.gi_soundness.proofs.Valid.{great_of, known_of}
-use Rattle.gi_refining.specs.Known.{FitsAnywhere}
-use Rattle.gi_refining.specs.Usable.{is_new_in}
-use Rattle.gi_refining.proofs.KnownRule.{root_splits, root_there}
-use Rattle.gi_refining.proofs.Using.{none_seen}
-use Rattle.gi_refining.proofs.UsingElsewhere.{all_clear, back_inside, front_inside, had_is_old, other_inside}
-use Rattle.gi_refining.proofs.UsingFresh.{flat as flattened}
-use Rattle.gi_refining.proofs.UsingKept.{covered_from}
+use Rattle.gi_change_valid.specs.Conditions.{is_plain, is_plain_operand}
+use Rattle.gi_change_valid.specs.Rewriting.{IsRewritten}
+use Rattle.gi_change_valid.specs.Numbers.{is_in}
+use Rattle.gi_change_valid.proofs.Circles.{pure_is_no_phi, use_at}
+use Rattle.gi_change_valid.proofs.Made.{all_of_ids}
+use Rattle.gi_change_valid.proofs.Sites.{IsSite}
+use Rattle.gi_change_valid.proofs.Typed.{kind_kept, other_alike}
+use Rattle.gi_change_valid.proofs.Valid.{great_of, known_of}
+use Rattle.gi_change_refines.specs.Sized.{FitsAnywhere}
+use Rattle.gi_change_refines.specs.Numbered.{is_new_in}
+use Rattle.gi_change_refines.proofs.Fresh.{none_seen, flat as flattened, covered_from}
+use Rattle.gi_change_refines.proofs.Elsewhere.{all_clear, back_inside, front_inside, had_is_old, other_inside}
 use Rattle.gi_rule_values.specs.Data.{RewriteData}
 use Rattle.gi_rule_values.specs.OnValues.{kept_from, on_values, slot_on_values}
 use Rattle.gi_rule_values.specs.declared.rewrite.Slot.{Slot}

@@ -6,18 +6,18 @@ use Rattle.gi_mir.specs.Data.{FunctionData, InstrData}
 use Rattle.gi_mir.specs.Edit.{all_instrs}
 use Rattle.gi_meaning.specs.Meaning.{meaning_of}
 use Rattle.gi_meaning.specs.Runs.{setting_of}
-use Rattle.gi_soundness.specs.Rewriting.{IsOneOf}
+use Rattle.gi_change_valid.specs.Rewriting.{IsOneOf}
 use Rattle.gi_valid.specs.Valid.{IsValid}
-use Rattle.gi_refining.specs.Known.{are_formed}
-use Rattle.gi_refining.specs.KnownTypes.{have_types}
-use Rattle.gi_refining.specs.Numbered.{is_numbered}
-use Rattle.gi_refining.specs.Widths.{has_machine_words, keeps_values}
-use Rattle.gi_refining.proofs.Numbered.{had_numbered, own_numbered}
-use Rattle.gi_refining.proofs.WidthsValid.{keeps_valid}
+use Rattle.gi_change_refines.specs.Sized.{are_formed}
+use Rattle.gi_change_refines.specs.Typed.{have_types}
+use Rattle.gi_change_refines.specs.Numbered.{is_numbered}
+use Rattle.gi_change_refines.specs.Widths.{has_machine_words, keeps_values}
+use Rattle.gi_change_refines.proofs.Numbered.{had_numbered, own_numbered}
+use Rattle.gi_change_refines.proofs.WidthsValid.{keeps_valid}
 use Rattle.gi_refine.specs.Refinement.{RefinesUnchecked}
 use Rattle.gi_refine.proofs.Refining.{refines_itself, refines_through}
 use Rattle.gi_valid.specs.Typing.{Phase, Typed}
-use Rattle.gi_refining.proofs.WidthsKept.{widths_kept}
+use Rattle.gi_change_refines.proofs.WidthsKept.{widths_kept}
 use Rattle.gi_rule_values.proofs.ByNumbers.{sound_by_numbers}
 use Rattle.gi_rule_valid.specs.Keeping.{gives_types}
 use Rattle.gi_rule_valid.specs.Using.{UseData, rewritten_at}

@@ -20,10 +20,10 @@ use Rattle.gi_refine.proofs.Refining.{refines_itself, refines_through}
 use Rattle.gi_pattern.specs.Applying.{all_created, line_of}
 use Rattle.gi_pattern.specs.Making.{kind_with}
 use Rattle.gi_rules.specs.Fitting.{is_defined_in}
-use Rattle.gi_soundness.specs.Rewriting.{IsOneOf, IsRewritten}
-use Rattle.gi_soundness.proofs.Computed.{any_one}
-use Rattle.gi_soundness.proofs.Listed.{instrs_after}
-use Rattle.gi_soundness.proofs.Made.{all_of_ids}
+use Rattle.gi_change_valid.specs.Rewriting.{IsOneOf, IsRewritten}
+use Rattle.gi_change_valid.proofs.Computed.{any_one}
+use Rattle.gi_change_valid.proofs.Listed.{instrs_after}
+use Rattle.gi_change_valid.proofs.Made.{all_of_ids}
 use Rattle.gi_valid.specs.Typing.{Phase, Selecting, Typed, Untyped, type_in}
 use Rattle.gi_rule_values.specs.Data.{OperationData}
 use Rattle.gi_rule_values.specs.declared.rewrite.Slot.{Slot}

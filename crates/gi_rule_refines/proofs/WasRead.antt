@@ -16,7 +16,7 @@ use Rattle.gi_spelling.proofs.SpelledPrintable.{spelled_printable}
 use Rattle.gi_valid.specs.Typing.{Typed}
 use Rattle.gi_valid.specs.Valid.{IsValid}
 use Rattle.gi_valid.proofs.Sited.{nothing_in_either}
-use Rattle.gi_refining.specs.Numbered.{is_numbered}
+use Rattle.gi_change_refines.specs.Numbered.{is_numbered}
 use Rattle.gi_rule_refines.specs.Stages.{IsGoodAt, are_accepted, has_banks, has_opcode, is_of_stage, phase_at, registers_of}
 use Rattle.gi_rule_refines.specs.declared.stages.RuleStage.{RuleStage}
 use Rattle.gi_rule_refines.specs.declared.stages.RuleStage.TheVariants as at

@@ -18,7 +18,7 @@ use Rattle.gi_meaning.specs.State.{Place, Virtual, Physical}
 use Rattle.gi_refine.specs.Fitting.{always_fits, is_fitting_constant, phi_fits, uses_have}
 use Rattle.gi_refine.specs.Lifting.{grown}
 use Rattle.gi_refine.specs.Worded.{has_virtual}
-use Rattle.gi_refining.specs.Widths.{fits_by_widths, is_fitting_address, is_fitting_load, is_fitting_result, has_words, keeps_values, widths_read, widths_written}
+use Rattle.gi_change_refines.specs.Widths.{fits_by_widths, is_fitting_address, is_fitting_load, is_fitting_result, has_words, keeps_values, widths_read, widths_written}
 use Rattle.gi_rule_values.specs.Data.{OperationData}
 use Rattle.gi_rule_values.specs.declared.rewrite.Slot.{Slot}
 use Rattle.gi_rule_values.specs.declared.rewrite.Slot.TheVariants.{At, Stands}

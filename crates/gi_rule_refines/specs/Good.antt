@@ -8,10 +8,10 @@ use Rattle.gi_mir.specs.Edit.{IsLive}
 use Rattle.gi_mir.specs.Ids.{AreOwnIds}
 use Rattle.gi_meaning.specs.Meaning.{meaning_of}
 use Rattle.gi_meaning.specs.Runs.{Setting, setting_of}
-use Rattle.gi_soundness.specs.Rules.{HasHadAll}
+use Rattle.gi_change_valid.specs.Numbers.{HasHadAll}
 use Rattle.gi_valid.specs.Typing.{Phase}
 use Rattle.gi_valid.specs.Valid.{IsValid}
-use Rattle.gi_refining.specs.Widths.{keeps_values, values_keep}
+use Rattle.gi_change_refines.specs.Widths.{keeps_values, values_keep}
 use Rattle.gi_rule_values.specs.Data.{OperationData, RewriteData}
 use Rattle.gi_rule_values.specs.Running.{IsSoundRewrite}
 use Rattle.gi_rule_valid.specs.Keeping.{keeps, on_places}

@@ -7,7 +7,7 @@ ghost use Rattle.gi_spelling.specs.Read.{IsReadModule};
 ghost use Rattle.gi_spelling.specs.There.{NamesBlocksThatAreThere};
 ghost use Rattle.gi_valid.specs.Typing.{Typed};
 ghost use Rattle.gi_valid.specs.Valid.{IsValid};
-ghost use Rattle.gi_refining.specs.Numbered.{is_numbered};
+ghost use Rattle.gi_change_refines.specs.Numbered.{is_numbered};
 ghost use Rattle.gi_rule_refines.specs.Stages.{IsGoodAt, are_accepted, has_banks, phase_at, registers_of};
 ghost use Rattle.gi_rule_refines.specs.declared.stages.RuleStage.{RuleStage};
 

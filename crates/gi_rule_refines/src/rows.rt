@@ -16,7 +16,7 @@ ghost use Rattle.gi_mir.specs.declared.operand.Pred.{Pred};
 ghost use Rattle.gi_mir.specs.declared.operand.Pred.TheVariants.{Sge, Sgt, Sle, Slt, Uge, Ugt, Ult};
 ghost use Rattle.gi_rule_refines.specs.Stages.{IsGoodRewriteAt};
 ghost use Rattle.gi_rule_refines.specs.declared.stages.RuleStage.TheVariants as at;
-ghost use Rattle.gi_soundness.specs.Rules.{computes};
+ghost use Rattle.gi_change_valid.specs.Numbers.{computes};
 ghost use Rattle.gi_rule_values.specs.Artifacts.{anyext_of_trunc_narrower, anyext_of_trunc_same, anyext_of_trunc_wider, freeze_to_copy, sext_of_trunc_narrower, sext_of_trunc_same, sext_of_trunc_wider, trunc_of_merge, trunc_of_trunc, unmerge_of_merge, zext_of_trunc_narrower, zext_of_trunc_same, zext_of_trunc_wider};
 ghost use Rattle.gi_rule_values.specs.Combining.{binop_same, binop_to_zero, constant_fold, constant_fold_cast, cut_extension, icmp_and_one, mul_to_shl, pointer_identity, right_identity, same_to_zero, select_constant, select_same, sub_to_add, udiv_to_lshr, urem_to_mask};
 ghost use Rattle.gi_rule_values.specs.Forms.{s};

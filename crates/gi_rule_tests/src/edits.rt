@@ -104,7 +104,11 @@ fn journals_have_each_change(rt: HostRuntime) -> Result<(), Fail> {
 #[test]
 fn silence_changes_no_edit(rt: HostRuntime) -> Result<(), Fail> {
     let function = edit_sums(rt.alloc(), &mut Silent)?;
-    assert!(rt; function.uses_of(Reg(9)).eq([InstrId(1), InstrId(2)].iter().copied()));
+    assert!(rt;
+        function
+            .uses_of(Reg(9))
+            .eq([InstrId(1), InstrId(2)].iter().copied())
+    );
     Ok(())
 }
 

@@ -10,9 +10,9 @@ use Rattle.gi_mir.specs.declared.operand.Kind.{Kind}
 use Rattle.gi_refine.specs.Lifting.{grown}
 use Rattle.gi_valid.specs.Faults.{is_division, is_product, is_wider, may_call}
 use Rattle.gi_valid.specs.Typing.{Phase, type_in}
-use Rattle.gi_soundness.specs.Rules.{computes}
-use Rattle.gi_soundness.proofs.Made.{never_calls}
-use Rattle.gi_soundness.proofs.Matching.{computing}
+use Rattle.gi_change_valid.specs.Numbers.{computes}
+use Rattle.gi_change_valid.proofs.Made.{never_calls}
+use Rattle.gi_change_valid.proofs.Opcodes.{computing}
 use Rattle.gi_rule_values.specs.Data.{OperationData}
 use Rattle.gi_rule_valid.specs.Keeping.{are_placed, begins_wide, is_taken, may_become_call}
 use Rattle.gi_rule_valid.specs.Using.{all_instrs_for, all_registers, instr_for, next_for, operand_for, place_for, registers_for}

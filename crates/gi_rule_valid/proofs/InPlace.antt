@@ -10,8 +10,8 @@ use Rattle.gi_mir.specs.declared.operand.Operand.TheVariants as operand
 use Rattle.gi_pattern.specs.Applying.{root_replaced}
 use Rattle.gi_pattern.specs.InPlace.{block_with, entry_renamed, operand_renamed, with_ids}
 use Rattle.gi_pattern.proofs.InPlace.{blocks-replaced}
-use Rattle.gi_soundness.specs.Rewriting.{Rewriting, IsRewritten, block_rewritten, IsOneOf, rewritten}
-use Rattle.gi_soundness.proofs.Placed.{counted, found_by_id, one_with, uses_both, uses_first, uses_in_all}
+use Rattle.gi_change_valid.specs.Rewriting.{Rewriting, IsRewritten, block_rewritten, IsOneOf, rewritten}
+use Rattle.gi_change_valid.proofs.Placed.{counted, found_by_id, one_with, uses_both, uses_first, uses_in_all}
 
 -- ══ In the place of one ══
 

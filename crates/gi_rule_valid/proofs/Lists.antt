@@ -11,10 +11,10 @@ use Rattle.gi_mir.specs.declared.operand.Operand.{Operand}
 use Rattle.gi_mir.specs.declared.operand.Operand.TheVariants as operand
 use Rattle.gi_meaning.specs.InRow.{results_in}
 use Rattle.gi_refine.specs.Lifting.{grown}
-use Rattle.gi_soundness.proofs.KeptKinds.{kind_among}
-use Rattle.gi_soundness.proofs.Made.{count, has_def}
+use Rattle.gi_change_valid.proofs.KeptKinds.{kind_among}
+use Rattle.gi_change_valid.proofs.Made.{count, has_def}
 use Rattle.gi_valid.proofs.Single.{often}
-use Rattle.gi_soundness.specs.Rules.{computes}
+use Rattle.gi_change_valid.specs.Numbers.{computes}
 use Rattle.gi_rule_values.specs.Data.{OperationData}
 use Rattle.gi_rule_values.specs.declared.rewrite.Slot.{Slot}
 use Rattle.gi_rule_values.specs.declared.rewrite.Slot.TheVariants.{At, Stands}

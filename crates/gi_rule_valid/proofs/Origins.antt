@@ -15,14 +15,14 @@ use Rattle.gi_mir.specs.declared.operand.Operand.TheVariants as operand
 use Rattle.gi_refine.specs.Lifting.{grown}
 use Rattle.gi_valid.specs.Definitions.{definition, defines_any_physical, is_copy, is_erasable, is_pure, uses_purely}
 use Rattle.gi_valid.specs.Faults.{definitions, times}
-use Rattle.gi_soundness.specs.Conditions.{is_plain, is_plain_operand}
-use Rattle.gi_soundness.specs.Rewriting.{IsOneOf}
-use Rattle.gi_soundness.specs.Rules.{computes, is_in}
-use Rattle.gi_soundness.proofs.Binding.{in_first_or_rest}
-use Rattle.gi_soundness.proofs.Circles.{computed_on, is_definition, joining_is}
-use Rattle.gi_soundness.proofs.Found.{FromRoot}
-use Rattle.gi_soundness.proofs.Made.{ReadsWell, has_def}
-use Rattle.gi_soundness.proofs.Matching.{computing}
+use Rattle.gi_change_valid.specs.Conditions.{is_plain, is_plain_operand}
+use Rattle.gi_change_valid.specs.Rewriting.{IsOneOf}
+use Rattle.gi_change_valid.specs.Numbers.{computes, is_in}
+use Rattle.gi_change_valid.proofs.Numbers.{in_first_or_rest}
+use Rattle.gi_change_valid.proofs.Circles.{computed_on, is_definition, joining_is}
+use Rattle.gi_change_valid.proofs.Sources.{FromRoot}
+use Rattle.gi_change_valid.proofs.Made.{ReadsWell, has_def}
+use Rattle.gi_change_valid.proofs.Opcodes.{computing}
 use Rattle.gi_rule_values.specs.Data.{DefinitionData, OperationData}
 use Rattle.gi_rule_values.specs.declared.rewrite.Slot.{Slot}
 use Rattle.gi_rule_values.specs.declared.rewrite.Slot.TheVariants.{At, Stands}

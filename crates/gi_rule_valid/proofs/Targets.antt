@@ -6,7 +6,7 @@ use Rattle.std.proofs.lemmas.Bool.Decides.{nat_tests}
 use Rattle.gi_llt.specs.declared.Llt.{Llt}
 use Rattle.gi_mir.specs.Registers.{first_there}
 use Rattle.gi_mir.specs.declared.operand.Kind.{Kind}
-use Rattle.gi_soundness.specs.Rules.{is_in}
+use Rattle.gi_change_valid.specs.Numbers.{is_in}
 use Rattle.gi_valid.proofs.Single.{often}
 use Rattle.gi_rule_valid.specs.Keeping.{are_results, has_type}
 use Rattle.gi_rule_valid.specs.Using.{next_behind, or_new, registers_for, target_at}

@@ -16,7 +16,7 @@ use Rattle.gi_meaning.specs.InRow.{results_in, sources_in}
 use Rattle.gi_refine.specs.Lifting.{grown}
 use Rattle.gi_valid.specs.Definitions.{is_copy}
 use Rattle.gi_valid.specs.Typing.{Phase, Selecting, Typed, Untyped, first_unmet, is_as_wide, is_constant_op, joins_any, unmet, unsized, unsuited}
-use Rattle.gi_soundness.proofs.Typed.{still_unmet}
+use Rattle.gi_change_valid.proofs.Typed.{still_unmet}
 use Rattle.gi_rule_values.specs.Data.{OperationData}
 use Rattle.gi_rule_values.specs.declared.rewrite.Slot.{Slot}
 use Rattle.gi_rule_values.specs.declared.rewrite.Slot.TheVariants.{At, Stands}

@@ -21,19 +21,18 @@ use Rattle.gi_valid.specs.Faults.{may_call}
 use Rattle.gi_valid.specs.Typing.{Phase, Typed, Selecting, Untyped, joins_any, mismatch, type_in, unsuited}
 use Rattle.gi_valid.specs.Valid.{IsValid}
 use Rattle.gi_valid.proofs.Single.{often, results_once}
-use Rattle.gi_soundness.specs.Conditions.{AccountsForResults, ArePlain, DefinesAnew, IsNew, KeepsTypes, MakesNoNewCall, ReadsOrigins, is_plain, is_replaced}
-use Rattle.gi_soundness.specs.Rewriting.{IsOneOf, IsRewritten, Rewriting}
-use Rattle.gi_soundness.specs.Rules.{HasHadAll, computes}
-use Rattle.gi_soundness.proofs.Circles.{IsKnown}
-use Rattle.gi_soundness.proofs.Computed.{any_one}
-use Rattle.gi_soundness.proofs.Found.{FromRoot}
-use Rattle.gi_soundness.proofs.KeptKinds.{kind_of_ids, root_kind}
-use Rattle.gi_soundness.proofs.Made.{all_of_ids, any_of_ids, never_calls, read_at, times_counted}
-use Rattle.gi_soundness.proofs.Placed.{found_by_id}
-use Rattle.gi_soundness.proofs.Rule.{one_passes, source_apart}
-use Rattle.gi_soundness.proofs.Scaled.{kind_new}
-use Rattle.gi_soundness.proofs.Typed.{in_list, kind_kept, no_kind_in, origin_used, other_alike}
-use Rattle.gi_soundness.proofs.Valid.{great_of, known_of, stays_valid}
+use Rattle.gi_change_valid.specs.Conditions.{AccountsForResults, ArePlain, DefinesAnew, IsNew, KeepsTypes, MakesNoNewCall, ReadsOrigins, is_plain, is_replaced}
+use Rattle.gi_change_valid.specs.Rewriting.{IsOneOf, IsRewritten, Rewriting}
+use Rattle.gi_change_valid.specs.Numbers.{HasHadAll, computes}
+use Rattle.gi_change_valid.proofs.Circles.{IsKnown}
+use Rattle.gi_change_valid.proofs.Computed.{any_one}
+use Rattle.gi_change_valid.proofs.Sources.{FromRoot, one_passes, source_apart}
+use Rattle.gi_change_valid.proofs.KeptKinds.{kind_of_ids, root_kind}
+use Rattle.gi_change_valid.proofs.Made.{all_of_ids, any_of_ids, never_calls, read_at, times_counted}
+use Rattle.gi_change_valid.proofs.Placed.{found_by_id}
+use Rattle.gi_change_valid.proofs.NewKinds.{kind_new}
+use Rattle.gi_change_valid.proofs.Typed.{in_list, kind_kept, no_kind_in, origin_used, other_alike}
+use Rattle.gi_change_valid.proofs.Valid.{great_of, known_of, stays_valid}
 use Rattle.gi_rule_values.specs.Data.{OperationData, RewriteData}
 use Rattle.gi_rule_valid.specs.Keeping.{all_types, are_met, gives_types, are_origins, are_placed, are_results, has_type, is_asked, is_taken, keeps, makes_no_new_call, may_become_call, places_from, places_taken}
 use Rattle.gi_rule_valid.specs.Using.{AreOfTypes, FitsAt, UseData, all_instrs_for, all_registers, instr_for, kind_in, made_of, next_for, operand_for, place_for, register_at, registers_for, rewritten_at, target_at, targets_of}

@@ -10,7 +10,7 @@ use Rattle.gi_mir.specs.Types.{same_type}
 use Rattle.gi_mir.specs.declared.operand.Kind.TheVariants.{Generic}
 use Rattle.gi_mir.specs.declared.operand.Operand.{Operand}
 use Rattle.gi_mir.specs.declared.operand.Operand.TheVariants as operand
-use Rattle.gi_soundness.specs.Rules.{computes, is_in}
+use Rattle.gi_change_valid.specs.Numbers.{computes, is_in}
 use Rattle.gi_valid.specs.Faults.{is_division, is_product}
 use Rattle.gi_valid.specs.Typing.{Phase, Untyped, joins_any, unsuited}
 use Rattle.gi_rule_values.specs.Data.{DefinitionData, OperationData, RewriteData}

@@ -6,7 +6,7 @@ ghost use Rattle.gi_mir.specs.Edit.{IsLive};
 ghost use Rattle.gi_mir.specs.Ids.{AreOwnIds};
 ghost use Rattle.gi_mir.specs.declared.opcode.Opcode.TheVariants as op;
 ghost use Rattle.gi_mir.specs.declared.operand.Flags.{Flags};
-ghost use Rattle.gi_soundness.specs.Rules.{HasHadAll};
+ghost use Rattle.gi_change_valid.specs.Numbers.{HasHadAll};
 ghost use Rattle.gi_valid.specs.Typing.{Phase, Selecting, Typed};
 ghost use Rattle.gi_valid.specs.Valid.{IsValid};
 ghost use Rattle.gi_rule_values.specs.Combining.{mul_to_shl, sub_to_add};

@@ -1,0 +1,10 @@
+pub mod Elsewhere
+pub mod Fresh
+pub mod InBlock
+pub mod Letters
+pub mod Loads
+pub mod Numbered
+pub mod Sized
+pub mod WidthsGiven
+pub mod WidthsKept
+pub mod WidthsValid

@@ -1,5 +1,0 @@
-use Rattle.gi_refining.proofs.WidthsKept.{widths_kept}
-use Rattle.gi_refining.proofs.laws.widely_tested_values_fit.Goals as goal
-
-pub returns : goal.returns
-returns c = widths_kept

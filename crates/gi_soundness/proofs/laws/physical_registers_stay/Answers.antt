@@ -1,5 +1,0 @@
-use Rattle.gi_soundness.proofs.Accounted.{no_call_across}
-use Rattle.gi_soundness.proofs.laws.physical_registers_stay.Goals as goal
-
-pub returns : goal.returns
-returns c = no_call_across

@@ -1,5 +1,0 @@
-use Rattle.gi_soundness.proofs.Faultless.{terminators_still_last}
-use Rattle.gi_soundness.proofs.laws.terminators_stay_last.Goals as goal
-
-pub returns : goal.returns
-returns c = terminators_still_last

@@ -1,5 +1,0 @@
-use Rattle.gi_soundness.proofs.Accounted.{types_met}
-use Rattle.gi_soundness.proofs.laws.types_stay_met.Goals as goal
-
-pub returns : goal.returns
-returns c = types_met

@@ -1,5 +1,0 @@
-use Rattle.gi_soundness.proofs.Valid.{stays_valid}
-use Rattle.gi_soundness.proofs.laws.valid_function_stays_valid.Goals as goal
-
-pub returns : goal.returns
-returns c = stays_valid

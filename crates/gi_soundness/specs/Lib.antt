@@ -1,3 +1,0 @@
-pub mod Conditions
-pub mod Rewriting
-pub mod Rules
