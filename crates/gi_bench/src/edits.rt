@@ -1,6 +1,9 @@
-//! Edits of one long block, to be timed: a rule that is applied at each instruction, and a register that is replaced.
+//! Edits of one long block, to be timed: a row that is applied at each instruction, and a register that is replaced.
 
-use gi_llt::{Llt, Target};
+ghost use Rattle.std.specs.Prelude.{◌≡◌, true, IfOk};
+ghost use Rattle.gi_mir.specs.Formed.{is_formed};
+
+use gi_llt::Llt;
 use gi_mir::block::{Block, InstrId};
 use gi_mir::formed::formed;
 use gi_mir::function::Function;
@@ -8,17 +11,29 @@ use gi_mir::instr::Instr;
 use gi_mir::opcode::Opcode;
 use gi_mir::operand::{Flags, Kind, Operand, Reg};
 use gi_observe::{Editor, Pass, Silent};
-use gi_pattern::examples::difference_of_same;
-use gi_pattern::{Rule, apply, can_apply, test};
+use gi_replace::replace_root;
 use smallvec::SmallVec;
 use std::alloc::{AllocError, Global};
+use std::collections::VecDeque;
 
 const S32: Kind = Kind::Generic(Llt::Scalar(32));
 
-const RV32: Target = Target {
-    xlen: 32,
-    zbb: false,
-};
+/// An instruction that may stand in a function.
+fn instruction(alloc: Global, op: Opcode, operands: &[Operand]) -> Result<Instr, AllocError>
+    ensures { IfOk result (λ instr. is_formed instr ≡ true) }
+{
+    let instr = Instr {
+        op,
+        flags: Flags::default(),
+        operands: SmallVec::from_slice(alloc, operands).map_err(|_| AllocError)?,
+        mem: None,
+        line: 1,
+    };
+    if !formed(&instr) {
+        return Err(AllocError);
+    }
+    Ok(instr)
+}
 
 /// Puts an instruction at the end of the first block.
 fn append(
@@ -27,14 +42,8 @@ fn append(
     op: Opcode,
     operands: &[Operand],
 ) -> Result<(), AllocError> {
-    let instr = Instr {
-        op,
-        flags: Flags::default(),
-        operands: SmallVec::from_slice(alloc, operands).map_err(|_| AllocError)?,
-        mem: None,
-        line: 1,
-    };
-    if function.block_count() == 0 || !formed(&instr) {
+    let instr = instruction(alloc, op, operands)?;
+    if function.block_count() == 0 {
         return Err(AllocError);
     }
     match function.insert_before(0, None, instr) {
@@ -78,33 +87,47 @@ fn differences(alloc: Global, count: u32, sources: Sources) -> Result<Function, 
     Ok(function)
 }
 
-/// Applies a rule at an instruction, where it fits, and tells whether it does.
-fn rewrite(rule: &Rule, function: &mut Function, root: InstrId) -> Result<bool, AllocError> {
+/// The register of a difference of a register and itself.
+fn zero_register(instr: &Instr) -> Option<Reg> {
+    if instr.op != Opcode::GenericSubtract {
+        return None;
+    }
+    match instr.operands.as_slice() {
+        [
+            Operand::Def(reg, _),
+            Operand::Use(first),
+            Operand::Use(second),
+        ] if first.0 == second.0 => Some(*reg),
+        _ => None,
+    }
+}
+
+/// Puts 0 in the place of an instruction, where that is a difference of a register and itself, and tells whether it is.
+fn rewrite(alloc: Global, function: &mut Function, root: InstrId) -> Result<bool, AllocError> {
     if !function.is_live(root) {
         return Ok(false);
     }
-    let Some(binding) = test(rule, function, root, RV32) else {
+    let Some(reg) = zero_register(function.instr(root)) else {
         return Ok(false);
     };
-    match can_apply(rule, &binding, function) {
-        Ok(true) => {}
-        _ => return Ok(false),
-    }
+    let operands = [Operand::Def(reg, S32), Operand::Constant(32, 0)];
+    let zero = instruction(alloc, Opcode::GenericConstant, &operands)?;
+    let mut made = VecDeque::new(alloc);
+    made.push_back(zero).map_err(|_| AllocError)?;
     let mut silent = Silent;
     let mut edit = Editor::new(function, Pass::PreCombiner, &mut silent);
-    match apply(rule, &binding, root, &mut edit, RV32) {
+    match replace_root(&mut edit, root, &mut made) {
         Ok(()) => Ok(true),
         Err(_) => Err(AllocError),
     }
 }
 
-/// Applies a rule at each of so many instructions of one block, and tells at how many it fits.
+/// Rewrites at each of so many instructions of one block, and tells at how many the row fits.
 pub fn rewritten(alloc: Global, count: u32, sources: Sources) -> Result<String, AllocError> {
     let mut function = differences(alloc, count, sources)?;
-    let rule = difference_of_same(alloc).map_err(|_| AllocError)?;
     let mut done = 0u64;
     for last in 0..count {
-        if rewrite(&rule, &mut function, InstrId(last as usize + 1))? {
+        if rewrite(alloc, &mut function, InstrId(last as usize + 1))? {
             done = done.saturating_add(1);
         }
     }

@@ -12,7 +12,7 @@ use Rattle.gi_mir.specs.Row.{is_call_op}
 use Rattle.gi_mir.specs.declared.operand.Operand.{Operand}
 use Rattle.gi_mir.specs.declared.operand.Operand.TheVariants as operand
 use Rattle.gi_meaning.specs.Runs.{is_among}
-use Rattle.gi_pattern.specs.InPlace.{operand_renamed, entry_renamed}
+use Rattle.gi_replace.specs.InPlace.{operand_renamed, entry_renamed}
 use Rattle.gi_valid.specs.Available.{is_physical_at_start, is_physical_there}
 use Rattle.gi_valid.specs.Definitions.{is_physical_def_of, is_physical_use_of, defines_physical, reads_physical}
 use Rattle.gi_valid.specs.Faults.{sites, told, is_division, is_product, is_wider, is_used_first, goes_across, may_call, physical_across}

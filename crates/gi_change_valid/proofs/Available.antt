@@ -7,7 +7,7 @@ use Rattle.gi_mir.specs.Data.{InstrData, BlockData, FunctionData}
 use Rattle.gi_mir.specs.Edit.{all_instrs, defines}
 use Rattle.gi_mir.specs.Places.{body_at}
 use Rattle.gi_meaning.specs.Runs.{is_phi, is_among}
-use Rattle.gi_pattern.specs.InPlace.{entry_renamed}
+use Rattle.gi_replace.specs.InPlace.{entry_renamed}
 use Rattle.gi_valid.specs.Available.{IsReachedIn, Extent, defines_origin, one_by_one, behind, at_end, IsDefinedInReach, IsExtent}
 use Rattle.gi_valid.specs.Definitions.{IsComputedFrom}
 use Rattle.gi_change_valid.specs.Conditions.{is_plain}

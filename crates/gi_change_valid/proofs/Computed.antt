@@ -8,7 +8,7 @@ use Rattle.gi_mir.specs.Formed.{is_def, is_physical, is_physical_def, is_implici
 use Rattle.gi_mir.specs.Row.{access_of, is_call_op, is_phi_op}
 use Rattle.gi_mir.specs.declared.operand.Operand.{Operand}
 use Rattle.gi_mir.specs.declared.operand.Operand.TheVariants as operand
-use Rattle.gi_pattern.specs.InPlace.{operand_renamed, entry_renamed}
+use Rattle.gi_replace.specs.InPlace.{operand_renamed, entry_renamed}
 use Rattle.gi_valid.specs.Available.{Extent}
 use Rattle.gi_valid.specs.Definitions.{is_load, is_copy, is_pure, definition, uses_purely, IsComputedOver, IsComputedFrom}
 use Rattle.gi_change_valid.specs.Conditions.{is_replaced, IsOrigin}

@@ -8,7 +8,7 @@ use Rattle.gi_mir.specs.Row.{is_terminator_op, is_unconditional_op, is_branch_op
 use Rattle.gi_mir.specs.declared.entry.Role.{Role}
 use Rattle.gi_mir.specs.declared.entry.Role.TheVariants as role
 use Rattle.gi_meaning.specs.Runs.{is_phi, is_among}
-use Rattle.gi_pattern.specs.InPlace.{entry_renamed}
+use Rattle.gi_replace.specs.InPlace.{entry_renamed}
 use Rattle.gi_valid.specs.Available.{successors_of, predecessors}
 use Rattle.gi_valid.specs.Faults.{with_fault, Site, sites, told, blocks_in, unknown_among, unknown_block, last_line, unknown_successors, are_entries, stands_first, phi_entries, is_late, has_late, is_first_late, is_astray, terminator}
 use Rattle.gi_valid.specs.declared.invalid.Invalid.TheVariants.{UnknownBlock, PhiEntries, Terminator}

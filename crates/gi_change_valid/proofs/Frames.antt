@@ -9,7 +9,7 @@ use Rattle.gi_mir.specs.Row.{is_terminator_op}
 use Rattle.gi_mir.specs.declared.operand.Operand.{Operand}
 use Rattle.gi_mir.specs.declared.operand.Operand.TheVariants as operand
 use Rattle.gi_meaning.specs.Runs.{is_phi, is_among}
-use Rattle.gi_pattern.specs.InPlace.{entry_renamed}
+use Rattle.gi_replace.specs.InPlace.{entry_renamed}
 use Rattle.gi_valid.specs.Available.{successors_of, naming, predecessors}
 use Rattle.gi_valid.specs.Faults.{blocks_in}
 use Rattle.gi_change_valid.specs.Conditions.{is_plain_operand, is_plain, ArePlain}

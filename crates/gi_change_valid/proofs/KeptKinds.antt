@@ -8,7 +8,7 @@ use Rattle.gi_mir.specs.declared.operand.Kind.{Kind}
 use Rattle.gi_mir.specs.declared.operand.Kind.TheVariants.{Class}
 use Rattle.gi_mir.specs.declared.operand.Operand.{Operand}
 use Rattle.gi_mir.specs.declared.operand.Operand.TheVariants as operand
-use Rattle.gi_pattern.specs.InPlace.{with_ids}
+use Rattle.gi_replace.specs.InPlace.{with_ids}
 use Rattle.gi_valid.specs.Faults.{definitions, times}
 use Rattle.gi_valid.proofs.Single.{one_definition}
 use Rattle.gi_change_valid.specs.Rewriting.{IsOneOf}

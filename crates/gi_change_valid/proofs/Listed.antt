@@ -6,7 +6,7 @@ use Rattle.gi_mir.specs.Data.{InstrData, BlockData, FunctionData}
 use Rattle.gi_mir.specs.Edit.{all_instrs, defines, is_def_of}
 use Rattle.gi_mir.specs.declared.operand.Operand.{Operand}
 use Rattle.gi_mir.specs.declared.operand.Operand.TheVariants as operand
-use Rattle.gi_pattern.specs.InPlace.{operand_renamed, entry_renamed}
+use Rattle.gi_replace.specs.InPlace.{operand_renamed, entry_renamed}
 use Rattle.gi_valid.specs.Definitions.{is_physical_def_of, is_physical_use_of, defines_physical, reads_physical}
 use Rattle.gi_valid.specs.Faults.{blocks_in}
 use Rattle.gi_meaning.specs.InRow.{results_in}

@@ -5,7 +5,7 @@ use Rattle.std.proofs.lemmas.List.Folds.{list_any-append}
 use Rattle.std.specs.List.{list_any, list_all}
 use Rattle.gi_mir.specs.Data.{InstrData, FunctionData}
 use Rattle.gi_mir.specs.Edit.{defines, is_def_of, is_use_of, uses}
-use Rattle.gi_pattern.specs.InPlace.{with_ids}
+use Rattle.gi_replace.specs.InPlace.{with_ids}
 use Rattle.gi_valid.specs.Faults.{definitions, may_call, times}
 use Rattle.gi_meaning.specs.InRow.{results_in}
 use Rattle.gi_valid.specs.Typing.{Phase}

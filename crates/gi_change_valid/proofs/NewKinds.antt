@@ -6,7 +6,7 @@ use Rattle.gi_mir.specs.Edit.{all_instrs}
 use Rattle.gi_mir.specs.Registers.{first_there, kind_in_operands, kind_in_instrs, kind_of}
 use Rattle.gi_mir.specs.declared.operand.Kind.{Kind}
 use Rattle.gi_mir.specs.declared.operand.Kind.TheVariants.{Class}
-use Rattle.gi_pattern.specs.InPlace.{entry_renamed}
+use Rattle.gi_replace.specs.InPlace.{entry_renamed}
 use Rattle.gi_change_valid.specs.Rewriting.{Rewriting, IsOneOf, IsRewritten, rewritten, standing_for}
 use Rattle.gi_change_valid.proofs.Listed.{instrs_after}
 use Rattle.gi_change_valid.proofs.Typed.{kind_append, kind_in_all, kind_left}

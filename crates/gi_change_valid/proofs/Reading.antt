@@ -8,7 +8,7 @@ use Rattle.gi_mir.specs.Edit.{all_instrs, is_use_of, defines, uses}
 use Rattle.gi_mir.specs.declared.operand.Operand.{Operand}
 use Rattle.gi_mir.specs.declared.operand.Operand.TheVariants as operand
 use Rattle.gi_meaning.specs.Runs.{is_phi, entry_of}
-use Rattle.gi_pattern.specs.InPlace.{operand_renamed, entry_renamed}
+use Rattle.gi_replace.specs.InPlace.{operand_renamed, entry_renamed}
 use Rattle.gi_valid.specs.Available.{Extent, one_by_one, at_end, is_physical_at_start, is_physical_there}
 use Rattle.gi_valid.specs.Definitions.{IsComputedFrom}
 use Rattle.gi_valid.specs.Faults.{Site, sites, told, is_there, missing_entry, missing_entries, missing_use, not_available}

@@ -8,7 +8,7 @@ use Rattle.gi_mir.specs.Edit.{all_instrs, is_def_of, defines}
 use Rattle.gi_mir.specs.Ids.{uses_among}
 use Rattle.gi_mir.specs.declared.operand.Operand.{Operand}
 use Rattle.gi_mir.specs.declared.operand.Operand.TheVariants as operand
-use Rattle.gi_pattern.specs.InPlace.{entry_renamed}
+use Rattle.gi_replace.specs.InPlace.{entry_renamed}
 use Rattle.gi_valid.specs.Faults.{fault_at, definitions, times, seconds, double_definitions}
 use Rattle.gi_meaning.specs.InRow.{results_in}
 use Rattle.gi_valid.specs.declared.invalid.Invalid.TheVariants.{DoubleDefinition}

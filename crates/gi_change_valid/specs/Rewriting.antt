@@ -3,7 +3,7 @@ use Rattle.std.specs.Prelude.{◌≡◌, ◌⊎◌, ℕ, true, List, [], ◌∷�
 use Rattle.gi_mir.specs.Data.{InstrData, BlockData, FunctionData}
 use Rattle.gi_mir.specs.Ids.{uses_among}
 use Rattle.gi_mir.specs.Edit.{all_instrs}
-use Rattle.gi_pattern.specs.InPlace.{entry_renamed}
+use Rattle.gi_replace.specs.InPlace.{entry_renamed}
 
 -- the root, with its id; the register that stands for each in uses; and what is made in the root's place
 pub record Rewriting : Type 0 where

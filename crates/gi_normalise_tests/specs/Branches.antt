@@ -8,7 +8,7 @@ use Rattle.gi_mir.specs.declared.opcode.Opcode.{Opcode}
 use Rattle.gi_mir.specs.declared.opcode.Opcode.TheVariants.{GenericBranch, PseudoBranch}
 use Rattle.gi_mir.specs.declared.operand.Operand.{Operand}
 use Rattle.gi_mir.specs.declared.operand.Operand.TheVariants.{Block}
-use Rattle.gi_pattern.specs.Applying.{line_of, root_replaced}
+use Rattle.gi_replace.specs.Applying.{line_of, root_replaced}
 use Rattle.gi_normalise.specs.NormalForms.{Row}
 use Rattle.gi_normalise.specs.Weights.{total_weight}
 

@@ -8,10 +8,10 @@ use Rattle.gi_mir.specs.Edit.{IsLive, block_at, empty_block, home_block, home_of
 use Rattle.gi_mir.specs.Ids.{AreOwnIds}
 use Rattle.gi_mir.specs.declared.block.InstrId.{InstrId}
 use Rattle.gi_mir.proofs.IdsLemmas.{AreOwnIds-inserted, AreOwnIds-removed}
-use Rattle.gi_pattern.specs.Applying.{line_of, next_to, root_replaced}
-use Rattle.gi_pattern.specs.InPlace.{with_ids}
-use Rattle.gi_pattern.proofs.InPlace.{blocks-replaced, remove-parts}
-use Rattle.gi_pattern.proofs.Standing.{home-within}
+use Rattle.gi_replace.specs.Applying.{line_of, next_to, root_replaced}
+use Rattle.gi_replace.specs.InPlace.{with_ids}
+use Rattle.gi_replace.proofs.InPlace.{blocks-replaced, remove-parts}
+use Rattle.gi_replace.proofs.Standing.{home-within}
 use Rattle.gi_normalise.specs.NormalForms.{first_fit}
 use Rattle.gi_normalise.specs.Tables.{IsInPlace, IsLocal, IsSound}
 use Rattle.gi_normalise.specs.Weights.{list_weight}

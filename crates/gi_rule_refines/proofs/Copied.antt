@@ -9,7 +9,7 @@ use Rattle.gi_mir.specs.Ids.{AreOwnIds}
 use Rattle.gi_mir.specs.Registers.{first_there, kind_in_operands, kind_of, type_of_kind}
 use Rattle.gi_mir.specs.Uses.{block_replaced, entry_replaced, with_reg_replaced}
 use Rattle.gi_mir.specs.declared.operand.Kind.{Kind}
-use Rattle.gi_pattern.specs.InPlace.{entry_renamed}
+use Rattle.gi_replace.specs.InPlace.{entry_renamed}
 use Rattle.gi_valid.specs.Definitions.{IsComputedFrom, definition, uses_purely}
 use Rattle.gi_valid.specs.Faults.{may_call}
 use Rattle.gi_valid.specs.Typing.{Phase, joins_any, mismatch, type_in, unsuited}

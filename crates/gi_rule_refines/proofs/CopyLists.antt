@@ -11,7 +11,7 @@ use Rattle.gi_mir.specs.declared.operand.Operand.{Operand}
 use Rattle.gi_mir.specs.declared.operand.Operand.TheVariants as operand
 use Rattle.gi_mir.proofs.Replacing.{all_instrs-replaced}
 use Rattle.gi_meaning.specs.InRow.{results_in, sources_in}
-use Rattle.gi_pattern.specs.InPlace.{entry_renamed, operand_renamed}
+use Rattle.gi_replace.specs.InPlace.{entry_renamed, operand_renamed}
 use Rattle.gi_refine.specs.Kept.{reused_operand}
 use Rattle.gi_change_valid.proofs.Placed.{uses_first, uses_in_all}
 

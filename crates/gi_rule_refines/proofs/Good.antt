@@ -10,7 +10,7 @@ use Rattle.gi_mir.specs.declared.operand.Operand.TheVariants as operand
 use Rattle.gi_meaning.specs.Meaning.{meaning_of}
 use Rattle.gi_meaning.specs.Runs.{Setting, setting_of, width_of_kind}
 use Rattle.gi_refine.specs.RuleUse.{width_in}
-use Rattle.gi_pattern.specs.InPlace.{entry_renamed, with_ids}
+use Rattle.gi_replace.specs.InPlace.{entry_renamed, with_ids}
 use Rattle.gi_change_valid.specs.Rewriting.{IsOneOf, IsRewritten, Rewriting, rewritten}
 use Rattle.gi_change_valid.specs.Numbers.{HasHadAll}
 use Rattle.gi_change_valid.proofs.Computed.{any_one}
@@ -19,7 +19,7 @@ use Rattle.gi_change_valid.proofs.Made.{all_of_ids}
 use Rattle.gi_valid.specs.Typing.{Phase}
 use Rattle.gi_change_refines.specs.Widths.{keeps_values, values_keep}
 use Rattle.gi_rule_valid.specs.Keeping.{gives_types}
-use Rattle.gi_pattern.specs.Applying.{line_of}
+use Rattle.gi_replace.specs.Applying.{line_of}
 use Rattle.gi_rule_valid.specs.Using.{UseData, kind_in, made_of, rewritten_at, targets_of}
 use Rattle.gi_rule_valid.proofs.InPlace.{entry_stays, is_replaced_by}
 use Rattle.gi_rule_valid.proofs.Valid.{IsUse, root_of, rewriting_at, seen, stays_valid_at}

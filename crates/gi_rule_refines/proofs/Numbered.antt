@@ -12,8 +12,8 @@ use Rattle.gi_mir.specs.Data.{InstrData, FunctionData}
 use Rattle.gi_mir.specs.Edit.{IsLive, above_registers, block_at, block_with_instr, empty_block, home_block, home_of, is_def_of, is_use_of, place_in_block, place_of, register_above, with_instr, without_instr}
 use Rattle.gi_mir.specs.Ids.{AreOwnIds}
 use Rattle.gi_mir.proofs.IdsLemmas.{AreOwnIds-inserted, AreOwnIds-removed}
-use Rattle.gi_pattern.specs.Applying.{all_created, next_to, root_replaced}
-use Rattle.gi_pattern.proofs.Standing.{home-within}
+use Rattle.gi_replace.specs.Applying.{all_created, next_to, root_replaced}
+use Rattle.gi_replace.proofs.Standing.{home-within}
 
 -- ══ Ids ══
 

@@ -27,9 +27,9 @@ use Rattle.gi_refine.proofs.Covering.{covered_by}
 use Rattle.gi_refine.proofs.Fitted.{fit_sized}
 use Rattle.gi_refine.proofs.RulesUsed.{use_followed}
 use Rattle.gi_refine.proofs.Staying.{replacement_refines}
-use Rattle.gi_pattern.specs.Applying.{line_of}
-use Rattle.gi_pattern.specs.InPlace.{with_ids}
-use Rattle.gi_pattern.proofs.InPlace.{blocks-replaced}
+use Rattle.gi_replace.specs.Applying.{line_of}
+use Rattle.gi_replace.specs.InPlace.{with_ids}
+use Rattle.gi_replace.proofs.InPlace.{blocks-replaced}
 use Rattle.gi_change_refines.specs.InBlock.{back_of, front_of}
 use Rattle.gi_change_refines.proofs.InBlock.{entry-of, get-within, split-at, root_splits, root_there}
 use Rattle.gi_valid.specs.Typing.{Phase}

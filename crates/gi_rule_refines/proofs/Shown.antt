@@ -16,15 +16,14 @@ use Rattle.gi_meaning.specs.State.{World}
 use Rattle.gi_refine.specs.Agreement.{setting}
 use Rattle.gi_refine.specs.Lifting.{AllShow, Shows, ShowsOperands, ShowsSlot, ShowsSlots, grown}
 use Rattle.gi_refine.specs.Values.{Slot as Place, Fixed, are_pure, is_pure}
-use Rattle.gi_pattern.specs.InPlace.{with_ids}
-use Rattle.gi_pattern.specs.Making.{kind_with}
+use Rattle.gi_replace.specs.InPlace.{with_ids}
 use Rattle.gi_valid.specs.Facts.{is_computing}
 use Rattle.gi_rule_values.specs.Data.{OperationData}
 use Rattle.gi_rule_values.specs.OnValues.{operation_on_values, slot_on_values}
 use Rattle.gi_rule_values.specs.declared.rewrite.Slot.{Slot}
 use Rattle.gi_rule_values.specs.declared.rewrite.Slot.TheVariants.{At, Stands}
 use Rattle.gi_rule_valid.specs.Keeping.{are_placed, is_fixed, is_taken}
-use Rattle.gi_rule_valid.specs.Using.{all_instrs_for, all_registers, defined_as, instr_for, next_for, operand_for, place_for, register_at, registers_for}
+use Rattle.gi_rule_valid.specs.Using.{all_instrs_for, all_registers, defined_as, instr_for, kind_with, next_for, operand_for, place_for, register_at, registers_for}
 use Rattle.gi_rule_valid.proofs.Lists.{as_many, flat, flat_types, placed_one}
 use Rattle.gi_rule_valid.proofs.Origins.{grown_is, length_of, place_is}
 use Rattle.gi_rule_refines.specs.Computing.{gives}

@@ -17,8 +17,7 @@ use Rattle.gi_meaning.specs.InRow.{results_in, sources_in}
 use Rattle.gi_refine.specs.Lifting.{grown}
 use Rattle.gi_refine.specs.Refinement.{RefinesUnchecked}
 use Rattle.gi_refine.proofs.Refining.{refines_itself, refines_through}
-use Rattle.gi_pattern.specs.Applying.{all_created, line_of}
-use Rattle.gi_pattern.specs.Making.{kind_with}
+use Rattle.gi_replace.specs.Applying.{all_created, line_of}
 use Rattle.gi_rules.specs.Fitting.{is_defined_in}
 use Rattle.gi_change_valid.specs.Rewriting.{IsOneOf, IsRewritten}
 use Rattle.gi_change_valid.proofs.Computed.{any_one}
@@ -29,7 +28,7 @@ use Rattle.gi_rule_values.specs.Data.{OperationData}
 use Rattle.gi_rule_values.specs.declared.rewrite.Slot.{Slot}
 use Rattle.gi_rule_values.specs.declared.rewrite.Slot.TheVariants.{At, Stands}
 use Rattle.gi_rule_valid.specs.Keeping.{are_placed, gives_types, is_fixed, is_taken, on_each, on_places}
-use Rattle.gi_rule_valid.specs.Using.{UseData, all_instrs_for, defined_as, instr_for, kind_in, made_of, next_for, operand_for, place_for, registers_for, rewritten_at, targets_of}
+use Rattle.gi_rule_valid.specs.Using.{UseData, all_instrs_for, defined_as, instr_for, kind_in, kind_with, made_of, next_for, operand_for, place_for, registers_for, rewritten_at, targets_of}
 use Rattle.gi_rule_valid.proofs.InPlace.{entry_stays, is_replaced_by}
 use Rattle.gi_rule_valid.proofs.Lists.{placed_one}
 use Rattle.gi_rule_valid.proofs.Typed.{AreAlike, all_alike}

@@ -17,11 +17,7 @@ pub type Row<'r> = (Opcode, &'r [Operand]);
 
 pub fn needs<T: Send + Sync>() {}
 
-pub const S4: Kind = Kind::Generic(Llt::Scalar(4));
-
 pub const S8: Kind = Kind::Generic(Llt::Scalar(8));
-
-pub const S16: Kind = Kind::Generic(Llt::Scalar(16));
 
 pub const S32: Kind = Kind::Generic(Llt::Scalar(32));
 

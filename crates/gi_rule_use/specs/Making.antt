@@ -8,7 +8,7 @@ use Rattle.gi_mir.specs.declared.operand.Kind.TheVariants.{Generic}
 use Rattle.gi_mir.specs.declared.operand.Reg.{Reg}
 use Rattle.gi_observe.specs.declared.change.Change.{Change}
 use Rattle.gi_observe.specs.declared.pass.Pass.{Pass}
-use Rattle.gi_pattern.specs.Applying.{root_told}
+use Rattle.gi_replace.specs.Applying.{root_told}
 use Rattle.gi_rule_values.specs.Data.{OperationData, RewriteData}
 use Rattle.gi_rule_valid.specs.Using.{UseData, instr_for, made_of, next_behind, place_for, target_at, targets_of}
 

@@ -3,10 +3,9 @@
 ghost use Rattle.std.specs.Prelude.{◌≡◌, ◌<◌, ◌≤◌, ◌+◌, ◌-◌, ◌^◌, [], ◌∷◌, ◌++◌, IsTrue, IfOk, OnOk, length, map, option_map, true, zip};
 ghost use Rattle.gi_mir.specs.Edit.{IsLive};
 ghost use Rattle.gi_observe.specs.Replay.{IsReplay};
-ghost use Rattle.gi_pattern.specs.Making.{kind_with};
 ghost use Rattle.gi_refine.specs.Lifting.{grown};
 ghost use Rattle.gi_rule_use.specs.Making.{makes_formed, new_among, new_count, new_in, numbers_of, rewriting_told};
-ghost use Rattle.gi_rule_valid.specs.Using.{all_instrs_for, defined_as, instr_for, made_of, next_behind, next_for, operand_for, or_new, place_for, register_at, registers_for, rewritten_at, target_at};
+ghost use Rattle.gi_rule_valid.specs.Using.{all_instrs_for, defined_as, instr_for, kind_with, made_of, next_behind, next_for, operand_for, or_new, place_for, register_at, registers_for, rewritten_at, target_at};
 
 use crate::using::Use;
 use gi_llt::{Llt, Memory};
@@ -15,7 +14,7 @@ use gi_mir::function::Function;
 use gi_mir::instr::Instr;
 use gi_mir::operand::{Kind, Operand, Reg};
 use gi_observe::{ChangeObserver, Editor};
-use gi_pattern::replace_root;
+use gi_replace::replace_root;
 use gi_rule_values::{Operation, Slot};
 use smallvec::SmallVec;
 use std::alloc::Global;

@@ -7,9 +7,9 @@ use Rattle.gi_mir.specs.Edit.{IsLive, all_instrs, empty_block, has_instr, instr_
 use Rattle.gi_mir.specs.Ids.{AreOwnIds, uses_among}
 use Rattle.gi_mir.specs.declared.operand.Operand.{Operand}
 use Rattle.gi_mir.specs.declared.operand.Operand.TheVariants as operand
-use Rattle.gi_pattern.specs.Applying.{root_replaced}
-use Rattle.gi_pattern.specs.InPlace.{block_with, entry_renamed, operand_renamed, with_ids}
-use Rattle.gi_pattern.proofs.InPlace.{blocks-replaced}
+use Rattle.gi_replace.specs.Applying.{root_replaced}
+use Rattle.gi_replace.specs.InPlace.{block_with, entry_renamed, operand_renamed, with_ids}
+use Rattle.gi_replace.proofs.InPlace.{blocks-replaced}
 use Rattle.gi_change_valid.specs.Rewriting.{Rewriting, IsRewritten, block_rewritten, IsOneOf, rewritten}
 use Rattle.gi_change_valid.proofs.Placed.{counted, found_by_id, one_with, uses_both, uses_first, uses_in_all}
 

@@ -14,8 +14,7 @@ use Rattle.gi_mir.specs.Types.{same_type}
 use Rattle.gi_mir.specs.declared.operand.Kind.{Kind}
 use Rattle.gi_meaning.specs.InRow.{results_in}
 use Rattle.gi_refine.specs.Lifting.{grown}
-use Rattle.gi_pattern.specs.Applying.{line_of}
-use Rattle.gi_pattern.specs.Making.{kind_with}
+use Rattle.gi_replace.specs.Applying.{line_of}
 use Rattle.gi_valid.specs.Definitions.{is_pure}
 use Rattle.gi_valid.specs.Faults.{may_call}
 use Rattle.gi_valid.specs.Typing.{Phase, Typed, Selecting, Untyped, joins_any, mismatch, type_in, unsuited}
@@ -35,7 +34,7 @@ use Rattle.gi_change_valid.proofs.Typed.{in_list, kind_kept, no_kind_in, origin_
 use Rattle.gi_change_valid.proofs.Valid.{great_of, known_of, stays_valid}
 use Rattle.gi_rule_values.specs.Data.{OperationData, RewriteData}
 use Rattle.gi_rule_valid.specs.Keeping.{all_types, are_met, gives_types, are_origins, are_placed, are_results, has_type, is_asked, is_taken, keeps, makes_no_new_call, may_become_call, places_from, places_taken}
-use Rattle.gi_rule_valid.specs.Using.{AreOfTypes, FitsAt, UseData, all_instrs_for, all_registers, instr_for, kind_in, made_of, next_for, operand_for, place_for, register_at, registers_for, rewritten_at, target_at, targets_of}
+use Rattle.gi_rule_valid.specs.Using.{AreOfTypes, FitsAt, UseData, all_instrs_for, all_registers, instr_for, kind_in, kind_with, made_of, next_for, operand_for, place_for, register_at, registers_for, rewritten_at, target_at, targets_of}
 use Rattle.gi_rule_valid.proofs.Calls.{call_is, none_called}
 use Rattle.gi_rule_valid.proofs.InPlace.{is_replaced_by, replacing}
 use Rattle.gi_rule_valid.proofs.Lists.{IsListed, all_listed, among, as_many, defines_are, flat, flat_registers, flat_types, kind_at, kinds_are, placed_one, results_are, slots_none}

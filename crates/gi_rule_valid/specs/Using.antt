@@ -1,15 +1,15 @@
 -- A rewrite at an instruction of a function: where it fits, and what the function is after it.
-use Rattle.std.specs.Prelude.{◌≡◌, ℕ, ◌+◌, List, [], ◌∷◌, ◌++◌, Option, Some, None, length, map, slice_get, ◌==◌, if◌then◌else◌, zip}
+use Rattle.std.specs.Prelude.{◌≡◌, ℕ, ◌+◌, Bool, List, [], ◌∷◌, ◌++◌, Option, Some, None, length, map, slice_get, ◌==◌, if◌then◌else◌, zip}
 use Rattle.std.specs.Option.{option_map_or}
 use Rattle.gi_llt.specs.declared.Llt.{Llt}
 use Rattle.gi_mir.specs.Data.{InstrData, FunctionData, reg_of}
 use Rattle.gi_mir.specs.Edit.{instr_of}
 use Rattle.gi_mir.specs.Registers.{kind_of}
 use Rattle.gi_mir.specs.declared.operand.Kind.{Kind}
+use Rattle.gi_mir.specs.declared.operand.Kind.TheVariants.{Banked, Generic}
 use Rattle.gi_mir.specs.declared.operand.Operand.{Operand}
 use Rattle.gi_mir.specs.declared.operand.Operand.TheVariants as operand
-use Rattle.gi_pattern.specs.Applying.{line_of, root_replaced}
-use Rattle.gi_pattern.specs.Making.{kind_with}
+use Rattle.gi_replace.specs.Applying.{line_of, root_replaced}
 use Rattle.gi_refine.specs.Lifting.{grown}
 use Rattle.gi_valid.specs.Definitions.{definition}
 use Rattle.gi_rule_values.specs.Data.{DefinitionData, OperationData, RewriteData}
@@ -25,6 +25,10 @@ pub record UseData : Type 0 where
   pub results : List ℕ
 
 -- ══ An operation on registers ══
+
+-- a register of this type, in the bank where the function's registers are in banks
+abbrev pub kind_with : Bool → Llt → Kind
+kind_with banked ty = if banked then Banked ty else Generic ty
 
 -- the register at a place, and 0 where there is none
 abbrev pub register_at : (registers : List ℕ) → (place : ℕ) → ℕ

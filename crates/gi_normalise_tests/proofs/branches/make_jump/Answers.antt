@@ -2,8 +2,8 @@ use Rattle.std.proofs.Common.{◌∙◌, ap}
 use Rattle.gi_mir.specs.Formed.{is_formed}
 use Rattle.gi_mir.specs.Data.{InstrData}
 use Rattle.gi_observe.specs.declared.change.ChangeKind.TheVariants.{Created, Erased}
-use Rattle.gi_pattern.proofs.Standing.{instr-live}
-use Rattle.gi_pattern.proofs.Told.{next-named, stands-behind}
+use Rattle.gi_replace.proofs.Standing.{instr-live}
+use Rattle.gi_replace.proofs.Told.{next-named, stands-behind}
 use Rattle.gi_normalise.proofs.Going.{tells-both, tells-one, tells-same}
 use Rattle.gi_normalise_tests.proofs.Jumps.{jump-formed}
 use Rattle.gi_normalise_tests.proofs.branches.make_jump.Goals as goal

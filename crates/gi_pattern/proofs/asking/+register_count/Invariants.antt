@@ -1,5 +1,0 @@
-use Rattle.std.proofs.Common.{length}
-use Rattle.gi_pattern.proofs.asking.+register_count.Given as goal
-
-abbrev pub decreases-register_count : goal.decreases-register_count
-decreases-register_count l = length l.slots.now

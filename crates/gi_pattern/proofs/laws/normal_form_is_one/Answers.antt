@@ -1,5 +1,0 @@
-use Rattle.gi_pattern.proofs.NormalForms.{normal_form-one}
-use Rattle.gi_pattern.proofs.laws.normal_form_is_one.Goals as goal
-
-pub returns : goal.returns
-returns c = normal_form-one
