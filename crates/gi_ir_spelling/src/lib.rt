@@ -1,0 +1,4 @@
+//! What LLVM IR in text is.
+#![tactic(auto)]
+
+pub mod laws;
