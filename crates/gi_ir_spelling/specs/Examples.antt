@@ -1,9 +1,13 @@
 -- Lines as they stand in texts, and what is read of them.
-use Rattle.std.specs.Prelude.{ℕ, Bool, true, false, List, [], ◌∷◌, map, Option, Some, None, Result, Ok, Err, codes, bytes_eq}
-use Rattle.gi_llt.specs.Tokens.{Lexeme, tokens_of}
-use Rattle.gi_ir_spelling.specs.Items.{Item}
-use Rattle.gi_ir_spelling.specs.Grammar.{Defined}
-use Rattle.gi_ir_spelling.specs.Reading.{Fault, Syntax, Unknown, Placed, read_line}
+use Rattle.std.specs.Prelude.{ℕ, Bool, true, false, List, [], ◌∷◌, Option, Some, None, Result, Ok, Err, length, codes, bytes_eq}
+use Rattle.gi_text.specs.Cutting.{slice}
+use Rattle.gi_ir_spelling.specs.declared.token.Item.{Item}
+use Rattle.gi_ir_spelling.specs.declared.place.Fault.{Fault}
+use Rattle.gi_ir_spelling.specs.declared.place.Fault.TheVariants as fault
+use Rattle.gi_ir_spelling.specs.declared.place.Placed.{Placed}
+use Rattle.gi_ir_spelling.specs.Items.{items_in}
+use Rattle.gi_ir_spelling.specs.Reading.{read_line}
+use Rattle.gi_ir_spelling.specs.Words.{Defined}
 
 -- what is told of a line: that it is right, that a token is unknown, or that something else is wrong
 pub data Told : Type 0 where
@@ -20,26 +24,23 @@ pub record Example : Type 0 where
 abbrev pub told : (types values blocks : List (List ℕ)) → (line : List ℕ) → Told → Example
 told types values blocks line answer = record { defined = record { types = types; values = values; blocks = blocks }; line = line; told = answer }
 
-abbrev item_of : Lexeme → Item
-item_of lexeme = record { kind = lexeme.kind; bytes = lexeme.bytes; start = 0 }
+abbrev told_of_read : (line : List ℕ) → Result (List Placed) Fault → Told
+told_of_read line (Ok placed) = Right
+told_of_read line (Err fault.Syntax) = WrongSyntax
+told_of_read line (Err (fault.Unknown start end)) = WrongWord (slice start end line)
 
-abbrev told_of_read : Result (List Placed) Fault → Told
-told_of_read (Ok placed) = Right
-told_of_read (Err Syntax) = WrongSyntax
-told_of_read (Err (Unknown item)) = WrongWord item.bytes
-
-abbrev told_of_line : Defined → Option (List Lexeme) → Told
-told_of_line d (Some lexemes) = told_of_read (read_line d (map item_of lexemes))
-told_of_line d None = WrongSyntax
+abbrev told_of_items : (line : List ℕ) → Option (List Item) → Told
+told_of_items line (Some items) = told_of_read line (read_line items)
+told_of_items line None = WrongSyntax
 
 abbrev is_same : Told → Told → Bool
 is_same Right Right = true
 is_same WrongSyntax WrongSyntax = true
-is_same (WrongWord one) (WrongWord other) = bytes_eq one other
-is_same one other = false
+is_same (WrongWord one) (WrongWord word) = bytes_eq one word
+is_same one word = false
 
 abbrev pub is_as_told : Example → Bool
-is_as_told e = is_same (told_of_line e.defined (tokens_of e.line)) e.told
+is_as_told e = is_same (told_of_items e.line (items_in e.defined e.line 0 (length e.line))) e.told
 
 -- ══ The lines ══
 

@@ -13,395 +13,402 @@
 --     br i1 <cond>, label <iftrue>, label <iffalse>          br label <dest>
 --     switch <intty> <value>, label <defaultdest> [ <intty> <val>, label <dest> .. ]
 --     ret <type> <value>          ret void          unreachable
-use Rattle.std.specs.Prelude.{ℕ, Bool, true, false, not, ◌&&◌, ◌||◌, List, [], ◌∷◌, ◌++◌, filter, Option, Some, None, ◌==◌, if◌then◌else◌, codes, bytes_eq}
-use Rattle.gi_ir_spelling.specs.Items.{Item, Sort, AWord, ANumber, ALocal, AGlobal, AMark, sort_of, is_mark, is_among, is_count, is_decimal, is_alignment, bits_of}
+use Rattle.std.specs.Prelude.{◌==◌, ℕ, ◌^◌, ◌%◌, Bool, true, false, not, ◌&&◌, List, [], ◌∷◌, is_some, if◌then◌else◌, min}
+use Rattle.gi_text.specs.declared.token.Number.{Number as NumberData}
+use Rattle.gi_ir_spelling.specs.declared.token.Flag.{Flag}
+use Rattle.gi_ir_spelling.specs.declared.token.Flag.TheVariants as flag
+use Rattle.gi_ir_spelling.specs.declared.token.Operation.{Operation}
+use Rattle.gi_ir_spelling.specs.declared.token.Operation.TheVariants as operation
+use Rattle.gi_ir_spelling.specs.declared.token.Word.{Word}
+use Rattle.gi_ir_spelling.specs.declared.token.Word.TheVariants as word
+use Rattle.gi_ir_spelling.specs.declared.token.Mark.{Mark}
+use Rattle.gi_ir_spelling.specs.declared.token.Mark.TheVariants as mark
+use Rattle.gi_ir_spelling.specs.declared.token.What.{What}
+use Rattle.gi_ir_spelling.specs.declared.token.What.TheVariants as what
+use Rattle.gi_ir_spelling.specs.declared.place.Types.{Types}
+use Rattle.gi_ir_spelling.specs.declared.place.Types.TheVariants.{Integers, IntegersAndPointers, Bits, Pointers, AllButVoid}
+use Rattle.gi_ir_spelling.specs.declared.place.Scalar.{Scalar}
+use Rattle.gi_ir_spelling.specs.declared.place.Scalar.TheVariants.{Bit, Integer, Pointer}
+use Rattle.gi_ir_spelling.specs.declared.place.FlagSet.{FlagSet}
+use Rattle.gi_ir_spelling.specs.declared.place.Slot.{Slot}
+use Rattle.gi_ir_spelling.specs.declared.place.Slot.TheVariants as slot
+use Rattle.gi_ir_spelling.specs.declared.place.Row.{Row}
+use Rattle.gi_ir_spelling.specs.declared.place.Row.TheVariants as row
+use Rattle.gi_ir_spelling.specs.declared.place.TypeStart.{TypeStart}
+use Rattle.gi_ir_spelling.specs.declared.place.TypeStart.TheVariants as start
+use Rattle.gi_ir_spelling.specs.declared.place.Choice.{Choice}
+use Rattle.gi_ir_spelling.specs.declared.place.Choice.TheVariants as choice
 
--- ══ Types ══
+-- ══ Flags ══
 
--- the types that a place takes
-pub data Types : Type 0 where
-  Integers : Types
-  IntegersAndPointers : Types
-  Bits : Types
-  Pointers : Types
-  AllButVoid : Types
+abbrev pub no_flags : FlagSet
+no_flags = record { no_unsigned_wrap = false; no_signed_wrap = false; exact = false; disjoint = false; non_negative = false; same_sign = false; in_bounds = false; no_unsigned_signed_wrap = false }
 
--- the type of the values that follow, as far as their form depends on it
-pub data Scalar : Type 0 where
-  Bit : Scalar
-  Integer : Scalar
-  Pointer : Scalar
+abbrev pub wrapping : FlagSet
+wrapping = record no_flags { no_unsigned_wrap = true; no_signed_wrap = true }
 
--- ══ Places ══
+abbrev pub exact : FlagSet
+exact = record no_flags { exact = true }
 
-pub data Slot : Type 0 where
-  -- the first token of a line, and the word of an instruction
-  Begin : Slot
-  Operation : Slot
-  CallWord : Slot
-  -- a type of which values follow, one of which none follow, and one inside another
-  Typed : Types → Slot
-  Bare : Types → Slot
-  NoAddressSpace : Slot
-  Nothing : Slot
-  ElementCount : Slot
-  Fields : Slot
-  MoreFields : Slot
-  -- values
-  Value : Slot
-  Constant : Slot
-  ConstantFlags : List (List ℕ) → Slot
-  Base : Slot
-  ConstantIndices : Slot
-  ConstantIndexType : Slot
-  ConstantIndex : Scalar → Slot
-  -- flags, of which these may still stand; predicates
-  Flags : List (List ℕ) → Slot
-  Predicate : Slot
-  -- words, marks, blocks
-  Keyword : List ℕ → Slot
-  Punctuation : ℕ → Slot
-  BlockName : Slot
-  -- what may stand or not
-  Align : Slot
-  AlignWord : Slot
-  Alignment : Slot
-  Indices : Slot
-  Entry : Slot
-  Entries : Slot
-  Cases : Slot
-  -- a branch by its first token, and what is returned
-  Target : Slot
-  Returned : Slot
+abbrev pub disjoint : FlagSet
+disjoint = record no_flags { disjoint = true }
+
+abbrev pub non_negative : FlagSet
+non_negative = record no_flags { non_negative = true }
+
+abbrev pub same_sign : FlagSet
+same_sign = record no_flags { same_sign = true }
+
+abbrev pub element_flags : FlagSet
+element_flags = record no_flags { no_unsigned_wrap = true; in_bounds = true; no_unsigned_signed_wrap = true }
+
+abbrev pub has_flag : FlagSet → Flag → Bool
+has_flag flags flag.NoUnsignedWrap = flags.no_unsigned_wrap
+has_flag flags flag.NoSignedWrap = flags.no_signed_wrap
+has_flag flags flag.Exact = flags.exact
+has_flag flags flag.Disjoint = flags.disjoint
+has_flag flags flag.NonNegative = flags.non_negative
+has_flag flags flag.SameSign = flags.same_sign
+has_flag flags flag.InBounds = flags.in_bounds
+has_flag flags flag.NoUnsignedSignedWrap = flags.no_unsigned_signed_wrap
+
+abbrev pub without_flag : FlagSet → Flag → FlagSet
+without_flag flags flag.NoUnsignedWrap = record flags { no_unsigned_wrap = false }
+without_flag flags flag.NoSignedWrap = record flags { no_signed_wrap = false }
+without_flag flags flag.Exact = record flags { exact = false }
+without_flag flags flag.Disjoint = record flags { disjoint = false }
+without_flag flags flag.NonNegative = record flags { non_negative = false }
+without_flag flags flag.SameSign = record flags { same_sign = false }
+without_flag flags flag.InBounds = record flags { in_bounds = false }
+without_flag flags flag.NoUnsignedSignedWrap = record flags { no_unsigned_signed_wrap = false }
+
+-- ══ Forms ══
 
 abbrev comma : Slot
-comma = Punctuation 44
+comma = slot.Punctuation mark.Comma
 
 abbrev label : List Slot
-label = Keyword (codes "label") ∷ BlockName ∷ []
+label = slot.Keyword word.Label ∷ slot.BlockName ∷ []
 
--- ══ What a place says of a token ══
+abbrev one_value : Types → List Slot
+one_value types = slot.Typed types ∷ slot.Value ∷ []
 
-pub data Choice : Type 0 where
-  -- it takes the token, these places follow, and values that follow are of this type if it says so
-  Take : List Slot → Choice
-  TakeType : Scalar → List Slot → Choice
-  -- it is passed
-  Pass : Choice
-  -- the token can't stand there: it is unknown, or it is a matter of syntax
-  UnknownHere : Choice
-  SyntaxHere : Choice
+-- two values of one type
+abbrev two_values : Types → List Slot
+two_values types = slot.Typed types ∷ slot.Value ∷ comma ∷ slot.Value ∷ []
 
--- places behind those that follow
-abbrev before : List Slot → Choice → Choice
-before more (Take slots) = Take (slots ++ more)
-before more (TakeType scalar slots) = TakeType scalar (slots ++ more)
-before more choice = choice
+abbrev arithmetic : FlagSet → List Slot
+arithmetic flags = slot.Flags flags ∷ two_values Integers
 
-abbrev if_so : Bool → List Slot → Choice
-if_so test slots = if test then Take slots else SyntaxHere
+abbrev cast : FlagSet → List Slot
+cast flags = slot.Flags flags ∷ slot.Typed IntegersAndPointers ∷ slot.Value ∷ slot.Keyword word.To ∷ slot.Bare IntegersAndPointers ∷ []
 
--- ══ Names of a module and a function ══
+-- what stands behind the word of an instruction
+abbrev pub form_of : Operation → List Slot
+form_of operation.Add = arithmetic wrapping
+form_of operation.Subtract = arithmetic wrapping
+form_of operation.Multiply = arithmetic wrapping
+form_of operation.ShiftLeft = arithmetic wrapping
+form_of operation.UnsignedDivide = arithmetic exact
+form_of operation.SignedDivide = arithmetic exact
+form_of operation.LogicalShiftRight = arithmetic exact
+form_of operation.ArithmeticShiftRight = arithmetic exact
+form_of operation.UnsignedRemainder = arithmetic no_flags
+form_of operation.SignedRemainder = arithmetic no_flags
+form_of operation.And = arithmetic no_flags
+form_of operation.Or = arithmetic disjoint
+form_of operation.ExclusiveOr = arithmetic no_flags
+form_of operation.Truncate = cast wrapping
+form_of operation.ZeroExtend = cast non_negative
+form_of operation.SignExtend = cast no_flags
+form_of operation.PointerToInteger = cast no_flags
+form_of operation.IntegerToPointer = cast no_flags
+form_of operation.Compare = slot.Flags same_sign ∷ slot.Predicate ∷ two_values IntegersAndPointers
+form_of operation.Select = slot.Typed Bits ∷ slot.Value ∷ comma ∷ slot.Typed IntegersAndPointers ∷ slot.Value ∷ comma ∷ one_value IntegersAndPointers
+form_of operation.Freeze = one_value IntegersAndPointers
+form_of operation.Phi = slot.Typed IntegersAndPointers ∷ slot.Entry ∷ []
+form_of operation.Alloca = slot.Bare AllButVoid ∷ slot.Align ∷ []
+form_of operation.Load = slot.Bare IntegersAndPointers ∷ comma ∷ slot.Typed Pointers ∷ slot.Value ∷ slot.Align ∷ []
+form_of operation.Store = slot.Typed IntegersAndPointers ∷ slot.Value ∷ comma ∷ slot.Typed Pointers ∷ slot.Value ∷ slot.Align ∷ []
+form_of operation.Element = slot.Flags element_flags ∷ slot.Bare AllButVoid ∷ comma ∷ slot.Typed Pointers ∷ slot.Value ∷ slot.Indices ∷ []
+form_of operation.Branch = slot.Target ∷ []
+form_of operation.Switch = slot.Typed Integers ∷ slot.Value ∷ comma ∷ slot.Keyword word.Label ∷ slot.BlockName ∷ slot.Punctuation mark.OpenSquare ∷ slot.Cases ∷ []
+form_of operation.Return = slot.Returned ∷ []
+form_of operation.Unreachable = []
 
--- the types that are defined, and of a function the values and the blocks
-pub record Defined : Type 0 where
-  pub types : List (List ℕ)
-  pub values : List (List ℕ)
-  pub blocks : List (List ℕ)
+-- ══ Rows of places ══
 
-abbrev if_defined : List (List ℕ) → List ℕ → List Slot → Choice
-if_defined names name slots = if is_among names name then Take slots else UnknownHere
+abbrev pub slots_of : Row → List Slot
+slots_of row.Nothing = []
+slots_of row.Assigned = slot.Punctuation mark.Equals ∷ slot.Operation ∷ []
+slots_of (row.Form op) = form_of op
+slots_of row.AddressSpaces = slot.NoAddressSpace ∷ []
+slots_of row.Array = slot.ElementCount ∷ slot.Keyword word.Times ∷ slot.Bare AllButVoid ∷ slot.Punctuation mark.CloseSquare ∷ []
+slots_of row.Struct = slot.Fields ∷ []
+slots_of row.RefusedType = slot.Refused ∷ []
+slots_of row.OtherFields = slot.MoreFields ∷ []
+slots_of row.NextField = slot.Bare AllButVoid ∷ slot.MoreFields ∷ []
+slots_of (row.ElementFlags flags) = slot.ConstantFlags flags ∷ []
+slots_of row.ConstantElement = slot.Bare AllButVoid ∷ comma ∷ slot.Bare Pointers ∷ slot.Base ∷ slot.ConstantIndices ∷ []
+slots_of (row.OtherFlags flags) = slot.Flags flags ∷ []
+slots_of row.NextConstantIndex = slot.ConstantIndexType ∷ slot.ConstantIndices ∷ []
+slots_of (row.IndexOf scalar) = slot.ConstantIndex scalar ∷ []
+slots_of row.AlignFollows = slot.AlignWord ∷ []
+slots_of row.AlignmentFollows = slot.Alignment ∷ []
+slots_of row.NextIndex = slot.Typed Integers ∷ slot.Value ∷ slot.Indices ∷ []
+slots_of row.EntryOfPhi = slot.Value ∷ comma ∷ slot.BlockName ∷ slot.Punctuation mark.CloseSquare ∷ slot.Entries ∷ []
+slots_of row.NextEntry = slot.Entry ∷ []
+slots_of row.CaseOfSwitch = slot.Constant ∷ comma ∷ slot.Keyword word.Label ∷ slot.BlockName ∷ slot.Cases ∷ []
+slots_of row.BlockFollows = slot.BlockName ∷ []
+slots_of row.TwoBlocks = slot.Value ∷ comma ∷ slot.Keyword word.Label ∷ slot.BlockName ∷ comma ∷ label
+slots_of row.ReturnedValue = slot.Value ∷ []
 
 -- ══ Types in their places ══
 
-abbrev takes_integer : Types → (bits : ℕ) → Bool
+abbrev pub scalar_of : (bits : ℕ) → Scalar
+scalar_of bits = if bits == 1 then Bit else Integer
+
+abbrev pub takes_integer : Types → (bits : ℕ) → Bool
 takes_integer Pointers bits = false
 takes_integer Bits bits = bits == 1
 takes_integer types bits = true
 
-abbrev takes_pointer : Types → Bool
+abbrev pub takes_pointer : Types → Bool
 takes_pointer Integers = false
 takes_pointer Bits = false
 takes_pointer types = true
 
-abbrev takes_aggregate : Types → Bool
+abbrev pub takes_aggregate : Types → Bool
 takes_aggregate AllButVoid = true
 takes_aggregate types = false
 
-abbrev scalar_of : (bits : ℕ) → Scalar
-scalar_of bits = if bits == 1 then Bit else Integer
-
--- `i32`, `ptr` and `void` are types, and any other word in the place of a type is unknown
-abbrev integer_type : Types → Option ℕ → Choice
-integer_type types (Some bits) = if takes_integer types bits then TakeType (scalar_of bits) [] else SyntaxHere
-integer_type types None = UnknownHere
-
-abbrev word_type : Types → List ℕ → Choice
-word_type types word =
-    if bytes_eq word (codes "ptr") then (if takes_pointer types then TakeType Pointer (NoAddressSpace ∷ []) else SyntaxHere)
-    else if bytes_eq word (codes "void") then SyntaxHere
-    else integer_type types (bits_of word)
-
--- `[2 x i32]` and `{ i32, ptr }`
-abbrev mark_type : Item → Choice
-mark_type item =
-    if is_mark 91 item then Take (ElementCount ∷ Keyword (codes "x") ∷ Bare AllButVoid ∷ Punctuation 93 ∷ [])
-    else if is_mark 123 item then Take (Fields ∷ [])
-    else SyntaxHere
-
 -- an array or a struct is read to its end also where a place doesn't take it: what is unknown in it comes first
-abbrev aggregate : Types → Choice → Choice
-aggregate types choice = if takes_aggregate types then choice else before (Nothing ∷ []) choice
+abbrev pub start_by_mark : Types → Mark → TypeStart
+start_by_mark types mark.OpenSquare = start.Nested row.Array (takes_aggregate types)
+start_by_mark types mark.OpenBrace = start.Nested row.Struct (takes_aggregate types)
+start_by_mark types _ = start.Wrong
 
-abbrev defined_type : Types → Bool → Choice
-defined_type types true = if takes_aggregate types then Take [] else SyntaxHere
-defined_type types false = UnknownHere
+abbrev pub start_by_word : Types → Word → TypeStart
+start_by_word types (word.Integer bits) = if takes_integer types bits then start.Single (scalar_of bits) else start.Wrong
+start_by_word types word.Pointer = if takes_pointer types then start.Single Pointer else start.Wrong
+start_by_word types word.Void = start.Wrong
+start_by_word types _ = start.Unknown
 
-abbrev type_by : Defined → Types → Sort → Item → Choice
-type_by d types AWord item = word_type types item.bytes
-type_by d types ALocal item = defined_type types (is_among d.types item.bytes)
-type_by d types AMark item = aggregate types (mark_type item)
-type_by d types sort item = SyntaxHere
+abbrev pub start_by_name : Types → (defined : Bool) → TypeStart
+start_by_name types true = if takes_aggregate types then start.Whole else start.Wrong
+start_by_name types false = start.Unknown
 
-abbrev type_at : Defined → Types → Item → Choice
-type_at d types item = type_by d types (sort_of item.kind) item
+abbrev pub type_start : Types → What → TypeStart
+type_start types (what.Word w) = start_by_word types w
+type_start types (what.Local named) = start_by_name types (is_some named.ty)
+type_start types (what.Mark m) = start_by_mark types m
+type_start types _ = start.Wrong
 
--- a type of which no value follows leaves the type of values as it is
-abbrev bare : Choice → Choice
-bare (TakeType scalar slots) = Take slots
-bare choice = choice
+-- a type of which values follow, and one of which none do, with the places behind it
+abbrev pub behind_scalar : Scalar → Row
+behind_scalar Pointer = row.AddressSpaces
+behind_scalar scalar = row.Nothing
 
-abbrev bare_type_at : Defined → Types → Item → Choice
-bare_type_at d types item = bare (type_at d types item)
+abbrev pub typed : TypeStart → Row → Choice
+typed (start.Single scalar) more = choice.TakeType scalar (behind_scalar scalar) more
+typed start.Whole more = choice.Take row.Nothing more
+typed (start.Nested nested true) more = choice.Take nested more
+typed (start.Nested nested false) more = choice.Take nested row.RefusedType
+typed start.Unknown more = choice.Unknown
+typed start.Wrong more = choice.Wrong
+
+abbrev pub bare : TypeStart → Row → Choice
+bare (start.Single scalar) more = choice.Take (behind_scalar scalar) more
+bare other more = typed other more
+
+abbrev pub index_by : TypeStart → Choice
+index_by (start.Single scalar) = choice.Take (row.IndexOf scalar) row.Nothing
+index_by other = typed other row.Nothing
 
 -- ══ Values in their places ══
 
-abbrev takes_number : Scalar → Bool
-takes_number Pointer = false
-takes_number scalar = true
+abbrev pub take : Row → Choice
+take more = choice.Take more row.Nothing
 
-abbrev takes_truth : Scalar → Bool
-takes_truth Bit = true
-takes_truth scalar = false
+abbrev pub take_if : Bool → Row → Choice
+take_if test more = if test then take more else choice.Wrong
 
-abbrev is_truth : List ℕ → Bool
-is_truth word = bytes_eq word (codes "true") || bytes_eq word (codes "false")
+abbrev pub known_if : Bool → Choice
+known_if test = if test then take row.Nothing else choice.Unknown
 
-abbrev number_of : Scalar → List ℕ → Choice
-number_of scalar bytes = if_so (takes_number scalar && is_decimal bytes) []
+abbrev pub is_number_type : Scalar → Bool
+is_number_type Pointer = false
+is_number_type scalar = true
 
-abbrev element_flags : List (List ℕ)
-element_flags = codes "inbounds" ∷ codes "nusw" ∷ codes "nuw" ∷ []
+abbrev pub is_bit : Scalar → Bool
+is_bit Bit = true
+is_bit scalar = false
 
-abbrev value_word : Scalar → List ℕ → Choice
-value_word scalar word =
-    if is_truth word then if_so (takes_truth scalar) []
-    else if bytes_eq word (codes "getelementptr") then Take (ConstantFlags element_flags ∷ [])
-    else if_so (is_among (codes "null" ∷ codes "undef" ∷ codes "poison" ∷ []) word) []
+abbrev pub value_by_word : Scalar → Word → Choice
+value_by_word last word.True = take_if (is_bit last) row.Nothing
+value_by_word last word.False = take_if (is_bit last) row.Nothing
+value_by_word last word.Null = take row.Nothing
+value_by_word last word.Undef = take row.Nothing
+value_by_word last word.Poison = take row.Nothing
+value_by_word last (word.Operation operation.Element) = take (row.ElementFlags element_flags)
+value_by_word last _ = choice.Wrong
 
-abbrev value_by : Defined → Scalar → Sort → Item → Choice
-value_by d scalar ALocal item = if_defined d.values item.bytes []
-value_by d scalar ANumber item = number_of scalar item.bytes
-value_by d scalar AWord item = value_word scalar item.bytes
-value_by d scalar AGlobal item = Take []
-value_by d scalar sort item = SyntaxHere
+abbrev pub value_by : Scalar → What → Choice
+value_by last (what.Word w) = value_by_word last w
+value_by last (what.Number number decimal) = take_if (is_number_type last && decimal) row.Nothing
+value_by last (what.Local named) = known_if (is_some named.value)
+value_by last what.Global = take row.Nothing
+value_by last _ = choice.Wrong
 
-abbrev constant_by : Scalar → Sort → Item → Choice
-constant_by scalar ANumber item = number_of scalar item.bytes
-constant_by scalar AWord item = if_so (takes_truth scalar && is_truth item.bytes) []
-constant_by scalar sort item = SyntaxHere
+abbrev pub constant_by : Scalar → What → Choice
+constant_by last (what.Word word.True) = take_if (is_bit last) row.Nothing
+constant_by last (what.Word word.False) = take_if (is_bit last) row.Nothing
+constant_by last (what.Number number decimal) = take_if (is_number_type last && decimal) row.Nothing
+constant_by last _ = choice.Wrong
 
--- ══ Flags ══
+-- ══ Flags, words and marks in their places ══
 
--- every word that is a flag of some instruction
-abbrev flag_words : List (List ℕ)
-flag_words = codes "nuw" ∷ codes "nsw" ∷ codes "exact" ∷ codes "disjoint" ∷ codes "nneg" ∷ codes "samesign" ∷ codes "inbounds" ∷ codes "nusw" ∷ []
-
-abbrev without : List ℕ → List (List ℕ) → List (List ℕ)
-without word words = filter (λ other. not (bytes_eq word other)) words
-
-abbrev flag_word : List (List ℕ) → List ℕ → Choice
-flag_word left word =
-    if is_among left word then Take (Flags (without word left) ∷ [])
-    else if is_among flag_words word then SyntaxHere
-    else Pass
-
-abbrev flag_by : List (List ℕ) → Sort → Item → Choice
-flag_by left AWord item = flag_word left item.bytes
-flag_by left sort item = Pass
+abbrev pub flag_by : FlagSet → What → Choice
+flag_by flags (what.Word (word.Flag f)) = take_if (has_flag flags f) (row.OtherFlags (without_flag flags f))
+flag_by flags _ = choice.Pass
 
 -- behind the flags of a constant getelementptr stands its bracket
-abbrev constant_flag_word : List (List ℕ) → List ℕ → Choice
-constant_flag_word left word =
-    if is_among left word then Take (ConstantFlags (without word left) ∷ [])
-    else if is_among flag_words word then SyntaxHere
-    else UnknownHere
+abbrev pub constant_flag_by : FlagSet → What → Choice
+constant_flag_by flags (what.Word (word.Flag f)) = take_if (has_flag flags f) (row.ElementFlags (without_flag flags f))
+constant_flag_by flags (what.Word w) = choice.Unknown
+constant_flag_by flags (what.Mark mark.Open) = take row.ConstantElement
+constant_flag_by flags _ = choice.Wrong
 
-abbrev constant_flag_by : List (List ℕ) → Sort → Item → Choice
-constant_flag_by left AWord item = constant_flag_word left item.bytes
-constant_flag_by left AMark item = if_so (is_mark 40 item) (Bare AllButVoid ∷ comma ∷ Bare Pointers ∷ Base ∷ ConstantIndices ∷ [])
-constant_flag_by left sort item = SyntaxHere
+abbrev pub operation_by : What → Choice
+operation_by (what.Word (word.Operation op)) = take (row.Form op)
+operation_by (what.Word w) = choice.Unknown
+operation_by _ = choice.Wrong
 
--- ══ Instructions ══
+abbrev pub begin_by : What → Choice
+begin_by (what.Local named) = take row.Assigned
+begin_by w = operation_by w
 
-abbrev predicates : List (List ℕ)
-predicates = codes "eq" ∷ codes "ne" ∷ codes "ugt" ∷ codes "uge" ∷ codes "ult" ∷ codes "ule" ∷ codes "sgt" ∷ codes "sge" ∷ codes "slt" ∷ codes "sle" ∷ []
+abbrev pub address_space_by : What → Choice
+address_space_by (what.Word word.AddressSpace) = choice.Unknown
+address_space_by _ = choice.Pass
 
--- two values of one type
-abbrev two_values : Types → List Slot
-two_values types = Typed types ∷ Value ∷ comma ∷ Value ∷ []
+-- a number without a sign
+abbrev pub is_count : NumberData → (decimal : Bool) → Bool
+is_count number decimal = decimal && not number.negative
 
-abbrev one_value : Types → List Slot
-one_value types = Typed types ∷ Value ∷ []
+-- an alignment is a power of two, and one of 2 ^ 63 or more counts as that: the powers up to it are what divides it
+abbrev pub is_alignment : NumberData → (decimal : Bool) → Bool
+is_alignment number decimal = is_count number decimal && not (number.size == 0) && 2 ^ 63 % min number.size (2 ^ 63) == 0
 
-abbrev arithmetic : List (List ℕ) → List Slot
-arithmetic flags = Flags flags ∷ two_values Integers
+abbrev pub count_by : What → Choice
+count_by (what.Number number decimal) = take_if (is_count number decimal) row.Nothing
+count_by _ = choice.Wrong
 
-abbrev cast : List (List ℕ) → List Slot
-cast flags = Flags flags ∷ one_value IntegersAndPointers ++ Keyword (codes "to") ∷ Bare IntegersAndPointers ∷ []
+abbrev pub alignment_by : What → Choice
+alignment_by (what.Number number decimal) = take_if (is_alignment number decimal) row.Nothing
+alignment_by _ = choice.Wrong
 
-abbrev wrapping : List (List ℕ)
-wrapping = codes "nuw" ∷ codes "nsw" ∷ []
+abbrev pub align_word_by : What → Choice
+align_word_by (what.Word word.Align) = take row.AlignmentFollows
+align_word_by (what.Word word.AddressSpace) = choice.Unknown
+align_word_by _ = choice.Wrong
 
--- an instruction: its word, and the places behind it
-pub record Form : Type 0 where
-  pub word : List ℕ
-  pub slots : List Slot
+abbrev pub predicate_by : What → Choice
+predicate_by (what.Word (word.Predicate pred)) = take row.Nothing
+predicate_by (what.Word w) = choice.Unknown
+predicate_by _ = choice.Wrong
 
-abbrev form : List ℕ → List Slot → Form
-form word slots = record { word = word; slots = slots }
+abbrev pub block_by : What → Choice
+block_by (what.Local named) = known_if (is_some named.block)
+block_by _ = choice.Wrong
 
-abbrev pub forms : List Form
-forms =
-    form (codes "add") (arithmetic wrapping)
-    ∷ form (codes "sub") (arithmetic wrapping)
-    ∷ form (codes "mul") (arithmetic wrapping)
-    ∷ form (codes "shl") (arithmetic wrapping)
-    ∷ form (codes "udiv") (arithmetic (codes "exact" ∷ []))
-    ∷ form (codes "sdiv") (arithmetic (codes "exact" ∷ []))
-    ∷ form (codes "lshr") (arithmetic (codes "exact" ∷ []))
-    ∷ form (codes "ashr") (arithmetic (codes "exact" ∷ []))
-    ∷ form (codes "urem") (arithmetic [])
-    ∷ form (codes "srem") (arithmetic [])
-    ∷ form (codes "and") (arithmetic [])
-    ∷ form (codes "or") (arithmetic (codes "disjoint" ∷ []))
-    ∷ form (codes "xor") (arithmetic [])
-    ∷ form (codes "trunc") (cast wrapping)
-    ∷ form (codes "zext") (cast (codes "nneg" ∷ []))
-    ∷ form (codes "sext") (cast [])
-    ∷ form (codes "ptrtoint") (cast [])
-    ∷ form (codes "inttoptr") (cast [])
-    ∷ form (codes "icmp") (Flags (codes "samesign" ∷ []) ∷ Predicate ∷ two_values IntegersAndPointers)
-    ∷ form (codes "select") (one_value Bits ++ comma ∷ one_value IntegersAndPointers ++ comma ∷ one_value IntegersAndPointers)
-    ∷ form (codes "freeze") (one_value IntegersAndPointers)
-    ∷ form (codes "phi") (Typed IntegersAndPointers ∷ Entry ∷ [])
-    ∷ form (codes "alloca") (Bare AllButVoid ∷ Align ∷ [])
-    ∷ form (codes "load") (Bare IntegersAndPointers ∷ comma ∷ one_value Pointers ++ Align ∷ [])
-    ∷ form (codes "store") (one_value IntegersAndPointers ++ comma ∷ one_value Pointers ++ Align ∷ [])
-    ∷ form (codes "getelementptr") (Flags element_flags ∷ Bare AllButVoid ∷ comma ∷ one_value Pointers ++ Indices ∷ [])
-    ∷ form (codes "br") (Target ∷ [])
-    ∷ form (codes "switch") (one_value Integers ++ comma ∷ label ++ Punctuation 91 ∷ Cases ∷ [])
-    ∷ form (codes "ret") (Returned ∷ [])
-    ∷ form (codes "unreachable") [] ∷ []
+abbrev pub base_by : What → Choice
+base_by what.Global = take row.Nothing
+base_by _ = choice.Wrong
 
-abbrev form_in : List Form → List ℕ → Choice
-form_in [] word = UnknownHere
-form_in (f ∷ fs) word = if bytes_eq f.word word then Take f.slots else form_in fs word
+-- the words and marks that stand at fixed places
+abbrev pub is_keyword : Word → What → Bool
+is_keyword word.To (what.Word word.To) = true
+is_keyword word.Label (what.Word word.Label) = true
+is_keyword word.Times (what.Word word.Times) = true
+is_keyword w _ = false
 
-abbrev operation_by : Sort → Item → Choice
-operation_by AWord item = form_in forms item.bytes
-operation_by sort item = SyntaxHere
+abbrev pub is_same_mark : Mark → Mark → Bool
+is_same_mark mark.Comma mark.Comma = true
+is_same_mark mark.Equals mark.Equals = true
+is_same_mark mark.Open mark.Open = true
+is_same_mark mark.Close mark.Close = true
+is_same_mark mark.OpenSquare mark.OpenSquare = true
+is_same_mark mark.CloseSquare mark.CloseSquare = true
+is_same_mark mark.OpenBrace mark.OpenBrace = true
+is_same_mark mark.CloseBrace mark.CloseBrace = true
+is_same_mark one _ = false
 
-abbrev begin_by : Sort → Item → Choice
-begin_by ALocal item = Take (Punctuation 61 ∷ Operation ∷ [])
-begin_by sort item = operation_by sort item
+abbrev pub is_mark : Mark → What → Bool
+is_mark m (what.Mark other) = is_same_mark m other
+is_mark m _ = false
+
+-- behind a comma, or passed without one
+abbrev pub comma_or_pass : Row → What → Choice
+comma_or_pass more w = if is_mark mark.Comma w then take more else choice.Pass
+
+-- the end of a list, or a comma and the next member
+abbrev pub end_or_comma : Mark → Row → What → Choice
+end_or_comma end more w = if is_mark end w then take row.Nothing else take_if (is_mark mark.Comma w) more
+
+abbrev pub fields_by : What → Choice
+fields_by w = if is_mark mark.CloseBrace w then take row.Nothing else bare (type_start AllButVoid w) row.OtherFields
+
+abbrev pub cases_by : What → Choice
+cases_by w = if is_mark mark.CloseSquare w then take row.Nothing else typed (type_start Integers w) row.CaseOfSwitch
+
+abbrev pub target_by : What → Choice
+target_by w = if is_keyword word.Label w then take row.BlockFollows else typed (type_start Bits w) row.TwoBlocks
+
+abbrev pub returned_by : What → Choice
+returned_by (what.Word word.Void) = take row.Nothing
+returned_by w = typed (type_start IntegersAndPointers w) row.ReturnedValue
 
 -- ══ The table ══
 
-abbrev is_word : List ℕ → Sort → Item → Bool
-is_word word AWord item = bytes_eq item.bytes word
-is_word word sort item = false
-
-abbrev is_number : (List ℕ → Bool) → Sort → Item → Bool
-is_number test ANumber item = test item.bytes
-is_number test sort item = false
-
-abbrev is_global : Sort → Bool
-is_global AGlobal = true
-is_global sort = false
-
-abbrev is_mark_of : (byte : ℕ) → Sort → Item → Bool
-is_mark_of byte AMark item = is_mark byte item
-is_mark_of byte sort item = false
-
-abbrev block_by : Defined → Sort → Item → Choice
-block_by d ALocal item = if_defined d.blocks item.bytes []
-block_by d sort item = SyntaxHere
-
-abbrev predicate_by : Sort → Item → Choice
-predicate_by AWord item = if is_among predicates item.bytes then Take [] else UnknownHere
-predicate_by sort item = SyntaxHere
-
-abbrev address_space_by : Sort → Item → Choice
-address_space_by AWord item = if bytes_eq item.bytes (codes "addrspace") then UnknownHere else Pass
-address_space_by sort item = Pass
-
-abbrev align_word_by : Sort → Item → Choice
-align_word_by AWord item =
-    if bytes_eq item.bytes (codes "align") then Take (Alignment ∷ [])
-    else if bytes_eq item.bytes (codes "addrspace") then UnknownHere
-    else SyntaxHere
-align_word_by sort item = SyntaxHere
-
-abbrev behind_comma : Sort → Item → List Slot → Choice
-behind_comma sort item slots = if is_mark_of 44 sort item then Take slots else Pass
-
-abbrev index_type : Choice → Choice
-index_type (TakeType scalar slots) = Take (ConstantIndex scalar ∷ [])
-index_type choice = choice
-
-abbrev pub choose_by : Defined → (last : Scalar) → Slot → Sort → Item → Choice
-choose_by d last Begin sort item = begin_by sort item
-choose_by d last Operation sort item = operation_by sort item
-choose_by d last CallWord sort item = if_so (is_word (codes "call") sort item) []
-choose_by d last (Typed types) sort item = type_by d types sort item
-choose_by d last (Bare types) sort item = bare (type_by d types sort item)
-choose_by d last NoAddressSpace sort item = address_space_by sort item
-choose_by d last Nothing sort item = SyntaxHere
-choose_by d last ElementCount sort item = if_so (is_number is_count sort item) []
-choose_by d last Fields sort item = if is_mark_of 125 sort item then Take [] else before (MoreFields ∷ []) (bare (type_by d AllButVoid sort item))
-choose_by d last MoreFields sort item = if is_mark_of 125 sort item then Take [] else if_so (is_mark_of 44 sort item) (Bare AllButVoid ∷ MoreFields ∷ [])
-choose_by d last Value sort item = value_by d last sort item
-choose_by d last Constant sort item = constant_by last sort item
-choose_by d last (ConstantFlags left) sort item = constant_flag_by left sort item
-choose_by d last Base sort item = if_so (is_global sort) []
-choose_by d last ConstantIndices sort item = if is_mark_of 41 sort item then Take [] else if_so (is_mark_of 44 sort item) (ConstantIndexType ∷ ConstantIndices ∷ [])
-choose_by d last ConstantIndexType sort item = index_type (type_by d Integers sort item)
-choose_by d last (ConstantIndex scalar) sort item = constant_by scalar sort item
-choose_by d last (Flags left) sort item = flag_by left sort item
-choose_by d last Predicate sort item = predicate_by sort item
-choose_by d last (Keyword word) sort item = if_so (is_word word sort item) []
-choose_by d last (Punctuation byte) sort item = if_so (is_mark_of byte sort item) []
-choose_by d last BlockName sort item = block_by d sort item
-choose_by d last Align sort item = behind_comma sort item (AlignWord ∷ [])
-choose_by d last AlignWord sort item = align_word_by sort item
-choose_by d last Alignment sort item = if_so (is_number is_alignment sort item) []
-choose_by d last Indices sort item = behind_comma sort item (one_value Integers ++ Indices ∷ [])
-choose_by d last Entry sort item = if_so (is_mark_of 91 sort item) (Value ∷ comma ∷ BlockName ∷ Punctuation 93 ∷ Entries ∷ [])
-choose_by d last Entries sort item = behind_comma sort item (Entry ∷ [])
-choose_by d last Cases sort item = if is_mark_of 93 sort item then Take [] else before (Constant ∷ comma ∷ label ++ Cases ∷ []) (type_by d Integers sort item)
-choose_by d last Target sort item = if is_word (codes "label") sort item then Take (BlockName ∷ []) else before (Value ∷ comma ∷ label ++ comma ∷ label) (type_by d Bits sort item)
-choose_by d last Returned sort item = if is_word (codes "void") sort item then Take [] else before (Value ∷ []) (type_by d IntegersAndPointers sort item)
-
--- what a place says of a token
-abbrev pub choose : Defined → (last : Scalar) → Slot → Item → Choice
-choose d last slot item = choose_by d last slot (sort_of item.kind) item
+-- what a place says of a token, where `last` is the type of values
+abbrev pub choose : (last : Scalar) → Slot → What → Choice
+choose last slot.Begin w = begin_by w
+choose last slot.Operation w = operation_by w
+choose last (slot.Typed types) w = typed (type_start types w) row.Nothing
+choose last (slot.Bare types) w = bare (type_start types w) row.Nothing
+choose last slot.NoAddressSpace w = address_space_by w
+choose last slot.Refused w = choice.Wrong
+choose last slot.ElementCount w = count_by w
+choose last slot.Fields w = fields_by w
+choose last slot.MoreFields w = end_or_comma mark.CloseBrace row.NextField w
+choose last slot.Value w = value_by last w
+choose last slot.Constant w = constant_by last w
+choose last (slot.ConstantFlags flags) w = constant_flag_by flags w
+choose last slot.Base w = base_by w
+choose last slot.ConstantIndices w = end_or_comma mark.Close row.NextConstantIndex w
+choose last slot.ConstantIndexType w = index_by (type_start Integers w)
+choose last (slot.ConstantIndex scalar) w = constant_by scalar w
+choose last (slot.Flags flags) w = flag_by flags w
+choose last slot.Predicate w = predicate_by w
+choose last (slot.Keyword word) w = take_if (is_keyword word w) row.Nothing
+choose last (slot.Punctuation mark) w = take_if (is_mark mark w) row.Nothing
+choose last slot.BlockName w = block_by w
+choose last slot.Align w = comma_or_pass row.AlignFollows w
+choose last slot.AlignWord w = align_word_by w
+choose last slot.Alignment w = alignment_by w
+choose last slot.Indices w = comma_or_pass row.NextIndex w
+choose last slot.Entry w = take_if (is_mark mark.OpenSquare w) row.EntryOfPhi
+choose last slot.Entries w = comma_or_pass row.NextEntry w
+choose last slot.Cases w = cases_by w
+choose last slot.Target w = target_by w
+choose last slot.Returned w = returned_by w
 
 -- places that nothing need stand in
 abbrev pub is_free : Slot → Bool
-is_free NoAddressSpace = true
-is_free (Flags left) = true
-is_free Align = true
-is_free Indices = true
-is_free Entries = true
-is_free slot = false
+is_free slot.NoAddressSpace = true
+is_free (slot.Flags flags) = true
+is_free slot.Align = true
+is_free slot.Indices = true
+is_free slot.Entries = true
+is_free _ = false

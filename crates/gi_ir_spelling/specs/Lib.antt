@@ -2,3 +2,4 @@ pub mod Examples
 pub mod Grammar
 pub mod Items
 pub mod Reading
+pub mod Words
