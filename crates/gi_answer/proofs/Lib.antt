@@ -1,6 +1,7 @@
 pub mod AddRuns
 pub mod AnswerLemmas
 pub mod AnyTexts
+pub mod Beginnings
 pub mod ClassedRuns
 pub mod CompileLaws
 pub mod IllegalLines

@@ -7,6 +7,7 @@ pub mod Messages
 pub mod NormalForm
 pub mod Promise
 pub mod Rows
+pub mod RuleStages
 pub mod Selectable
 pub mod Selecting
 pub mod Selection

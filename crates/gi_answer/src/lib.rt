@@ -2,6 +2,7 @@
 #![tactic(auto)]
 
 mod answering;
+mod begins;
 mod checks;
 mod example;
 mod keys;
@@ -17,6 +18,7 @@ mod unselected;
 mod validity;
 
 pub use answering::answer;
+pub use begins::passing_module_is_good;
 pub use example::{example_is_compiled, example_is_legalized};
 pub use laws::{
     normal_form_is_there, output_is_legal, output_is_one, printed_text_is_read_back,

@@ -1,28 +1,14 @@
--- Where no definition of a register behind its first leads.
-use Rattle.std.proofs.Common.{◌≡◌, ℕ, ◌<◌, ◌≤◌, Bool, true, List, Some, option_map, length, inr, refl, sym, ap, ◌∙◌, subst, arith, true≢false, lt_of_lt_of_le}
+-- Where no definition of a register but its first stands.
+use Rattle.std.proofs.Common.{◌≡◌, ℕ, ◌<◌, true, Some, option_map, inr, sym, ap, ◌∙◌, subst, arith, true≢false}
 use Rattle.std.specs.Prelude.{slice_get}
 use Rattle.gi_mir.specs.Data.{InstrData, FunctionData}
 use Rattle.gi_mir.specs.Edit.{home_of, place_in_block}
 use Rattle.gi_mir.specs.Ids.{AreOwnIds}
 use Rattle.gi_mir.specs.Places.{body_at, id_in}
 use Rattle.gi_mir.proofs.Located.{id_in-within, id_in-live, id_in-once, is_live-id_in, HasDistinctIds-in}
-use Rattle.gi_meaning.specs.Runs.{is_among}
-use Rattle.gi_valid.specs.Available.{successors_of, IsReachedBlock}
-use Rattle.gi_valid.proofs.Existing.{source_within}
-use Rattle.gi_verify.specs.Sets.{AreReachedBlocks}
-use Rattle.gi_verify.specs.Settled.{limit_of, is_free_first, is_free_last, IsFree, IsAhead, KeepsFree, IsJoined}
+use Rattle.gi_verify.specs.Settled.{is_free_last, IsFree, IsAhead}
 use Rattle.gi_verify.specs.declared.limits.Limit.{Limit}
-use Rattle.gi_verify.specs.declared.limits.Limit.TheVariants.{Nowhere, UpTo, Everywhere}
-use Rattle.gi_verify.proofs.Ordering.{AreSoBelow}
-
-pub kept_free : (limits : List Limit) (a b : ℕ) → (is_free_first (limit_of limits b) ≡ true → is_free_last (limit_of limits a) ≡ true) → KeepsFree limits a b
-kept_free limits a b h = record { by = h }
-
-pub all_joined : (f : FunctionData) (limits : List Limit) (reached : List Bool) (k : ℕ) → AreReachedBlocks f reached → length f.blocks ≤ k → AreSoBelow (IsJoined f limits reached) k
-    → (a b : ℕ) → IsReachedBlock f a → is_among b (successors_of f a) ≡ true → KeepsFree limits a b
-all_joined f limits reached k are past below a b from among =
-    let within : a < length f.blocks = source_within f a b among in
-    (below.by a (lt_of_lt_of_le within past)).by (are.whole a within from) b among
+use Rattle.gi_verify.specs.declared.limits.Limit.TheVariants.{UpTo, Everywhere}
 
 -- ══ The front of a block ══
 
@@ -35,27 +21,15 @@ place_once f own id a j b k first second =
 pub own_place : (f : FunctionData) → AreOwnIds f.blocks f.next_id → (id b k : ℕ) → id_in f.blocks b k ≡ Some id → (b ≡ home_of f id) × (k ≡ place_in_block f id)
 own_place f own id b k here = place_once f own id b k (home_of f id) (place_in_block f id) here (id_in-live f id (is_live-id_in id f.blocks b k here))
 
--- each of the first instructions of a block stands in front of one to which none leads
+-- each of the first instructions of a block stands in front of the first second definition
 pub record IsOpen (f : FunctionData) (limit : Limit) (b k : ℕ) : Type 0 where
   pub by : (i : ℕ) (q : ℕ × InstrData) → slice_get (body_at f.blocks b).instrs i ≡ Some q → i < k → IsAhead f limit q.0
 
 pub open_along : (f : FunctionData) (l : Limit) (b k : ℕ) → is_free_last l ≡ true → IsOpen f l b k
-open_along f Nowhere b k h = absurd (true≢false (sym h))
 open_along f (UpTo again) b k h = absurd (true≢false (sym h))
 open_along f Everywhere b k h = record { by = λ i q at less. tt }
 
-pub first_of_last : (l : Limit) → is_free_last l ≡ true → is_free_first l ≡ true
-first_of_last Nowhere h = absurd (true≢false (sym h))
-first_of_last (UpTo again) h = refl
-first_of_last Everywhere h = refl
-
-pub first_of_free : (f : FunctionData) (l : Limit) (b id : ℕ) → IsFree f l b id → is_free_first l ≡ true
-first_of_free f Nowhere b id free = absurd free
-first_of_free f (UpTo again) b id free = refl
-first_of_free f Everywhere b id free = refl
-
 pub open_before : (f : FunctionData) → AreOwnIds f.blocks f.next_id → (l : Limit) (b k id : ℕ) → id_in f.blocks b k ≡ Some id → IsFree f l b id → IsOpen f l b k
-open_before f own Nowhere b k id here free = absurd free
 open_before f own Everywhere b k id here free = record { by = λ i q at less. tt }
 open_before f own (UpTo again) b k id here free = record {
   by = λ i q at less.

@@ -1,15 +1,11 @@
-//! Where no definition of a register behind its first leads: of each block a limit. The limits are a guess, of which nothing
-//! is proved: along the ways from such definitions, each block is gone through once. What is needed of them is looked at once
-//! they stand.
+//! Where the first definition stands in a block that isn't the first of its register: of each block a limit. The limits are a
+//! guess, of which nothing is proved. What is needed of them is looked at once they stand.
 
-ghost use Rattle.std.specs.Prelude.{◌≡◌, ◌<◌, ℕ, true, length};
-ghost use Rattle.gi_meaning.specs.Runs.{is_among};
-ghost use Rattle.gi_valid.specs.Available.{IsReachedBlock, successors_of};
-ghost use Rattle.gi_verify.specs.Sets.{AreReachedBlocks};
+ghost use Rattle.std.specs.Prelude.{◌≡◌};
 ghost use Rattle.gi_verify.specs.Settled as settled;
-ghost use Rattle.gi_verify.specs.Settled.{IsJoined, KeepsFree};
 
 use crate::marks::Marks;
+use crate::reached::{first_marked, mark_successors};
 use crate::settled::is_once;
 use gi_llt::Memory;
 use gi_mir::block::{InstrId, Numbered};
@@ -19,10 +15,9 @@ use gi_mir::operand::Operand;
 use std::alloc::Global;
 use std::marker::Model;
 
-/// Up to where in a block no such definition leads: nowhere, up to an instruction, and to it, that is one, or all along.
+/// Up to where no such definition stands in a block: up to an instruction, that is one, or all along.
 #[derive(Clone, Copy)]
 pub(crate) enum Limit {
-    Nowhere,
     UpTo(InstrId),
     Everywhere,
 }
@@ -43,14 +38,14 @@ impl Model for Limits {
 }
 
 impl Limits {
-    /// None.
+    /// None: no such definition stands anywhere.
     pub(crate) fn none(alloc: Global) -> Limits {
         Limits {
             by_block: Vec::new(alloc),
         }
     }
 
-    /// The limit of a block.
+    /// The limit of a block, where one was noted.
     pub(crate) fn of(&self, b: u32) -> Limit
         ensures { result ≡ settled.limit_of self.now b }
     {
@@ -58,19 +53,12 @@ impl Limits {
         if place < self.by_block.len() {
             self.by_block[place]
         } else {
-            Limit::Nowhere
+            Limit::Everywhere
         }
     }
 }
 
-/// Whether none leads to the start of a block.
-fn is_free_first(limit: Limit) -> bool
-    ensures { result ≡ settled.is_free_first limit }
-{
-    !matches!(limit, Limit::Nowhere)
-}
-
-/// Whether none leads to the end of a block.
+/// Whether none stands in a block of a limit.
 fn is_free_last(limit: Limit) -> bool
     ensures { result ≡ settled.is_free_last limit }
 {
@@ -78,68 +66,12 @@ fn is_free_last(limit: Limit) -> bool
 }
 
 impl Limits {
-    /// Whether none leads to the start of a block.
-    fn starts_free(&self, b: u32) -> bool
-        ensures { result ≡ settled.is_free_first (settled.limit_of self.now b) }
-    {
-        is_free_first(self.of(b))
-    }
-
-    /// Whether none leads to the end of a block.
+    /// Whether none stands in a block.
     pub(crate) fn ends_free(&self, b: u32) -> bool
         ensures { result ≡ settled.is_free_last (settled.limit_of self.now b) }
     {
         is_free_last(self.of(b))
     }
-}
-
-/// Whether none leads to the end of a block, where none leads to the start of another one.
-#[tactic(auto, using(crate::proofs::Freeing::kept_free))]
-fn keeps_free(limits: &Limits, a: u32, b: u32) -> bool
-    ensures { result ≡ true → KeepsFree limits.now a b }
-{
-    !limits.starts_free(b) || limits.ends_free(a)
-}
-
-/// Whether it is so of all successors of a block.
-fn keep_free(limits: &Limits, a: u32, successors: &[u32]) -> bool
-    ensures { result ≡ true → (b : ℕ) → is_among b successors.now ≡ true → KeepsFree limits.now a b }
-{
-    for b in successors {
-        if !keeps_free(limits, a, *b) {
-            return false;
-        }
-    }
-    true
-}
-
-/// Whether it is so of a block, where that is reached.
-fn is_joined(function: &Function, limits: &Limits, reached: &[bool], a: u32) -> bool
-    requires count { length reached.now ≡ length function.now.blocks }
-    requires within { a < length function.now.blocks }
-    ensures { result ≡ true → IsJoined function.now limits.now reached.now a }
-{
-    !reached[a as usize] || keep_free(limits, a, function.block(a).successors.as_slice())
-}
-
-/// Whether it is so of each block that is reached.
-pub(crate) fn are_joined(function: &Function, limits: &Limits, reached: &[bool]) -> bool
-    requires { AreReachedBlocks function.now reached.now }
-    ensures { result ≡ true → (a b : ℕ) → IsReachedBlock function.now a → is_among b (successors_of function.now a) ≡ true → KeepsFree limits.now a b }
-{
-    for a in 0..function.block_count() {
-        if !is_joined(function, limits, reached, a) {
-            return false;
-        }
-    }
-    true
-}
-
-/// Limits that are lowered, and the blocks to whose end such a definition leads and whose successors weren't told.
-#[derive(Drop)]
-struct Guess {
-    limits: Vec<Limit>,
-    lost: Vec<u32>,
 }
 
 /// Whether an instruction defines a register that a marked one defines first.
@@ -154,7 +86,7 @@ fn defines_again(function: &Function, marks: &Marks, numbered: &Numbered) -> boo
     false
 }
 
-/// The limit of a block with these instructions, where none leads to its start.
+/// The limit of a block with these instructions.
 fn limit_in(function: &Function, marks: &Marks, instrs: Instrs<'_>) -> Limit {
     for numbered in instrs {
         if defines_again(function, marks, numbered) {
@@ -164,85 +96,39 @@ fn limit_in(function: &Function, marks: &Marks, instrs: Instrs<'_>) -> Limit {
     Limit::Everywhere
 }
 
-/// Whether a block is reached.
-fn is_reached(reached: &[bool], b: u32) -> bool {
-    let place = b as usize;
-    place < reached.len() && reached[place]
-}
-
-/// The limits of the blocks by themselves.
-fn guess_of(
-    alloc: Global,
-    function: &Function,
-    marks: &Marks,
-    reached: &[bool],
-) -> Result<Guess, Memory> {
-    let mut guess = Guess {
-        limits: Vec::new(alloc),
-        lost: Vec::new(alloc),
-    };
-    for b in 0..function.block_count() {
-        let limit = limit_in(function, marks, function.instrs(b));
-        guess.limits.push(limit).map_err(|_| Memory)?;
-        if is_reached(reached, b) && !is_free_last(limit) {
-            guess.lost.push(b).map_err(|_| Memory)?;
-        }
-    }
-    Ok(guess)
-}
-
-/// Lowers the limit of a block to nothing.
-fn lower(guess: &mut Guess, b: u32) -> Result<(), Memory> {
-    let place = b as usize;
-    if place < guess.limits.len() && is_free_first(guess.limits[place]) {
-        guess.limits[place] = Limit::Nowhere;
-        guess.lost.push(b).map_err(|_| Memory)?;
-    }
-    Ok(())
-}
-
-/// The same of the successors of a block.
-fn lower_behind(function: &Function, guess: &mut Guess, a: u32) -> Result<(), Memory> {
-    if a < function.block_count() {
-        for b in function.block(a).successors.as_slice() {
-            lower(guess, *b)?;
-        }
-    }
-    Ok(())
-}
-
-/// The same of all blocks to which a way leads.
-fn lower_all(function: &Function, guess: &mut Guess) -> Result<(), Memory> {
-    for _ in 0..u64::MAX {
-        match guess.lost.pop() {
-            Some(a) => lower_behind(function, guess, a)?,
-            None => break,
-        }
-    }
-    Ok(())
-}
-
 /// The limits of the blocks of a function, by marks of its instructions.
 pub(crate) fn limits_of(
     alloc: Global,
     function: &Function,
     marks: &Marks,
-    reached: &[bool],
 ) -> Result<Limits, Memory> {
-    let mut guess = guess_of(alloc, function, marks, reached)?;
-    lower_all(function, &mut guess)?;
-    Ok(Limits {
-        by_block: guess.limits,
-    })
-}
-
-/// Limits where none leads anywhere.
-pub(crate) fn all_free(alloc: Global, function: &Function) -> Result<Limits, Memory> {
     let mut by_block = Vec::new(alloc);
-    for _ in 0..function.block_count() {
-        if by_block.push(Limit::Everywhere).is_err() {
-            return Err(Memory);
-        }
+    for b in 0..function.block_count() {
+        let limit = limit_in(function, marks, function.instrs(b));
+        by_block.push(limit).map_err(|_| Memory)?;
     }
     Ok(Limits { by_block })
+}
+
+/// Whether a block is reached, and a second definition stands in it.
+fn leads_on(limits: &Limits, reached: &[bool], a: u32) -> bool {
+    let place = a as usize;
+    place < reached.len() && reached[place] && !limits.ends_free(a)
+}
+
+/// The blocks at which ways begin: the first, and those to which a block with a second definition leads.
+pub(crate) fn entries_of(
+    alloc: Global,
+    function: &Function,
+    limits: &Limits,
+    reached: &[bool],
+) -> Result<Vec<bool>, Memory> {
+    let count = function.block_count();
+    let mut entries = first_marked(alloc, count)?;
+    for a in 0..count {
+        if leads_on(limits, reached, a) {
+            mark_successors(function.block(a).successors.as_slice(), &mut entries);
+        }
+    }
+    Ok(entries)
 }

@@ -12,7 +12,7 @@ use gi_mir::function::Function;
 use std::alloc::Global;
 
 /// Marks these successors, where there are such blocks, and says whether one is new.
-fn mark_successors(successors: &[u32], marks: &mut Vec<bool>) -> bool
+pub(crate) fn mark_successors(successors: &[u32], marks: &mut Vec<bool>) -> bool
     ensures { IsMarkedMore successors.now marks.old.items marks.new.items result }
 {
     let mut is_new = false;
@@ -94,7 +94,7 @@ fn push(marks: &mut Vec<bool>, is_marked: bool) -> Result<(), Memory>
 }
 
 /// So many marks, of which the first alone is set.
-fn first_marked(alloc: Global, count: u32) -> Result<Vec<bool>, Memory>
+pub(crate) fn first_marked(alloc: Global, count: u32) -> Result<Vec<bool>, Memory>
     ensures count { IfOk result (λ marks. length marks.items ≡ count) }
     ensures first { IfOk result (λ marks. 0 < count → marked marks.items 0 ≡ true) }
     ensures only { IfOk result (λ marks. (b : ℕ) → marked marks.items b ≡ true → b ≡ 0) }
@@ -112,8 +112,8 @@ fn first_reached(alloc: Global, function: &Function) -> Result<Vec<bool>, Memory
     ensures first { IfOk result (λ marks. 0 < length function.now.blocks → marked marks.items 0 ≡ true) }
     ensures sound { IfOk result (λ marks. (b : ℕ) → marked marks.items b ≡ true → IsReachedBlock function.now b) }
 {
-    let order = preorder(alloc, function)?;
     let mut marks = first_marked(alloc, function.block_count())?;
+    let order = preorder(alloc, function, marks.as_slice())?;
     for a in order.as_slice() {
         mark_at(function, *a, &mut marks);
     }

@@ -13,8 +13,8 @@ pub returns : goal.returns
 returns c = λ h.
     ⊎_elim
     (λ once.
-    answer_sooner c.args.function.now c.args.order.now.tree c.args.order.now.once c.args.r c.args.b c.requires.within (left c.args.front) c.args.numbered.now c.requires.placed
-    (subst (ComesSooner c.args.function.now c.args.order.now.tree c.args.order.now.once c.args.r c.args.b) c.id_of-id.ensures once))
+    answer_sooner c.args.function.now c.args.order.now.once c.args.r c.args.b c.requires.within (left c.args.front) c.args.numbered.now c.requires.placed
+    (subst (ComesSooner c.args.function.now c.args.order.now.once c.args.r c.args.b) c.id_of-id.ensures once))
     (λ first.
-    answer_sooner c.args.function.now c.args.order.now.tree c.args.order.now.first c.args.r c.args.b c.requires.within (left c.args.front) c.args.numbered.now c.requires.placed
-    (subst (ComesSooner c.args.function.now c.args.order.now.tree c.args.order.now.first c.args.r c.args.b) c.id_of-id.ensures first)) (c.comes_sooner.ensures h)
+    answer_sooner c.args.function.now c.args.order.now.first c.args.r c.args.b c.requires.within (left c.args.front) c.args.numbered.now c.requires.placed
+    (subst (ComesSooner c.args.function.now c.args.order.now.first c.args.r c.args.b) c.id_of-id.ensures first)) (c.comes_sooner.ensures h)

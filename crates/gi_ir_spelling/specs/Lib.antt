@@ -1,0 +1,5 @@
+pub mod Examples
+pub mod Grammar
+pub mod Items
+pub mod Reading
+pub mod Words
