@@ -134,6 +134,15 @@ pub fn rewritten(alloc: Global, count: u32, sources: Sources) -> Result<String, 
     format!(in alloc; "{done} of {count} rewritten")
 }
 
+/// How many instructions use a register.
+fn user_count(function: &Function, reg: Reg) -> u64 {
+    let mut count: u64 = 0;
+    for _ in function.uses_of(reg) {
+        count = count.saturating_add(1);
+    }
+    count
+}
+
 /// Replaces a register that so many instructions use, and tells how many use the other one then.
 pub fn replaced(alloc: Global, count: u32) -> Result<String, AllocError> {
     let mut function = differences(alloc, count, Sources::First)?;
@@ -141,6 +150,6 @@ pub fn replaced(alloc: Global, count: u32) -> Result<String, AllocError> {
     if function.replace_reg(Reg(0), other).is_err() {
         return Err(AllocError);
     }
-    let users = function.uses_of(other).count();
+    let users = user_count(&function, other);
     format!(in alloc; "{users} of {count} replaced")
 }
