@@ -8,6 +8,7 @@ use Rattle.gi_ir_spelling.specs.declared.token.Mark.{Mark}
 use Rattle.gi_ir_spelling.specs.declared.token.Mark.TheVariants as mark
 use Rattle.gi_ir_spelling.specs.declared.token.What.{What}
 use Rattle.gi_ir_spelling.specs.declared.token.What.TheVariants as what
+use Rattle.gi_ir_spelling.specs.declared.place.Choice.{Choice}
 use Rattle.gi_ir_spelling.specs.declared.place.Choice.TheVariants as choice
 use Rattle.gi_ir_spelling.specs.declared.place.Scalar.{Scalar}
 use Rattle.gi_ir_spelling.specs.declared.place.Scalar.TheVariants.{Integer}
@@ -15,48 +16,78 @@ use Rattle.gi_ir_spelling.specs.declared.place.Slot.{Slot}
 use Rattle.gi_ir_spelling.specs.declared.place.Slot.TheVariants.{Begin}
 use Rattle.gi_ir_spelling.specs.declared.place.Fault.{Fault}
 use Rattle.gi_ir_spelling.specs.declared.place.Fault.TheVariants as fault
+use Rattle.gi_ir_spelling.specs.declared.place.Found.{Found}
+use Rattle.gi_ir_spelling.specs.declared.place.Found.TheVariants.{Place, End}
 use Rattle.gi_ir_spelling.specs.declared.place.Placed.{Placed}
 use Rattle.gi_ir_spelling.specs.Grammar.{choose, is_free, is_mark, slots_of}
+
+-- what the first place that isn't passed says of a token, and the places behind it
+pub record FoundPlace : Type 0 where
+  pub found : Found
+  pub rest : List Slot
+
+abbrev pub place_or : Choice → Slot → List Slot → FoundPlace → FoundPlace
+place_or choice.Pass slot slots later = later
+place_or said slot slots later = record { found = Place slot said; rest = slots }
+
+abbrev pub found_in : (last : Scalar) → List Slot → What → FoundPlace
+found_in last [] what = record { found = End; rest = [] }
+found_in last (slot ∷ slots) what = place_or (choose last slot what) slot slots (found_in last slots what)
 
 -- what is still to come: the places, and the type of the values there
 pub record Open : Type 0 where
   pub last : Scalar
   pub slots : List Slot
 
+abbrev pub open_with : Scalar → List Slot → Open
+open_with last slots = record { last = last; slots = slots }
+
+-- what is still to come behind a token of which this is said
+abbrev pub followed : Choice → (last : Scalar) → List Slot → Item → Result Open Fault
+followed (choice.Take first second) last slots item = Ok (open_with last (slots_of first ++ slots_of second ++ slots))
+followed (choice.TakeType scalar first second) last slots item = Ok (open_with scalar (slots_of first ++ slots_of second ++ slots))
+followed choice.Pass last slots item = Err fault.Syntax
+followed choice.Unknown last slots item = Err (fault.Unknown item.start item.end)
+followed choice.Wrong last slots item = Err fault.Syntax
+
 -- a token that is taken, and what is still to come behind it
 pub record Step : Type 0 where
   pub placed : Placed
-  pub open_ : Open
+  pub behind : Open
 
-abbrev pub step_to : Scalar → Slot → Item → List Slot → Step
-step_to last slot item slots = record { placed = record { slot = slot; item = item }; open_ = record { last = last; slots = slots } }
+abbrev pub placed_at : Slot → Item → Placed
+placed_at slot item = record { slot = slot; item = item }
+
+abbrev pub step_to : Placed → Result Open Fault → Result Step Fault
+step_to placed (Ok open_) = Ok (record { placed = placed; behind = open_ })
+step_to placed (Err fault) = Err fault
+
+abbrev pub step_by : Found → Open → Item → Result Step Fault
+step_by End open_ item = Err fault.Syntax
+step_by (Place slot said) open_ item = step_to (placed_at slot item) (followed said open_.last open_.slots item)
 
 -- one token
-abbrev pub step : (last : Scalar) → List Slot → Item → Result Step Fault
-step last [] item = Err fault.Syntax
-step last (slot ∷ slots) item = elim (choose last slot item.what) [
-  | choice.Take first second ↦ Ok (step_to last slot item (slots_of first ++ slots_of second ++ slots))
-  | choice.TakeType scalar first second ↦ Ok (step_to scalar slot item (slots_of first ++ slots_of second ++ slots))
-  | choice.Pass ↦ step last slots item
-  | choice.Unknown ↦ Err (fault.Unknown item.start item.end)
-  | choice.Wrong ↦ Err fault.Syntax
-]
+abbrev pub step : Open → Item → Result Step Fault
+step open_ item =
+    let place = found_in open_.last open_.slots item.what in
+    step_by place.found (open_with open_.last place.rest) item
 
 -- a line may end where nothing is needed
-abbrev pub ended : List Slot → Result (List Placed) Fault
-ended slots = if list_all is_free slots then Ok [] else Err fault.Syntax
+abbrev pub ended : Open → Result (List Placed) Fault
+ended open_ = if list_all is_free open_.slots then Ok [] else Err fault.Syntax
 
 abbrev pub onto_placed : Placed → Result (List Placed) Fault → Result (List Placed) Fault
 onto_placed placed (Ok rest) = Ok (placed ∷ rest)
 onto_placed placed (Err fault) = Err fault
 
+abbrev pub then_read : Result Step Fault → (Open → Result (List Placed) Fault) → Result (List Placed) Fault
+then_read (Ok next) read = onto_placed next.placed (read next.behind)
+then_read (Err fault) read = Err fault
+
 -- all tokens
-abbrev pub read_from : (last : Scalar) → List Slot → List Item → Result (List Placed) Fault
-read_from last slots [] = ended slots
-read_from last slots (item ∷ items) = elim (step last slots item) [
-  | Ok next ↦ onto_placed next.placed (read_from next.open_.last next.open_.slots items)
-  | Err fault ↦ Err fault
-]
+abbrev pub read_from : Open → List Item → Result (List Placed) Fault
+read_from open_ [] = ended open_
+read_from open_ (item ∷ items) = then_read (step open_ item) (λ next. read_from next items)
 
 -- ══ Metadata at the end ══
 
@@ -114,6 +145,9 @@ without_metadata depth (item ∷ items) =
 
 -- ══ A line ══
 
+abbrev pub beginning : Open
+beginning = open_with Integer (Begin ∷ [])
+
 -- a line with an instruction
 abbrev pub read_line : List Item → Result (List Placed) Fault
-read_line items = read_from Integer (Begin ∷ []) (without_metadata 0 items)
+read_line items = read_from beginning (without_metadata 0 items)

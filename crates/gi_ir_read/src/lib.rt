@@ -1,0 +1,9 @@
+//! Reads lines of LLVM IR.
+#![tactic(auto)]
+
+mod choose;
+pub mod line;
+mod open;
+mod rows;
+pub mod stop;
+mod types;
