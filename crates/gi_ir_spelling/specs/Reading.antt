@@ -1,7 +1,7 @@
 -- How the tokens of an instruction are read from left to right: the places that are still to come are a list, and each token
 -- goes to the first of them, past those that nothing need stand in. The first token that can't stand in its place decides what
 -- is wrong. Types and constants nest by places that they put before the others, so no reading follows their depth.
-use Rattle.std.specs.Prelude.{ℕ, suc, ◌-◌, Bool, true, false, ◌&&◌, ◌||◌, List, [], ◌∷◌, ◌++◌, Option, Some, None, Result, Ok, Err, ◌==◌, if◌then◌else◌}
+use Rattle.std.specs.Prelude.{ℕ, suc, ◌-◌, Bool, true, false, ◌&&◌, List, [], ◌∷◌, ◌++◌, Option, Some, None, Result, Ok, Err, ◌==◌, if◌then◌else◌}
 use Rattle.std.specs.List.{list_all}
 use Rattle.gi_ir_spelling.specs.declared.token.Item.{Item}
 use Rattle.gi_ir_spelling.specs.declared.token.Mark.{Mark}
@@ -91,57 +91,74 @@ read_from open_ (item ∷ items) = then_read (step open_ item) (λ next. read_fr
 
 -- ══ Metadata at the end ══
 
-abbrev is_metadata_what : What → Bool
-is_metadata_what what.Metadata = true
-is_metadata_what _ = false
-
-abbrev pub is_metadata : Item → Bool
-is_metadata item = is_metadata_what item.what
+abbrev pub is_metadata : What → Bool
+is_metadata what.Metadata = true
+is_metadata _ = false
 
 abbrev pub begins_metadata : List Item → Bool
 begins_metadata [] = false
-begins_metadata (item ∷ items) = is_metadata item
+begins_metadata (item ∷ items) = is_metadata item.what
 
-abbrev pub is_mark_of : Mark → Item → Bool
-is_mark_of m item = is_mark m item.what
+-- the bracket that closes what a token opens, and whether a token is one that closes
+abbrev pub closer_of : What → Option Mark
+closer_of (what.Mark mark.Open) = Some mark.Close
+closer_of (what.Mark mark.OpenSquare) = Some mark.CloseSquare
+closer_of (what.Mark mark.OpenBrace) = Some mark.CloseBrace
+closer_of _ = None
 
--- the bracket that closes what a token opens
-abbrev pub closer_of : Item → Option Mark
-closer_of item =
-    if is_mark_of mark.Open item then Some mark.Close
-    else if is_mark_of mark.OpenSquare item then Some mark.CloseSquare
-    else if is_mark_of mark.OpenBrace item then Some mark.CloseBrace
-    else None
+abbrev pub closes : What → Bool
+closes (what.Mark mark.Close) = true
+closes (what.Mark mark.CloseSquare) = true
+closes (what.Mark mark.CloseBrace) = true
+closes _ = false
 
-abbrev pub closes : Item → Bool
-closes item = is_mark_of mark.Close item || is_mark_of mark.CloseSquare item || is_mark_of mark.CloseBrace item
+-- In the metadata at the end stand metadata, balanced groups in `( )` or `{ }`, and commas with metadata behind them. Behind a
+-- token, the brackets that close the groups that are open, the innermost first; none where the token can't stand there.
+abbrev pub tail_outside : What → (metadata_follows : Bool) → Option (List Mark)
+tail_outside what.Metadata follows = Some []
+tail_outside (what.Mark mark.Comma) true = Some []
+tail_outside (what.Mark mark.Open) follows = Some (mark.Close ∷ [])
+tail_outside (what.Mark mark.OpenBrace) follows = Some (mark.CloseBrace ∷ [])
+tail_outside _ follows = None
 
--- metadata and balanced groups in `( )` or `{ }`, and commas with metadata behind them: where `awaited` are the brackets that
--- close the groups that are open
+abbrev pub tail_inside : Option Mark → (end : Mark) → (awaited : List Mark) → What → Option (List Mark)
+tail_inside (Some inner) end awaited w = Some (inner ∷ end ∷ awaited)
+tail_inside None end awaited w = if is_mark end w then Some awaited else if closes w then None else Some (end ∷ awaited)
+
+abbrev pub tail_behind : (awaited : List Mark) → What → (metadata_follows : Bool) → Option (List Mark)
+tail_behind [] w follows = tail_outside w follows
+tail_behind (end ∷ awaited) w follows = tail_inside (closer_of w) end awaited w
+
+abbrev pub then_tail : Option (List Mark) → (List Mark → Bool) → Bool
+then_tail (Some awaited) rest = rest awaited
+then_tail None rest = false
+
+abbrev pub is_none : List Mark → Bool
+is_none [] = true
+is_none (end ∷ awaited) = false
+
 abbrev pub is_tail : (awaited : List Mark) → List Item → Bool
-is_tail [] [] = true
-is_tail (end ∷ awaited) [] = false
-is_tail [] (item ∷ items) =
-    if is_metadata item then is_tail [] items
-    else if is_mark_of mark.Comma item then begins_metadata items && is_tail [] items
-    else if is_mark_of mark.Open item then is_tail (mark.Close ∷ []) items
-    else if is_mark_of mark.OpenBrace item then is_tail (mark.CloseBrace ∷ []) items
-    else false
-is_tail (end ∷ awaited) (item ∷ items) = elim (closer_of item) [
-  | Some inner ↦ is_tail (inner ∷ end ∷ awaited) items
-  | None ↦ if closes item then is_mark_of end item && is_tail awaited items else is_tail (end ∷ awaited) items
-]
+is_tail awaited [] = is_none awaited
+is_tail awaited (item ∷ items) = then_tail (tail_behind awaited item.what (begins_metadata items)) (λ later. is_tail later items)
 
-abbrev pub depth_behind : ℕ → Item → ℕ
-depth_behind depth item = elim (closer_of item) [ Some end ↦ suc depth | None ↦ if closes item then depth - 1 else depth ]
+abbrev pub depth_by : Option Mark → (depth : ℕ) → What → ℕ
+depth_by (Some end) depth w = suc depth
+depth_by None depth w = if closes w then depth - 1 else depth
 
--- the tokens without the metadata at the end, which begins at the first comma outside brackets with metadata behind it
+abbrev pub depth_behind : ℕ → What → ℕ
+depth_behind depth w = depth_by (closer_of w) depth w
+
+-- the metadata at the end begins at the first comma outside brackets with metadata behind it
+abbrev pub may_begin_tail : (depth : ℕ) → What → List Item → Bool
+may_begin_tail depth w items = depth == 0 && is_mark mark.Comma w && begins_metadata items
+
+-- the tokens without it
 abbrev pub without_metadata : (depth : ℕ) → List Item → List Item
 without_metadata depth [] = []
 without_metadata depth (item ∷ items) =
-    if depth == 0 && is_mark_of mark.Comma item && begins_metadata items
+    if may_begin_tail depth item.what items
     then (if is_tail [] (item ∷ items) then [] else item ∷ items)
-    else item ∷ without_metadata (depth_behind depth item) items
+    else item ∷ without_metadata (depth_behind depth item.what) items
 
 -- ══ A line ══
 
