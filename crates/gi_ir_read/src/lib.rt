@@ -3,6 +3,7 @@
 
 mod choose;
 pub mod line;
+mod metadata;
 mod open;
 mod rows;
 pub mod stop;
