@@ -1,6 +1,6 @@
 //! The metadata at the end of a line.
 
-ghost use Rattle.std.specs.Prelude.{◌≡◌, ◌≤◌, ◌∷◌, Some, None, reverse, drop, take, length, if◌then◌else◌, IfOk, OnOk};
+ghost use Rattle.std.specs.Prelude.{◌≡◌, ◌≤◌, ◌<◌, ◌+◌, ◌^◌, ◌∷◌, Some, None, reverse, drop, take, length, if◌then◌else◌, IfOk, OnOk};
 ghost use Rattle.std.specs.Prelude.{List, []};
 ghost use Rattle.gi_ir_spelling.specs.declared.token.Mark.{Mark as MarkData};
 ghost use Rattle.gi_ir_read.specs.Groups.{outcome};
@@ -177,4 +177,46 @@ fn is_tail(alloc: Global, items: &[Item]) -> Result<bool, Memory>
         }
     }
     Ok(awaited.is_empty())
+}
+
+/// How many groups are open behind a token.
+fn depth_behind(depth: usize, what: What) -> usize
+    requires { depth < 2 ^ 63 }
+    ensures depth { result ≡ depth_behind depth what }
+    ensures near { result ≤ depth + 1 }
+{
+    match closer_of(what) {
+        Some(_) => depth + 1,
+        None => {
+            if closes(what) {
+                depth.saturating_sub(1)
+            } else {
+                depth
+            }
+        }
+    }
+}
+
+/// Whether the metadata at the end may begin with a token, where these follow.
+fn may_begin_tail(depth: usize, what: What, items: &[Item]) -> bool
+    ensures { result ≡ may_begin_tail depth what items.now }
+{
+    depth == 0 && is_mark(Mark::Comma, what) && begins_metadata(items)
+}
+
+/// How many tokens stand before the metadata at the end.
+pub(crate) fn count_before(alloc: Global, items: &[Item]) -> Result<usize, Memory>
+    requires { length items.now < 2 ^ 63 }
+    ensures count { IfOk result (λ count. take count items.now ≡ without_metadata 0 items.now) }
+    ensures within { IfOk result (λ count. count ≤ length items.now) }
+{
+    let mut depth = 0;
+    for (place, item) in items.iter().enumerate() {
+        if may_begin_tail(depth, item.what, after(items, place + 1)) {
+            let is_so = is_tail(alloc, after(items, place))?;
+            return Ok(if is_so { place } else { items.len() });
+        }
+        depth = depth_behind(depth, item.what);
+    }
+    Ok(items.len())
 }
