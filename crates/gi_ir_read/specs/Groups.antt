@@ -1,5 +1,5 @@
 -- What a token does to the groups that are open in metadata.
-use Rattle.std.specs.Prelude.{List, [], ◌∷◌, drop, Option, Some, None}
+use Rattle.std.specs.Prelude.{List, ◌∷◌, drop, Option, Some, None}
 use Rattle.gi_ir_spelling.specs.declared.token.Mark.{Mark}
 use Rattle.gi_ir_read.specs.declared.metadata.Effect.{Effect}
 use Rattle.gi_ir_read.specs.declared.metadata.Effect.TheVariants.{Stands, Opens, Closes, Wrong}
