@@ -331,6 +331,7 @@ abbrev pub is_keyword : Word → What → Bool
 is_keyword word.To (what.Word word.To) = true
 is_keyword word.Label (what.Word word.Label) = true
 is_keyword word.Times (what.Word word.Times) = true
+is_keyword word.Void (what.Word word.Void) = true
 is_keyword w _ = false
 
 abbrev pub is_same_mark : Mark → Mark → Bool
@@ -366,8 +367,7 @@ abbrev pub target_by : What → Choice
 target_by w = if is_keyword word.Label w then take row.BlockFollows else typed (type_start Bits w) row.TwoBlocks
 
 abbrev pub returned_by : What → Choice
-returned_by (what.Word word.Void) = take row.Nothing
-returned_by w = typed (type_start IntegersAndPointers w) row.ReturnedValue
+returned_by w = if is_keyword word.Void w then take row.Nothing else typed (type_start IntegersAndPointers w) row.ReturnedValue
 
 -- ══ The table ══
 

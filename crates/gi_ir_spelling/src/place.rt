@@ -156,3 +156,10 @@ pub enum Fault {
     Syntax,
     Unknown(usize, usize),
 }
+
+/// What the first place that isn't passed says of a token, if there is one.
+#[derive(Clone, Copy, Debug, PartialEq, Eq)]
+pub enum Found {
+    Place(Slot, Choice),
+    End,
+}
