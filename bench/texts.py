@@ -55,6 +55,9 @@ class Shape:
 
 SHAPES = {}
 
+# shapes that pass the bounds of bench/shapes, which tries them by name alone
+DEAR = {"ahead_double"}
+
 
 def shape(most, status):
     """Notes a function as a shape."""
@@ -309,6 +312,16 @@ def loop_double(count):
     test = f"    %{last + 1}:_(s1) = G_TRUNC %{last}(s32)\n"
     again = f"  bb.2:\n    %1:_(s32) = G_CONSTANT i32 1\n    G_BRCOND %{last + 1}(s1), %bb.1\n"
     return COPIED + "  bb.1:\n" + accumulated(count) + test + again + RETURN
+
+
+@refused(OPERANDS // 6 - 3)
+def ahead_double(count):
+    """Sums in front of a loop that uses all of them; at its end another register is defined again, behind it the first sum."""
+    constants = f"    %{count}:_(s32) = G_CONSTANT i32 7\n    %{count + 1}:_(s1) = G_TRUNC %0(s32)\n"
+    chain = "    %1:_(s32) = G_CONSTANT i32 1\n" + "".join([f"    %{k}:_(s32) = G_ADD %{k - 1}, %0\n" for k in range(2, count)])
+    uses = "".join([f"    %{count + 1 + k}:_(s32) = G_ADD %{k}, %{k}\n" for k in range(1, count)])
+    again = f"  bb.2:\n    %{count}:_(s32) = G_CONSTANT i32 8\n    G_BRCOND %{count + 1}(s1), %bb.1\n"
+    return COPIED + chain + constants + "  bb.1:\n" + uses + again + "  bb.3:\n    %1:_(s32) = G_CONSTANT i32 2\n" + RETURN
 
 
 @valid(BLOCKS - 2)
