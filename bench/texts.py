@@ -56,7 +56,7 @@ class Shape:
 SHAPES = {}
 
 # shapes that pass the bounds of bench/shapes, which tries them by name alone
-DEAR = {"ahead_double"}
+DEAR = {"ahead_double", "arms_double"}
 
 
 def shape(most, status):
@@ -312,6 +312,32 @@ def loop_double(count):
     test = f"    %{last + 1}:_(s1) = G_TRUNC %{last}(s32)\n"
     again = f"  bb.2:\n    %1:_(s32) = G_CONSTANT i32 1\n    G_BRCOND %{last + 1}(s1), %bb.1\n"
     return COPIED + "  bb.1:\n" + accumulated(count) + test + again + RETURN
+
+
+@refused(OPERANDS // 6 - 2)
+def loop_double_each(count):
+    """A loop of sums, each of the sum before, at whose end each of them is defined again."""
+    chain = "".join([f"    %{k + 1}:_(s32) = G_ADD %{k}, %0\n" for k in range(count)])
+    again = each("    %%%d:_(s32) = G_ADD %%0, %%0\n", range(1, count + 1))
+    test = f"    %{count + 1}:_(s1) = G_TRUNC %0(s32)\n"
+    return COPIED + "  bb.1:\n" + chain + test + "  bb.2:\n" + again + f"    G_BRCOND %{count + 1}(s1), %bb.1\n  bb.3:\n" + RETURN
+
+
+@refused(BLOCKS - 3)
+def loop_double_chain(count):
+    """A loop of a chain of blocks with a sum each, at whose end the first sum is defined again."""
+    again = f"  bb.{count + 1}:\n    %1:_(s32) = G_ADD %0, %0\n"
+    test = f"    %{count + 1}:_(s1) = G_TRUNC %0(s32)\n    G_BRCOND %{count + 1}(s1), %bb.1\n"
+    return COPIED + summed(range(1, count + 1), 1) + again + test + f"  bb.{count + 2}:\n" + RETURN
+
+
+@refused(OPERANDS // 5 - 3)
+def arms_double(count):
+    """A register for each of as many sums, defined in both arms behind a test; the sums stand in front of the second arm."""
+    head = COPIED + "    %1:_(s1) = G_TRUNC %0(s32)\n    G_BRCOND %1(s1), %bb.3\n  bb.1:\n"
+    arm = each("    %%%d:_(s32) = G_IMPLICIT_DEF\n", range(2, count + 2))
+    uses = "".join([f"    %{count + k}:_(s32) = G_ADD %{k}, %{k}\n" for k in range(2, count + 2)])
+    return head + arm + "  bb.2:\n" + uses + RETURN + "  bb.3:\n" + arm + "    G_BR %bb.2\n"
 
 
 @refused(OPERANDS // 6 - 3)
