@@ -1,0 +1,4 @@
+//! Instruction selection: the rows of its table.
+#![tactic(auto)]
+
+pub mod laws;
