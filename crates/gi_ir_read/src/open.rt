@@ -149,17 +149,17 @@ fn find_place(slots: &mut Vec<Slot>, last: Scalar, what: What) -> Found
 }
 
 /// Puts the places before the others that follow a token of which this is said.
-fn follow(open: &mut Open, choice: Choice, item: Item) -> Result<(), Stop>
-    ensures ok { OnOk result (followed choice open.old.last open.old.slots item ≡ Ok open.new) }
-    ensures err { IfErr result (λ stop. IsStopOf (followed choice open.old.last open.old.slots item) stop) }
+fn follow(places: &mut Open, choice: Choice, item: Item) -> Result<(), Stop>
+    ensures ok { OnOk result (followed choice places.old.last places.old.slots item ≡ Ok places.new) }
+    ensures err { IfErr result (λ stop. IsStopOf (followed choice places.old.last places.old.slots item) stop) }
 {
     match choice {
         Choice::Take(first, second) => {
-            push_two(&mut open.slots, first, second).map_err(|_| Stop::Memory)
+            push_two(&mut places.slots, first, second).map_err(|_| Stop::Memory)
         }
         Choice::TakeType(scalar, first, second) => {
-            open.last = scalar;
-            push_two(&mut open.slots, first, second).map_err(|_| Stop::Memory)
+            places.last = scalar;
+            push_two(&mut places.slots, first, second).map_err(|_| Stop::Memory)
         }
         Choice::Unknown => Err(Stop::Fault(Fault::Unknown(item.start, item.end))),
         Choice::Pass | Choice::Wrong => Err(Stop::Fault(Fault::Syntax)),

@@ -247,24 +247,24 @@ impl<'u> Making<'u> {
 }
 
 /// What a rewrite makes at an instruction, in order.
-fn make(function: &Function, at: InstrId, using: &Use) -> Result<VecDeque<Instr>, Memory>
+fn make(function: &Function, at: InstrId, answer: &Use) -> Result<VecDeque<Instr>, Memory>
     requires live { IsLive function.now at.0 }
-    requires room { function.now.next_reg + new_count using.now ≤ 2 ^ 32 - 1 }
-    ensures { IfOk result (λ made. made.items ≡ made_of function.now at.0 using.now) }
+    requires room { function.now.next_reg + new_count answer.now ≤ 2 ^ 32 - 1 }
+    ensures { IfOk result (λ made. made.items ≡ made_of function.now at.0 answer.now) }
 {
-    let alloc = *using.inputs.allocator();
+    let alloc = *answer.inputs.allocator();
     let making = Making {
-        places: using.rewrite.results.as_slice(),
-        results: using.results.as_slice(),
+        places: answer.rewrite.results.as_slice(),
+        results: answer.results.as_slice(),
         banked: function.keys().1,
         line: function.instr(at).line,
     };
     let next = function.next_reg() as u32;
-    let mut registers = Vec::from_slice(alloc, using.inputs.as_slice()).map_err(|_| Memory)?;
+    let mut registers = Vec::from_slice(alloc, answer.inputs.as_slice()).map_err(|_| Memory)?;
     let mut made = VecDeque::new(alloc);
     making.make_all(
         alloc,
-        using.rewrite.made.as_slice(),
+        answer.rewrite.made.as_slice(),
         next,
         &mut registers,
         &mut made,
@@ -277,19 +277,19 @@ fn make(function: &Function, at: InstrId, using: &Use) -> Result<VecDeque<Instr>
 pub fn rewrite_at<O: ChangeObserver>(
     edit: &mut Editor<'_, O>,
     at: InstrId,
-    using: &Use,
+    answer: &Use,
 ) -> Result<(), Memory>
     requires live { IsLive edit.old.function.now at.0 }
-    requires room { edit.old.function.now.next_reg + new_count using.now ≤ 2 ^ 32 - 1 }
-    requires formed { makes_formed using.now.rewrite ≡ true }
+    requires room { edit.old.function.now.next_reg + new_count answer.now ≤ 2 ^ 32 - 1 }
+    requires formed { makes_formed answer.now.rewrite ≡ true }
     ensures same_function { edit.new.function.ghost_name ≡ edit.old.function.ghost_name }
     ensures same_observer { edit.new.observer.ghost_name ≡ edit.old.observer.ghost_name }
     ensures pass { edit.new.pass ≡ edit.old.pass }
-    ensures ok { OnOk result (edit.new.function.now ≡ rewritten_at edit.old.function.now at.0 using.now) }
+    ensures ok { OnOk result (edit.new.function.now ≡ rewritten_at edit.old.function.now at.0 answer.now) }
     ensures tells_stays { O.tells edit.new.observer.now ≡ O.tells edit.old.observer.now }
-    ensures told { OnOk result (IsTrue (O.tells edit.old.observer.now) → O.seen edit.new.observer.now ≡ O.seen edit.old.observer.now ++ rewriting_told at.0 using.now edit.old.pass edit.old.function.now) }
-    ensures replay { OnOk result (IsReplay (rewriting_told at.0 using.now edit.old.pass edit.old.function.now) edit.old.function.now edit.new.function.now) }
+    ensures told { OnOk result (IsTrue (O.tells edit.old.observer.now) → O.seen edit.new.observer.now ≡ O.seen edit.old.observer.now ++ rewriting_told at.0 answer.now edit.old.pass edit.old.function.now) }
+    ensures replay { OnOk result (IsReplay (rewriting_told at.0 answer.now edit.old.pass edit.old.function.now) edit.old.function.now edit.new.function.now) }
 {
-    let mut made = make(edit.function(), at, using)?;
+    let mut made = make(edit.function(), at, answer)?;
     replace_root(edit, at, &mut made)
 }

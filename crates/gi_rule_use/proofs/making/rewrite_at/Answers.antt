@@ -8,4 +8,4 @@ use Rattle.gi_rule_use.proofs.making.rewrite_at.Goals as goal
 pub replace_root-requires-clause-formed : goal.replace_root-requires-clause-formed
 replace_root-requires-clause-formed g c =
     subst (λ (is : List InstrData). list_all is_formed is ≡ true) (sym c.in_ok-made.ensures)
-    (made_formed c.function.result.now c.args.at.0 c.args.using.now c.requires.formed)
+    (made_formed c.function.result.now c.args.at.0 c.args.answer.now c.requires.formed)
